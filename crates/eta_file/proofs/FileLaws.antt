@@ -54,6 +54,10 @@ take_all : (es : List StoredEta) → take (length es) es ≡ es
 take_all [] = refl
 take_all (e ∷ es) = ap (λ rest. e ∷ rest) (take_all es)
 
+-- a direction that was carried in numbers over one denominator
+pub divided : (a : Matrix) (marks : Basics) (j : ℕ) (d : ℚ) (old new : List ℚ) → IsNonbasic a marks j → Represent (λ xs. IsDirectionOf a marks j (value_at xs)) d old → AreQuotients d old new → IsDirectionOf a marks j (value_at new)
+divided a marks j d old new out h quotients_are = direction_same a marks j (value_at (quotients d old)) (value_at new) out.0 (λ i var. sym (made_values d old new quotients_are i)) h.holds
+
 some_eta : (etas : List StoredEta) → 0 < length etas → StoredEta
 some_eta [] h = absurd (omega arith)
 some_eta (e ∷ es) h = e
@@ -196,11 +200,10 @@ module _ (a : Matrix) (etas : List StoredEta) (marks : Basics) (file : IsFileOf 
 
   -- ---- a direction that was carried in numbers over one denominator
 
-  pub divided : (j n : ℕ) (d : ℚ) (old new : List ℚ) → n ≡ length etas → IsNonbasic a marks j → Represent (λ xs. IsDirectionOf a (set_at n) j (value_at xs)) d old → AreQuotients d old new
-      → IsDirectionOf a marks j (value_at new)
-  divided j n d old new all out h quotients_are =
-      direction_same a marks j (value_at (quotients d old)) (value_at new) out.0 (λ i var. sym (made_values d old new quotients_are i))
-      (subst (λ b. IsDirectionOf a b j (value_at (quotients d old))) (ap (λ k. after (row_basics a) (take k etas)) all ∙ ap (after (row_basics a)) (take_all etas) ∙ sym file.are_marks) h.holds)
+  pub at_end : (j n : ℕ) (d : ℚ) (xs : List ℚ) → n ≡ length etas → Represent (λ ys. IsDirectionOf a (set_at n) j (value_at ys)) d xs → Represent (λ ys. IsDirectionOf a marks j (value_at ys)) d xs
+  at_end j n d xs all h =
+      subst (λ b. Represent (λ ys. IsDirectionOf a b j (value_at ys)) d xs)
+      (ap (λ k. after (row_basics a) (take k etas)) all ∙ ap (after (row_basics a)) (take_all etas) ∙ sym file.are_marks) h
 
   -- ---- the number of entries
 

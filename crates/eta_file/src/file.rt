@@ -29,10 +29,13 @@ use std::alloc::Global;
 use std::marker::{Brand, Model};
 use std::rc::Rc;
 use std::sync::ledger::{Blank, Ledger};
-use whole_vectors::SparseWholes;
+use whole_vectors::{LARGE, SparseWholes};
 
 /// The most etas that a file holds.
 const MOST_ETAS: usize = 4_294_967_294;
+
+/// A denominator of this size or more is reduced, where numbers that fit one machine word mostly stay words.
+const VERY_LARGE: u128 = 1 << 58;
 
 /// A set of basics of one matrix, and the exchanges that led to it from the rows. Waypoint w, from 1, is the set of basics after the
 /// first w - 1 etas.
@@ -357,11 +360,13 @@ impl EtaFile {
         }
     }
 
-    /// Transforms the numbers of the direction of `j` by the eta at this place, and gives their denominator after it.
+    /// Transforms the numbers of the direction of `j` by the eta at this place, and gives their denominator after it. One of `least` or
+    /// more is reduced before.
     fn transform_whole_at(
         &self,
         place: usize,
         j: u32,
+        least: u128,
         denominator: Frac,
         out: &mut SparseWholes,
     ) -> Option<Frac>
@@ -377,7 +382,39 @@ impl EtaFile {
         ensures places { length out.new ≡ length out.old }
     {
         let eta = &self.etas[place];
-        transform_whole(eta, denominator, out)
+        transform_whole(eta, least, denominator, out)
+    }
+
+    /// Makes `wholes` the direction of the nonbasic `j`, carried in whole numbers over the denominator that is given. One of `least` or
+    /// more is reduced on the way. It gives up where a number doesn't fit.
+    fn carry_reducing(&self, j: u32, least: u128, wholes: &mut SparseWholes) -> Option<Frac>
+        requires nonbasic { IsNonbasic self.now.matrix self.now.basics j }
+        requires wholes { length wholes.old ≡ size self.now.matrix }
+        ensures direction { IfSome result (λ d. Represent (λ xs. IsDirectionOf self.now.matrix
+            self.now.basics j (value_at xs)) d wholes.new) }
+        ensures wholes { length wholes.new ≡ length wholes.old }
+    {
+        wholes.clear();
+        let first = last_left(&self.etas, j);
+        let mut denominator = self.begin_at(first, j, wholes)?;
+        for place in first..self.etas.len() {
+            denominator = self.transform_whole_at(place, j, least, denominator, wholes)?;
+        }
+        Some(denominator)
+    }
+
+    /// The same, with few reductions, and where a number doesn't fit then, with more.
+    fn carry_whole(&self, j: u32, wholes: &mut SparseWholes) -> Option<Frac>
+        requires nonbasic { IsNonbasic self.now.matrix self.now.basics j }
+        requires wholes { length wholes.old ≡ size self.now.matrix }
+        ensures direction { IfSome result (λ d. Represent (λ xs. IsDirectionOf self.now.matrix
+            self.now.basics j (value_at xs)) d wholes.new) }
+        ensures wholes { length wholes.new ≡ length wholes.old }
+    {
+        if let Some(denominator) = self.carry_reducing(j, VERY_LARGE, wholes) {
+            return Some(denominator);
+        }
+        self.carry_reducing(j, LARGE, wholes)
     }
 
     /// Fills `out`, which is all 0, with the direction of the nonbasic `j`, carried in whole numbers over one denominator. It gives up
@@ -391,12 +428,7 @@ impl EtaFile {
             (value_at out.new)) }
         ensures wholes { length wholes.new ≡ length wholes.old }
     {
-        wholes.clear();
-        let first = last_left(&self.etas, j);
-        let mut denominator = self.begin_at(first, j, wholes)?;
-        for place in first..self.etas.len() {
-            denominator = self.transform_whole_at(place, j, denominator, wholes)?;
-        }
+        let denominator = self.carry_whole(j, wholes)?;
         wholes.divide_into(denominator, out)
     }
 

@@ -176,8 +176,13 @@ fn exchange_whole(
     out.put(q, opposite)
 }
 
-/// Transforms the numbers of a direction by an eta, and gives their denominator after it.
-pub fn transform_whole(eta: &StoredEta, denominator: Frac, out: &mut SparseWholes) -> Option<Frac>
+/// Transforms the numbers of a direction by an eta, and gives their denominator after it. One of `least` or more is reduced before.
+pub fn transform_whole(
+    eta: &StoredEta,
+    least: u128,
+    denominator: Frac,
+    out: &mut SparseWholes,
+) -> Option<Frac>
     requires places { IsWithinPlaces (length out.old) eta.now }
     requires whole { IfSome eta.now.whole (IsWholeOf eta.now.pivot eta.now.entries.items) }
     requires apart { denominator ≢ zero_ℚ }
@@ -192,7 +197,7 @@ pub fn transform_whole(eta: &StoredEta, denominator: Frac, out: &mut SparseWhole
     let Some(whole) = &eta.whole else {
         return None;
     };
-    let denominator = out.reduce(denominator)?;
+    let denominator = out.reduce_from(least, denominator)?;
     let lead = whole_at(out.numbers(), eta.p);
     let ratio = whole_quotient(lead, whole.pivot)?;
     let (multiple, by) = terms(ratio);

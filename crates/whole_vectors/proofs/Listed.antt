@@ -2,7 +2,7 @@
 use Rattle.std.proofs.Common.{◌≡◌, ◌≢◌, ℕ, ◌+◌, ◌-◌, ◌<◌, List, [], length, get_or, set, refl, sym, ◌∙◌, ap, subst, arith, ℤ, pos}
 use Rattle.std.specs.Prelude.{◌*ℤ◌, ◌≤ℤ◌, All, replicate}
 use Rattle.std.proofs.lemmas.Int.{ints}
-use Rattle.std.proofs.lemmas.List.{get_or_default, length-map, length-set, length-replicate, map-set}
+use Rattle.std.proofs.lemmas.List.{get_or_default, get_or-set_other, length-map, length-set, length-replicate, map-set}
 use Rattle.exact_values.specs.Rational.{ℚ, whole, zero_ℚ, inverse_ℚ, ◌*ℚ◌, ◌/ℚ◌}
 use Rattle.exact_values.proofs.Inverse.{div_is, whole_numerator, numerator_of_zero}
 use Rattle.exact_values.proofs.Ring_laws.{whole-mul, zero-mul}
@@ -98,6 +98,20 @@ put_listed ns p x ks next ranks is own h = record {
   ranked = h.ranked;
   covered = put_covered ns p x ks ranks ks ranks h.covered (λ n at. at) (subst (λ rs. IsListedAt ks rs p) (sym is) own);
 }
+
+-- a number is written over one that isn't 0, whose place is listed then
+pub put_over : (ns : List ℤ) (p : ℕ) (x held : ℤ) (ks ranks : List ℕ) → p < length ns → held ≡ get_or ns p held → held ≢ pos 0 → AreListed ns ks ranks → AreListed (set ns p x) ks ranks
+put_over ns p x held ks ranks inside is some h = record {
+  counted = h.counted ∙ sym (length-set ns p x);
+  ranked = h.ranked;
+  covered = λ n out. ap (λ xs. get_or xs n zero_ℚ) (map-set whole ns p x) ∙ get_or-set_other (wholes ns) p n (whole x) zero_ℚ (apart n out) ∙ h.covered n out;
+}
+  where
+    apart : (n : ℕ) → (IsListedAt ks ranks n → ⊥) → n ≢ p
+    apart n out same =
+        let there = get_or ns p (pos 0) in
+        let nought : whole there ≡ zero_ℚ = sym (read_whole ns p) ∙ ap (λ k. get_or (wholes ns) k zero_ℚ) (sym same) ∙ h.covered n out in
+        some (is ∙ get_or_default ns p held (pos 0) inside ∙ sym (whole_numerator there) ∙ numerator_of_zero (whole there) nought)
 
 -- ---- whole numbers
 

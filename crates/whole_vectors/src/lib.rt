@@ -13,7 +13,7 @@ mod whole_numbers;
 mod word_vectors;
 
 use frac128::Frac;
-pub use sparse_wholes::SparseWholes;
+pub use sparse_wholes::{LARGE, SparseWholes};
 pub use sparse_words::SparseWords;
 pub use whole_numbers::{whole_at, whole_number, whole_quotient, whole_sum};
 pub use word_vectors::{number_at, word, word_quotient, word_sum};

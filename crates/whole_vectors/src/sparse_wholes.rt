@@ -16,7 +16,7 @@ use std::alloc::{AllocError, Global};
 use std::marker::Model;
 
 /// A denominator of this size or more is reduced.
-const LARGE: u128 = 1 << 50;
+pub const LARGE: u128 = 1 << 50;
 
 /// A whole number for each variable, and a list of places that none is missing from whose number isn't 0: what goes over the numbers goes
 /// over that list. Each place of the list has its rank there.
@@ -170,6 +170,11 @@ impl SparseWholes {
         if self.numbers[place] == n {
             return Some(());
         }
+        let held = self.numbers[place];
+        if held != 0 {
+            self.numbers[place] = n;
+            return Some(());
+        }
         enlist(&mut self.listed, &mut self.ranks, place)?;
         self.numbers[place] = n;
         Some(())
@@ -202,8 +207,17 @@ impl SparseWholes {
         ensures same { IfSome result (λ left. IsSameOver denominator self.old left self.new) }
         ensures places { length self.new ≡ length self.old }
     {
+        self.reduce_from(LARGE, denominator)
+    }
+
+    /// The same, where a denominator of `least` or more is a large one.
+    pub fn reduce_from(&mut self, least: u128, denominator: Frac) -> Option<Frac>
+        requires apart { denominator ≢ zero_ℚ }
+        ensures same { IfSome result (λ left. IsSameOver denominator self.old left self.new) }
+        ensures places { length self.new ≡ length self.old }
+    {
         let size = denominator.num().unsigned_abs();
-        if size < LARGE {
+        if size < least {
             return Some(denominator);
         }
         let factor = i128::try_from(shared(&self.numbers, &self.listed, size)).ok()?;

@@ -8,7 +8,7 @@ use Rattle.whole_vectors.specs.Words.{wholes}
 use Rattle.whole_vectors.specs.Quotients.{IsSameOver}
 use Rattle.whole_vectors.proofs.Over.{some_ok, reduced}
 use Rattle.whole_vectors.proofs.Listed.{still_listed, changed_quotients, whole_apart}
-use Rattle.whole_vectors.proofs.sparse_wholes.SparseWholes.reduce.Goals as goal
+use Rattle.whole_vectors.proofs.sparse_wholes.SparseWholes.reduce_from.Goals as goal
 
 pub invariant_of-self : goal.invariant_of-self
 invariant_of-self c =

@@ -1,7 +1,7 @@
 use Rattle.std.proofs.Common.{◌≡◌, length}
 use Rattle.whole_vectors.specs.Quotients.{Represent}
 use Rattle.eta_file.specs.Inverse.{IsDirectionAfter}
-use Rattle.eta_file.proofs.file.EtaFile.carried_whole.Given as goal
+use Rattle.eta_file.proofs.file.EtaFile.carry_reducing.Given as goal
 
 -- carried over the etas so far
 abbrev pub invariant-loop-place : goal.invariant-loop-place
