@@ -7,4 +7,5 @@ pub mod WantedSigns
 pub mod WordSums
 pub mod NumberRates
 pub mod WholeRows
+pub mod ColumnNumbers
 mod NumberRows

@@ -1,7 +1,6 @@
 -- A row that is carried back to the rows, and the rates that it gives.
-use Rattle.std.proofs.Common.{◌≡◌, ◌≢◌, ℕ, suc, ◌+◌, ◌-◌, ◌<◌, ◌≤◌, List, [], ◌∷◌, length, take, get_or, set, refl, sym, ◌∙◌, ap, true, false, cond, Bool, subst, arith, Ok, Err, Result}
+use Rattle.std.proofs.Common.{◌≡◌, ◌≢◌, ℕ, suc, ◌+◌, ◌-◌, ◌<◌, ◌≤◌, List, [], ◌∷◌, length, take, get_or, refl, sym, ◌∙◌, ap, true, false, cond, Bool, subst, arith, Ok, Err, Result}
 use Rattle.std.specs.Prelude.{nat_eq, nat_le, IfOk, IfErr, pos}
-use Rattle.std.proofs.lemmas.List.{get_or-set_same, get_or-set_other}
 use Rattle.exact_values.specs.Rational.{ℚ, zero_ℚ, one_ℚ, neg_ℚ, ◌+ℚ◌, ◌-ℚ◌, ◌*ℚ◌}
 use Rattle.exact_values.specs.Sums.{sum_to}
 use Rattle.exact_values.proofs.Sums.{sum_to-same}
@@ -57,23 +56,6 @@ rows_known f r xs h = record {
       ∙ h.each rate are (k + 1) var (ap (λ b. is_in b (k + 1)) (after_none (row_basics f.matrix) f.etas) ∙ is_in-row_basics f.matrix (k + 1) var ∙ low);
   filled = λ k past within. absurd (omega (arith, past, within));
 }
-
--- one rate more
-pub filled_more : (f : Inverse) (n r : ℕ) (xs : List ℚ) (v : ℚ) → n < length xs → IsFilledFrom f (n + 1) r xs → IsRateOf f r (n + 1) v → IsFilledFrom f n r (set xs n v)
-filled_more f n r xs v below h rate_is = record {
-  known = λ rate are k less in_rows.
-      let other : k ≢ n = omega (arith, less) in
-      get_or-set_other xs n k v zero_ℚ other ∙ h.known rate are k (omega (arith, less)) in_rows;
-  filled = λ k from within. at k from within (nat_eq k n) refl;
-}
-  where
-    at : (k : ℕ) → n ≤ k → k < size f.matrix → (b : Bool) → nat_eq k n ≡ b → IsRateOf f r (k + 1) (get_or (set xs n v) k zero_ℚ)
-    at k from within true e =
-        let is : n ≡ k = grind (arith, e) in
-        subst (λ i. IsRateOf f r (i + 1) (get_or (set xs n v) i zero_ℚ)) is (subst (λ x. IsRateOf f r (n + 1) x) (sym (get_or-set_same xs n v zero_ℚ below)) rate_is)
-    at k from within false e =
-        let other : k ≢ n = grind (arith, e) in
-        subst (λ x. IsRateOf f r (k + 1) x) (sym (get_or-set_other xs n k v zero_ℚ other)) (h.filled k (omega (arith, from, other)) within)
 
 -- a file has rates
 pub rates_are : (f : Inverse) → f.basics ≡ after (row_basics f.matrix) f.etas → Passed f.matrix (row_basics f.matrix) f.etas → (rate : ℕ → ℕ → ℚ) × AreRates f.matrix f.basics rate

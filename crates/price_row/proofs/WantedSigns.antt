@@ -123,6 +123,11 @@ module _ (f : Inverse) (r place : ℕ) (ws : List Wanted) (up : Bool) (within : 
       test ∙ ap₂ (λ (b : Bool) (x : ℚ). is_wanted sought (turned b x)) is_turn is_y ∙ sym (wanted_by_number sought n d up apart)
       ∙ ap (λ (x : ℚ). is_wanted sought (turned up x)) (rate_is.is_rate h.rate h.are_rates ∙ sym (h.entries (place + 1) is))
 
+  -- and it is that rate itself
+  pub rate_there : (rates : Vector) (v : ℚ) (met : Bool) → IsRateOf f r (place + 1) v → met ≡ is_wanted sought (turned up v) → IsRowOf f.matrix f.basics r rates → met ≡ meets ws up rates (place + 1)
+  rate_there rates v met rate_is test h =
+      test ∙ ap (λ (x : ℚ). is_wanted sought (turned up x)) (rate_is.is_rate h.rate h.are_rates ∙ sym (h.entries (place + 1) is))
+
 -- ---- one place after another
 
 module _ (ws : List Wanted) (up : Bool) (rates : Vector) (n : ℕ) (none : NoneMeets ws up rates n) where

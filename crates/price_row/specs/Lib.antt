@@ -3,3 +3,4 @@ pub mod Known
 pub mod Workspace
 pub mod Places
 pub mod RateNumbers
+pub mod NumbersOver

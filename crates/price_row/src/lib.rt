@@ -2,29 +2,32 @@
 #![tactic(auto)]
 
 ghost use Rattle.std.specs.Prelude.{◌≡◌, ◌≢◌, ℕ, ◌+◌, ◌-◌, ◌≤◌, ◌<◌, length, All, IfOk, IfSome, IfErr, OnOk};
-ghost use Rattle.lp_definitions.specs.LinearProgram.{IsVariable, size, value_at};
+ghost use Rattle.lp_definitions.specs.LinearProgram.{IsVariable, Vector, size, value_at};
 ghost use Rattle.exact_values.specs.Rational.{zero_ℚ};
 ghost use Rattle.lp_definitions.specs.Basis.{IsBasic};
 ghost use Rattle.lp_definitions.specs.RatesEvidence.{sum_from};
 ghost use Rattle.lp_model.specs.RatesCalls.{IsRowOf, RowOverflow};
-ghost use Rattle.lp_model.specs.Wanted.{is_wanted, turned, wanted_at, IsFirstWanted};
+ghost use Rattle.lp_model.specs.Wanted.{is_wanted, meets, turned, wanted_at, IsLeastWanted, IsFirstWanted};
 ghost use Rattle.eta_file.specs.Inverse.{ways_of, IsColumnStop};
 ghost use Rattle.eta_file.specs.Workspaces.{IsWorkspaceFor};
 ghost use Rattle.price_row.specs.Known.{IsKnown, HasMultipliers, IsFilledFrom, IsRateOf, IsUnit, IsMultiplierAt, IsMultiplierOf};
+ghost use Rattle.price_row.specs.NumbersOver.{AreNumbersOver};
 ghost use Rattle.price_row.specs.Sums.{products};
 ghost use Rattle.price_row.specs.Places.{IsRowPlace};
 
+mod column_numbers;
 mod exact;
 mod numbers;
 mod sums;
 mod whole;
 mod words;
 
+use column_numbers::{column_number, column_rate};
 use eta_file::{ColumnWorkspace, EtaFile, rate_by_column};
 use exact::{exact_quotient_over, exact_sum_of_column};
 use frac128::{Frac, Refused};
 use lp_model::{Entry, Lp, NoMemory, Stop, Wanted};
-use numbers::{first_by_numbers, row_by_numbers};
+use numbers::{first_by_numbers, is_up_over, row_by_numbers};
 use std::alloc::Global;
 use std::marker::Model;
 use sums::{sum_of_column, sum_over};
@@ -77,7 +80,8 @@ impl PriceRow {
     /// Fills `out`, which has a place for each variable, with the rates of the basic `i`: its rate at each nonbasic, and 0 at each
     /// basic. The row is carried backwards through the file, and multiplied with the columns of the deck: in whole numbers of one
     /// machine word over one denominator, or where one isn't such a number in larger whole numbers, or where one of these doesn't
-    /// fit in fractions. Where an operation on fractions is refused, that one multiplier or rate is computed in numbers of any length;
+    /// fit in fractions, of which the rates at columns are made in whole numbers over a denominator of so many columns as it serves.
+    /// Where an operation on fractions is refused, that one multiplier or rate is computed in numbers of any length;
     /// where this doesn't fit either, or there is no memory for it, the multipliers of the rows are computed by their directions, or
     /// the rate by that of its variable.
     pub fn row(&mut self, file: &EtaFile, i: u32, out: &mut [Frac]) -> Result<(), Stop>
@@ -97,13 +101,14 @@ impl PriceRow {
         if row_by_numbers(file, i, &mut self.wholes, out).is_some() {
             return Ok(());
         }
-        multipliers(file, i, out, &mut self.workspace)?;
-        fill(file, i, out, &mut self.workspace)
+        multipliers(file, i, &mut self.multipliers, &mut self.workspace)?;
+        let (numbers, workspace) = (&mut self.wholes, &mut self.workspace);
+        fill_by_multipliers(file, i, &self.multipliers, numbers, out, workspace)
     }
 
     /// The least-numbered variable whose rate in the row of the basic `i`, or the opposite of it where `up` is false, is wanted there.
-    /// `out`, which has a place for each variable, takes the rate of that variable, and where there is none the row: in whole numbers
-    /// no rate but these is worked out. Else all is as in `row`.
+    /// `out`, which has a place for each variable, takes the rate of that variable, and where there is none the row: as long as
+    /// whole numbers fit, no rate but these is worked out. Else all is as in `row`.
     pub fn first_wanted(
         &mut self,
         file: &EtaFile,
@@ -134,7 +139,8 @@ impl PriceRow {
             return Ok(found);
         }
         multipliers(file, i, &mut self.multipliers, &mut self.workspace)?;
-        fill_to_wanted(file, &sought, &self.multipliers, out, &mut self.workspace)
+        let (numbers, workspace) = (&mut self.wholes, &mut self.workspace);
+        fill_to_wanted(file, &sought, &self.multipliers, numbers, out, workspace)
     }
 }
 
@@ -356,7 +362,7 @@ fn rate_by_multipliers(file: &EtaFile, place: u32, row: u32, out: &[Frac]) -> Re
 }
 
 /// The same, by the direction of the variable where a number doesn't fit.
-fn rate_at(
+fn rate_by_fractions(
     file: &EtaFile,
     place: u32,
     row: u32,
@@ -380,28 +386,33 @@ fn rate_at(
     }
 }
 
-/// Fills in the rates, the last variable's first, so that the multipliers of the rows stand as long as they are needed.
-fn fill(
+/// The same, in whole numbers over the denominator where these fit.
+fn rate_at(
     file: &EtaFile,
+    place: u32,
     row: u32,
-    out: &mut [Frac],
+    multipliers: &[Frac],
+    numbers: &mut SparseWholes,
+    denominator: &mut Frac,
     workspace: &mut ColumnWorkspace,
-) -> Result<(), Stop>
+) -> Result<Frac, Stop>
+    requires within { place < size file.now.matrix }
     requires basic { IsBasic file.now.matrix file.now.basics row }
-    requires places { length out.old ≡ size file.now.matrix }
+    requires places { length multipliers.now ≡ size file.now.matrix }
     requires workspace { IsWorkspaceFor (size file.now.matrix) workspace.old }
-    requires known { IsFilledFrom file.now (size file.now.matrix) row out.old }
-    ensures rates { OnOk result (IsRowOf file.now.matrix file.now.basics row (value_at out.new)) }
+    requires known { HasMultipliers file.now (place + 1) row multipliers.now }
+    requires over { AreNumbersOver denominator.old multipliers.now numbers.old }
+    ensures rate { IfOk result (IsRateOf file.now row (place + 1)) }
     ensures overflow { IfErr result (IsColumnStop file.now) }
     ensures never { IfErr result (λ stop. stop ≢ Stop.NoMemory) }
     ensures workspace { IsWorkspaceFor (size file.now.matrix) workspace.new }
+    ensures over { AreNumbersOver denominator.new multipliers.now numbers.new }
 {
-    let size = file.size();
-    for back in 0..size {
-        let place = size - 1 - back;
-        out[place as usize] = rate_at(file, place, row, out, workspace)?;
+    let _size = file.size();
+    match column_rate(file, place, row, multipliers, numbers, denominator) {
+        Some(rate) => Ok(rate),
+        None => rate_by_fractions(file, place, row, multipliers, workspace),
     }
-    Ok(())
 }
 
 /// Whether the rate, or its opposite where `up` is false, is wanted at the variable of a place. Most rates are 0, which is wanted nowhere.
@@ -413,11 +424,134 @@ fn is_wanted_at(wanted: &[Wanted], place: u32, up: bool, rate: Frac) -> bool
     !rate.is_zero() && wanted[place as usize].is_met(up, rate)
 }
 
-/// Fills in the rates from the multipliers of the rows, the first variable's first, up to the first that is wanted.
+/// Whether the rate at a place is wanted, by the sign of its number over the denominator where that fits.
+fn is_wanted_by_multipliers(
+    file: &EtaFile,
+    place: u32,
+    sought: &Sought<'_>,
+    multipliers: &[Frac],
+    numbers: &mut SparseWholes,
+    denominator: &mut Frac,
+    workspace: &mut ColumnWorkspace,
+) -> Result<bool, Stop>
+    requires within { place < size file.now.matrix }
+    requires basic { IsBasic file.now.matrix file.now.basics sought.now.row }
+    requires multiplier_places { length multipliers.now ≡ size file.now.matrix }
+    requires wanted_places { length sought.now.wanted.now ≡ size file.now.matrix }
+    requires workspace { IsWorkspaceFor (size file.now.matrix) workspace.old }
+    requires known { HasMultipliers file.now (place + 1) sought.now.row multipliers.now }
+    requires over { AreNumbersOver denominator.old multipliers.now numbers.old }
+    ensures met { IfOk result (λ met. (rates : Vector) → IsRowOf file.now.matrix file.now.basics
+        sought.now.row rates → met ≡ meets sought.now.wanted.now sought.now.up rates (place + 1)) }
+    ensures overflow { IfErr result (IsColumnStop file.now) }
+    ensures never { IfErr result (λ stop. stop ≢ Stop.NoMemory) }
+    ensures workspace { IsWorkspaceFor (size file.now.matrix) workspace.new }
+    ensures over { AreNumbersOver denominator.new multipliers.now numbers.new }
+{
+    let _size = file.size();
+    if let Some(number) = column_number(
+        file,
+        place,
+        sought.row,
+        multipliers,
+        numbers,
+        denominator,
+    ) {
+        let up = is_up_over(sought.up, *denominator);
+        return Ok(is_wanted_at(sought.wanted, place, up, Frac::whole(number)));
+    }
+    let rate = rate_by_fractions(file, place, sought.row, multipliers, workspace)?;
+    Ok(is_wanted_at(sought.wanted, place, sought.up, rate))
+}
+
+/// The least-numbered variable whose rate is wanted, if there is one.
+fn first_by_multipliers(
+    file: &EtaFile,
+    sought: &Sought<'_>,
+    multipliers: &[Frac],
+    numbers: &mut SparseWholes,
+    workspace: &mut ColumnWorkspace,
+) -> Result<Option<u32>, Stop>
+    requires basic { IsBasic file.now.matrix file.now.basics sought.now.row }
+    requires multiplier_places { length multipliers.now ≡ size file.now.matrix }
+    requires wanted_places { length sought.now.wanted.now ≡ size file.now.matrix }
+    requires number_places { length numbers.old ≡ size file.now.matrix }
+    requires workspace { IsWorkspaceFor (size file.now.matrix) workspace.old }
+    requires known { HasMultipliers file.now (size file.now.matrix) sought.now.row multipliers.now }
+    ensures least { IfOk result (λ found. (rates : Vector) → IsRowOf file.now.matrix
+        file.now.basics sought.now.row rates → IsLeastWanted sought.now.wanted.now sought.now.up
+        rates found) }
+    ensures variable { IfOk result (λ found. IfSome found (IsVariable file.now.matrix)) }
+    ensures overflow { IfErr result (IsColumnStop file.now) }
+    ensures never { IfErr result (λ stop. stop ≢ Stop.NoMemory) }
+    ensures number_places { length numbers.new ≡ size file.now.matrix }
+    ensures workspace { IsWorkspaceFor (size file.now.matrix) workspace.new }
+{
+    numbers.clear();
+    let mut denominator = Frac::whole(1);
+    for place in 0..file.size() {
+        let wanted = is_wanted_by_multipliers(
+            file,
+            place,
+            sought,
+            multipliers,
+            numbers,
+            &mut denominator,
+            workspace,
+        )?;
+        if wanted {
+            return Ok(Some(place + 1));
+        }
+    }
+    Ok(None)
+}
+
+/// Fills in the rates from the multipliers of the rows, the last variable's first.
+fn fill_by_multipliers(
+    file: &EtaFile,
+    row: u32,
+    multipliers: &[Frac],
+    numbers: &mut SparseWholes,
+    out: &mut [Frac],
+    workspace: &mut ColumnWorkspace,
+) -> Result<(), Stop>
+    requires basic { IsBasic file.now.matrix file.now.basics row }
+    requires multiplier_places { length multipliers.now ≡ size file.now.matrix }
+    requires places { length out.old ≡ size file.now.matrix }
+    requires number_places { length numbers.old ≡ size file.now.matrix }
+    requires workspace { IsWorkspaceFor (size file.now.matrix) workspace.old }
+    requires known { HasMultipliers file.now (size file.now.matrix) row multipliers.now }
+    ensures rates { OnOk result (IsRowOf file.now.matrix file.now.basics row (value_at out.new)) }
+    ensures overflow { IfErr result (IsColumnStop file.now) }
+    ensures never { IfErr result (λ stop. stop ≢ Stop.NoMemory) }
+    ensures number_places { length numbers.new ≡ size file.now.matrix }
+    ensures workspace { IsWorkspaceFor (size file.now.matrix) workspace.new }
+{
+    numbers.clear();
+    let mut denominator = Frac::whole(1);
+    let size = file.size();
+    for back in 0..size {
+        let place = size - 1 - back;
+        let rate = rate_at(
+            file,
+            place,
+            row,
+            multipliers,
+            numbers,
+            &mut denominator,
+            workspace,
+        )?;
+        out[place as usize] = rate;
+    }
+    Ok(())
+}
+
+/// Fills in the rate of the first variable whose rate is wanted, or where there is none all rates, from the multipliers of the rows.
 fn fill_to_wanted(
     file: &EtaFile,
     sought: &Sought<'_>,
     multipliers: &[Frac],
+    numbers: &mut SparseWholes,
     out: &mut [Frac],
     workspace: &mut ColumnWorkspace,
 ) -> Result<Option<u32>, Stop>
@@ -425,20 +559,27 @@ fn fill_to_wanted(
     requires multiplier_places { length multipliers.now ≡ size file.now.matrix }
     requires wanted_places { length sought.now.wanted.now ≡ size file.now.matrix }
     requires places { length out.old ≡ size file.now.matrix }
+    requires number_places { length numbers.old ≡ size file.now.matrix }
     requires workspace { IsWorkspaceFor (size file.now.matrix) workspace.old }
     requires known { HasMultipliers file.now (size file.now.matrix) sought.now.row multipliers.now }
     ensures found { IfOk result (IsFirstWanted file.now.matrix file.now.basics sought.now.row
         sought.now.wanted.now sought.now.up (value_at out.new)) }
     ensures overflow { IfErr result (IsColumnStop file.now) }
     ensures never { IfErr result (λ stop. stop ≢ Stop.NoMemory) }
+    ensures number_places { length numbers.new ≡ size file.now.matrix }
     ensures workspace { IsWorkspaceFor (size file.now.matrix) workspace.new }
 {
-    for place in 0..file.size() {
-        let rate = rate_at(file, place, sought.row, multipliers, workspace)?;
-        out[place as usize] = rate;
-        if is_wanted_at(sought.wanted, place, sought.up, rate) {
-            return Ok(Some(place + 1));
+    let _size = file.size();
+    let found = first_by_multipliers(file, sought, multipliers, numbers, workspace)?;
+    match found {
+        Some(k) => {
+            let rate = rate_by_fractions(file, k - 1, sought.row, multipliers, workspace)?;
+            out[k as usize - 1] = rate;
+            Ok(Some(k))
+        }
+        None => {
+            fill_by_multipliers(file, sought.row, multipliers, numbers, out, workspace)?;
+            Ok(None)
         }
     }
-    Ok(None)
 }

@@ -314,7 +314,7 @@ fn rate_by_numbers<N: Numbers>(
 
 /// What `up` is for the numbers of rates over a denominator: one below 0 turns their signs.
 #[inline(always)]
-fn is_up_over(up: bool, denominator: Frac) -> bool
+pub fn is_up_over(up: bool, denominator: Frac) -> bool
     ensures { result ≡ up_over up denominator }
 {
     up == (denominator.sign() > 0)

@@ -1,25 +1,18 @@
-use Rattle.std.proofs.Common.{◌<◌, length, sym, ◌∙◌, arith, rules}
-use Rattle.price_row.proofs.WantedSteps.{filled_next, none_next, found_here, first_none, first_some}
+use Rattle.std.proofs.Common.{subst}
+use Rattle.std.specs.Prelude.{ℕ, Option, IfSome}
+use Rattle.lp_definitions.specs.LinearProgram.{IsVariable, value_at}
+use Rattle.lp_model.specs.Wanted.{IsLeastWanted}
+use Rattle.price_row.proofs.WantedSigns.{first_found, first_nowhere}
 use Rattle.price_row.proofs.fill_to_wanted.Goals as goal
 
-pub loop-place-preserved : goal.loop-place-preserved
-loop-place-preserved c =
-    let below : c.loop-place.place < length c.loop-place.out = omega (arith, c.loop-place.invariant.counted) in
-    let within : c.loop-place.place < length c.args.sought.now.wanted.now = omega (arith, c.requires.wanted_places) in
-    record {
-      counted = search rules;
-      filled = filled_next c.args.file.now c.loop-place.place c.args.sought.now.row c.loop-place.out c.in_ok-rate.rate below c.loop-place.invariant.filled c.in_ok-rate.ensures.rate;
-      none = none_next c.args.sought.now.wanted.now c.args.sought.now.up c.loop-place.place c.loop-place.out c.in_ok-rate.rate below within c.loop-place.invariant.none (sym c.is_wanted_at.ensures ∙ c.if-is_wanted_at.false);
-      workspace = c.rate_at.ensures.workspace;
-    }
+pub returns-in_ok-rate-in-Some-clause-found : goal.returns-in_ok-rate-in-Some-clause-found
+returns-in_ok-rate-in-Some-clause-found c =
+    let var : IsVariable c.args.file.now.matrix c.in-Some.k = subst (λ (o : Option ℕ). IfSome o (IsVariable c.args.file.now.matrix)) c.in-Some.is c.in_ok-found.ensures.variable in
+    first_found c.args.file.now c.args.sought.now.row c.args.sought.now.wanted.now c.args.sought.now.up c.args.out.now c.size-size.ensures.basics c.size-size.ensures.passed c.requires.wanted_places
+    c.in-Some.k c.in_ok-rate-in-Some.rate var c.requires.places c.in_ok-rate-in-Some.ensures.rate
+    (λ rates row. subst (λ (o : Option ℕ). IsLeastWanted c.args.sought.now.wanted.now c.args.sought.now.up rates o) c.in-Some.is (c.in_ok-found.ensures.least rates row))
 
-pub returns-then-is_wanted_at-clause-found : goal.returns-then-is_wanted_at-clause-found
-returns-then-is_wanted_at-clause-found c =
-    let below : c.loop-place.place < length c.loop-place.out = omega (arith, c.loop-place.invariant.counted) in
-    let within : c.loop-place.place < length c.args.sought.now.wanted.now = omega (arith, c.requires.wanted_places) in
-    first_some c.args.file.now c.args.sought.now.row c.args.sought.now.wanted.now c.args.sought.now.up c.size-place-end.ensures.basics c.size-place-end.ensures.passed c.requires.wanted_places c.loop-place.place c.loop-place.out c.in_ok-rate.rate below c.loop-place.invariant.filled c.in_ok-rate.ensures.rate
-    (found_here c.args.sought.now.wanted.now c.args.sought.now.up c.loop-place.place c.loop-place.out c.in_ok-rate.rate below within c.loop-place.invariant.none (sym c.is_wanted_at.ensures ∙ c.if-is_wanted_at.true))
-
-pub returns-clause-found : goal.returns-clause-found
-returns-clause-found c =
-    first_none c.args.file.now c.args.sought.now.row c.args.sought.now.wanted.now c.args.sought.now.up c.size-place-end.ensures.basics c.size-place-end.ensures.passed c.requires.wanted_places c.loop-place.place c.loop-place.out (omega (arith, c.loop-place-test.false, c.size-place-end.ensures.size)) c.loop-place.invariant.filled c.loop-place.invariant.none
+pub returns-in_ok-fill_by_multipliers-in-None-clause-found : goal.returns-in_ok-fill_by_multipliers-in-None-clause-found
+returns-in_ok-fill_by_multipliers-in-None-clause-found c =
+    first_nowhere c.args.file.now c.args.sought.now.row c.args.sought.now.wanted.now c.args.sought.now.up (value_at c.fill_by_multipliers.new.out) c.in_ok-fill_by_multipliers-in-None.ensures.rates
+    (λ rates row. subst (λ (o : Option ℕ). IsLeastWanted c.args.sought.now.wanted.now c.args.sought.now.up rates o) c.in-None.is (c.in_ok-found.ensures.least rates row))

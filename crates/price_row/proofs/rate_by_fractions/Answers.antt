@@ -2,7 +2,7 @@ use Rattle.std.proofs.Common.{◌+◌, arith}
 use Rattle.eta_file.specs.Inverse.{IsRateAt}
 use Rattle.price_row.specs.Known.{IsRateOf}
 use Rattle.price_row.proofs.RowSteps.{rate_in_direction, value_gives}
-use Rattle.price_row.proofs.rate_at.Goals as goal
+use Rattle.price_row.proofs.rate_by_fractions.Goals as goal
 
 pub returns-in-Err-clause-rate : goal.returns-in-Err-clause-rate
 returns-in-Err-clause-rate c =
