@@ -1,5 +1,5 @@
 -- What a statement prints fits, where each answer that it goes by does.
-use Rattle.std.proofs.Common.{◌≡◌, ℕ, List, inl, inr, sym, subst}
+use Rattle.std.proofs.Common.{ℕ, List, inl, inr, sym, subst}
 use Rattle.std.specs.Prelude.{Option, Some, None, Result, Ok, Err}
 use Rattle.exact_values.specs.Rational.{ℚ}
 use Rattle.card_definitions.specs.Cards.{Card}
@@ -26,7 +26,7 @@ use Rattle.question_definitions.specs.Answers.{Basis, Sheet, Changing, parametri
 use Rattle.question_definitions.specs.Solving.{IsRight}
 use Rattle.run_definitions.specs.State.{Present, gone_through, State, problem_of, choice_of}
 use Rattle.run_definitions.specs.Moves.{StatementOutcome, gain_of, Refusals, StatementMove, Does, MayStop, Asks, Gives, or_fault}
-use Rattle.run_definitions.specs.Verbs.{or_deck_fault, or_selection_fault, files, converts, revises, selects, sets_up, selects_present, mark_of, demanded, by_verdict, not_less, change_row, change_set, after_path, solves, shows_present, shows, if_optimal, ranges, after_parametric_run, parametric_runs, punches, punches_basis, after_install, inserts, verb_move}
+use Rattle.run_definitions.specs.Verbs.{or_deck_fault, or_selection_fault, files, converts, revises, selects, sets_up, selects_present, mark_of, demanded, by_verdict, not_less, change_row, change_set, after_path, solves, shows, if_optimal, ranges, after_parametric_run, parametric_runs, punches, punches_basis, after_install, inserts, verb_move}
 use Rattle.fitting_answers.specs.Fitting.{ReportFits, GainFits, AnswerFits}
 use Rattle.fitting_answers.specs.Real.{linear_programming_of_128_bits}
 
