@@ -41,7 +41,7 @@ use Rattle.walk_definitions.specs.Reading.{Judged, Right, Fails, Refuses, by_ver
 use Rattle.walk_definitions.specs.Walker.{Walker, answered}
 use Rattle.walk_definitions.proofs.Texts.{stands}
 use Rattle.own_listing_laws.specs.Laws.{IsNoFailure, chain_of}
-use Rattle.own_listing_laws.specs.Fitting.{IntervalsFit, EndFits, LinesFit}
+use Rattle.fitting_answers.specs.Fitting.{IntervalsFit, EndFits, LinesFit}
 use Rattle.own_listing_laws.specs.Printed.{IsEndOf, of_end, of_direction, of_ray}
 use Rattle.own_listing_laws.proofs.Sections.{interval_read, close_read}
 use Rattle.own_listing_laws.proofs.Tests.{Passes}

@@ -26,7 +26,7 @@ use Rattle.walk_definitions.specs.Words.{Parsed, left_after, with_text, with_wor
 use Rattle.walk_definitions.specs.Tables.{begins_table_line, pair_slots, table_in, ray_in}
 use Rattle.walk_definitions.specs.Reading.{with_check, Claim, optimal_in, crossed_in, infeasible_in, unbounded_in, claim_in, verdict_in}
 use Rattle.walk_definitions.proofs.Texts.{is_text}
-use Rattle.own_listing_laws.specs.Fitting.{LinesFit, CheckFits, VerdictFits}
+use Rattle.fitting_answers.specs.Fitting.{LinesFit, CheckFits, VerdictFits}
 use Rattle.own_listing_laws.specs.Printed.{IsReadable, IsRayOf, IsPairOf, IsPrinted}
 use Rattle.own_listing_laws.proofs.Spelled.{Gives, text_first, or_else, or_first, not_there, same_rest, done, fraction_first, count_first, check_first}
 use Rattle.own_listing_laws.proofs.Tabled.{matched_of, table_read, ray_read}

@@ -28,7 +28,7 @@ use Rattle.walk_definitions.specs.Tables.{begins_table_line}
 use Rattle.walk_definitions.specs.Tests.{point_of}
 use Rattle.walk_definitions.specs.Reading.{Judged, judged}
 use Rattle.walk_definitions.specs.Walker.{Pending, Walker, Found, Attested, Wrong, Unchecked, WalkTurn, Finds, open_if, pending_found, open_outcome, open_question, opened, refuses_selection, ended, unless_found, closes, follows, passed, taken, pending_after, settled, answered, due, walk_move}
-use Rattle.own_listing_laws.specs.Fitting.{VerdictFits}
+use Rattle.fitting_answers.specs.Fitting.{VerdictFits}
 use Rattle.own_listing_laws.specs.Laws.{IsShownChecked, KeepsMark, WalksOn}
 use Rattle.own_listing_laws.proofs.Rightly.{judged_right}
 

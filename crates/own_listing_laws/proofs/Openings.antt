@@ -31,13 +31,13 @@ use Rattle.walk_definitions.specs.Tests.{verdict_test, moving_steps, making_step
 use Rattle.walk_definitions.specs.Reading.{Judged, Right, tested, judged_map, judged, Claim, verdict_in, parametric_run_head, parametric_run_in}
 use Rattle.walk_definitions.specs.Walker.{Walker, open_question, passed, answered}
 use Rattle.walk_definitions.proofs.Texts.{is_text}
-use Rattle.own_listing_laws.specs.Fitting.{VerdictFits, CheckFits}
+use Rattle.fitting_answers.specs.Fitting.{VerdictFits, CheckFits, GainFits}
 use Rattle.own_listing_laws.specs.Printed.{IsReadable, IsPrinted}
 use Rattle.own_listing_laws.proofs.Claims.{verdict_read}
 use Rattle.own_listing_laws.proofs.Ended.{IsOf, end_is}
 use Rattle.own_listing_laws.proofs.Tests.{Passes, pass_none, pass_then, passes_steps, never_none, never-append, never_sum, never_each, verdict_passes}
 use Rattle.own_listing_laws.proofs.Stops.{open_limit}
-use Rattle.own_listing_laws.proofs.Pace.{rebased, Lands, GainFits, IsDue, follows_lands, IsFollowed, may_stop, asked_lands, never_stopped}
+use Rattle.own_listing_laws.proofs.Pace.{rebased, Lands, IsDue, follows_lands, IsFollowed, may_stop, asked_lands, never_stopped}
 use Rattle.own_listing_laws.proofs.Paths.{judged_so, verdict_gain, verdict_alike, verdict_waits, verdict_printed}
 
 -- ---- what is made of the limits never fails
@@ -194,7 +194,7 @@ module _ (w : Walker) (s : State) (opening : Basis) (steps : List Basis) (limits
   pub parametric_run_followed : ((bases : List Basis) (intervals : List ParametricInterval) (end : ChainEnd) (more : List ℕ) → IsChained sheet (present_basis present) parametric_run bases intervals end → ParametricRunLands (Chained bases intervals end) more) →
       IsFollowed w card (asks question sheet set_up go) (asks question sheet present own)
   parametric_run_followed chained =
-      may_stop w card (Asks question sheet (present_basis set_up) go) (Asks question sheet (present_basis present) own) (InAnswer question sheet (path_of set_up)) (InAnswer question sheet (path_of present))
+      may_stop w card (Asks question sheet (present_basis set_up) go) (Asks question sheet (present_basis present) own) (InAnswer question sheet (path_of set_up)) (InAnswer question sheet (path_of present)) tt
       (asked_lands w card question sheet (present_basis set_up) (present_basis present) go own lands)
     where
       lands : card ≤ max_count → (answer : ParametricRunEnd) (more : List ℕ) → IsRight linear_programming question sheet (present_basis present) answer → IsDue w (own answer) more → open_question w question sheet go ≡ None →
@@ -204,4 +204,4 @@ module _ (w : Walker) (s : State) (opening : Basis) (steps : List Basis) (limits
       lands small (Chained bases intervals end) more right given none =
           chained bases intervals end more (knows_linear_programming.parametric_runs sheet (present_basis present) parametric_run (Chained bases intervals end) right) given
       lands small ParametricRunLimit more right given none =
-          absurd (never_stopped w card question sheet (present_basis set_up) (present_basis present) go own none (ap is_open_stop (given.text ∙ given.ends.0) ∙ open_limit _ limits small))
+          absurd (never_stopped w card question sheet (present_basis set_up) (present_basis present) go own none (ap is_open_stop (given.text ∙ given.ends) ∙ open_limit _ limits small))

@@ -56,7 +56,7 @@ module _ (w : Walker) (s : State) (opening : Basis) (steps : List Basis) (card :
 
   pub ranges_followed : IsFollowed w card (asks OfRanges sheet set_up (ranges_at walked)) (asks OfRanges sheet present (ranges_at s))
   ranges_followed =
-      may_stop w card (Asks OfRanges sheet (present_basis set_up) (ranges_at walked)) (Asks OfRanges sheet (present_basis present) (ranges_at s)) (InAnswer OfRanges sheet (path_of set_up)) (InAnswer OfRanges sheet (path_of present))
+      may_stop w card (Asks OfRanges sheet (present_basis set_up) (ranges_at walked)) (Asks OfRanges sheet (present_basis present) (ranges_at s)) (InAnswer OfRanges sheet (path_of set_up)) (InAnswer OfRanges sheet (path_of present)) tt
       (asked_lands w card OfRanges sheet (present_basis set_up) (present_basis present) (ranges_at walked) (ranges_at s)
       (λ small answer more right given none. absurd (alone_open w (is_ranges w.rest) (ap is_ranges given.text ∙ ranges_stand answer more) none)))
 
@@ -80,7 +80,7 @@ module _ (w : Walker) (s : State) (opening : Basis) (steps : List Basis) (card :
 
     pub install_followed : IsFollowed w card (asks (OfInstall t) sheet set_up install_go) (asks (OfInstall t) sheet present install_own)
     install_followed =
-        may_stop w card (Asks (OfInstall t) sheet (present_basis set_up) install_go) (Asks (OfInstall t) sheet (present_basis present) install_own) (InAnswer (OfInstall t) sheet (path_of set_up)) (InAnswer (OfInstall t) sheet (path_of present))
+        may_stop w card (Asks (OfInstall t) sheet (present_basis set_up) install_go) (Asks (OfInstall t) sheet (present_basis present) install_own) (InAnswer (OfInstall t) sheet (path_of set_up)) (InAnswer (OfInstall t) sheet (path_of present)) tt
         (asked_lands w card (OfInstall t) sheet (present_basis set_up) (present_basis present) install_go install_own lands)
       where
         few_basic : length (basic_columns lp t) ≤ max_count
@@ -97,4 +97,4 @@ module _ (w : Walker) (s : State) (opening : Basis) (steps : List Basis) (card :
         lands small Installed more right given none =
             absurd (stands_open w (is_inserted name w.rest) (open_pending w) (ap (is_inserted name) given.text ∙ inserted_stands name (length (basic_columns lp t)) more few_basic) none)
         lands small (DependsBy lines) more right given none =
-            absurd (never_stopped w card (OfInstall t) sheet (present_basis set_up) (present_basis present) install_go install_own none (ap is_open_stop (given.text ∙ given.ends.0) ∙ open_singular _ small))
+            absurd (never_stopped w card (OfInstall t) sheet (present_basis set_up) (present_basis present) install_go install_own none (ap is_open_stop (given.text ∙ given.ends) ∙ open_singular _ small))

@@ -21,14 +21,14 @@ use Rattle.selection_definitions.specs.Selection.{selected}
 use Rattle.selection_definitions.specs.Making.{is_made}
 use Rattle.listing_definitions.specs.declared.VerbFault.{VerbFault}
 use Rattle.listing_definitions.specs.Report.{Report}
-use Rattle.listing_definitions.specs.Ending.{Overflow, Ending, OverflowStop}
+use Rattle.listing_definitions.specs.Ending.{Place, Overflow, Ending, OverflowStop}
 use Rattle.listing_definitions.specs.Listing.{ending_text}
 use Rattle.question_definitions.specs.Answers.{Basis, Sheet, Question, OfPath, OfSolution, OfRanges, OfParametricRun, OfPunch, OfInstall, AnswerTo, Installed}
 use Rattle.question_definitions.specs.Solving.{IsRight}
 use Rattle.answer_definitions.specs.Verdicts.{found}
 use Rattle.answer_definitions.specs.Real.{linear_programming}
 use Rattle.run_definitions.specs.State.{Present, present_basis, State}
-use Rattle.run_definitions.specs.Moves.{Gain, Nothing, Prints, Punches, printed_by, gain_text, StatementOutcome, Goes, Ends, gain_of, stops, Refusals, InSelection, InAnswer, StatementMove, Does, MayStop, Asks, Gives, or_fault}
+use Rattle.run_definitions.specs.Moves.{Gain, Nothing, Prints, Punches, printed_by, gain_text, StatementOutcome, Goes, Ends, gain_of, stops, Refusals, InSelection, InAnswer, StatementMove, Does, MayStop, Asks, Shows, Gives, or_fault}
 use Rattle.run_definitions.specs.Verbs.{or_deck_fault, or_selection_fault, selects}
 use Rattle.control_definitions.specs.Cells.{steps_allowed}
 use Rattle.walk_definitions.specs.Checkers.{checker_of_128_bits}
@@ -38,7 +38,12 @@ use Rattle.walk_definitions.specs.Tables.{begins_table_line}
 use Rattle.walk_definitions.specs.Reading.{judged}
 use Rattle.walk_definitions.specs.Walker.{Pending, Walker, Found, Open, Unchecked, WalkTurn, Walks, Finds, open_if, open_stop, pending_found, open_pending, open_outcome, is_inserted_by, open_question, opened, refuses_selection, ended, unless_found, closes, follows, passed, taken, answered, due, walk_move}
 use Rattle.walk_definitions.proofs.Texts.{stands}
-use Rattle.own_listing_laws.specs.Fitting.{ReportFits, StopFits}
+use Rattle.fitting_answers.specs.Fitting.{GainFits, EvidenceFits}
+use Rattle.fitting_answers.specs.Real.{linear_programming_of_128_bits}
+use Rattle.fitting_laws.proofs.Runs.{right_too}
+use Rattle.selection_definitions.specs.Refusals.{IsSelectionRefusal}
+use Rattle.selection_definitions.proofs.Making.{made_iff}
+use Rattle.lp_definitions.specs.declared.Evidence.{Evidence}
 use Rattle.own_listing_laws.specs.Laws.{IsNotWrong}
 use Rattle.own_listing_laws.proofs.Stops.{open_overflow}
 
@@ -94,14 +99,9 @@ pub lands_right : (outcome : StatementOutcome) (more : List ℕ) (turn : WalkTur
 lands_right outcome more (Walks v) right = absurd right
 lands_right outcome more (Finds found) right = right
 
-abbrev pub GainFits : Gain → Type 0
-GainFits Nothing = Unit {0}
-GainFits (Prints report) = ReportFits report
-GainFits (Punches report cards) = ReportFits report
-
 abbrev pub EndsSo : StatementOutcome → List ℕ → Type 0
 EndsSo (Goes gain after) more = Unit {0}
-EndsSo (Ends gain ending) more = (more ≡ ending_text ending) × StopFits ending
+EndsSo (Ends gain ending) more = more ≡ ending_text ending
 
 -- what the run still prints after this outcome, as the listing has it
 pub record IsDue (w : Walker) (outcome : StatementOutcome) (more : List ℕ) : Type 0 where
@@ -151,6 +151,11 @@ never_question w (OfInstall basis) sheet go =
 never_question w (OfPath solver limit) sheet go = never_either (open_stop w) (open_pending w) (never_stop w) (never_pending w.pending)
 never_question w (OfParametricRun parametric_run) sheet go = never_either (open_stop w) (open_pending w) (never_stop w) (never_pending w.pending)
 
+never_opened : (w : Walker) (move : StatementMove) → IsNeverWrong (opened w move)
+never_opened w (Does outcome) = never_outcome w outcome
+never_opened w (MayStop refusals move) = never_opened w move
+never_opened w (Asks question sheet s go) = never_question w question sheet go
+
 none_either : (a b : Option Found) → option_or a b ≡ None → (a ≡ None) × (b ≡ None)
 none_either None b e = (refl, e)
 none_either (Some found) b e = absurd (cc e)
@@ -193,7 +198,7 @@ WaitsAfter pending (Ends gain ending) = Unit {0}
 pub follows_lands : (u : Walker) (walked run : StatementOutcome) (more : List ℕ) → AreAlike walked run → u.rest ≡ more → EndsSo run more → WaitsAfter u.pending run → Lands run more (follows u walked)
 follows_lands u (Goes gain after) (Goes own other) more alike is ends waits = record { like = alike.1; is_rest = is; waits = waits }
 follows_lands u (Ends gain ending) (Ends own other) more alike is ends waits =
-    lands_right (Ends own other) more (closes u ending) (closes_right u ending (is ∙ ends.0 ∙ ap ending_text (sym alike.1)))
+    lands_right (Ends own other) more (closes u ending) (closes_right u ending (is ∙ ends ∙ ap ending_text (sym alike.1)))
 follows_lands u (Goes gain after) (Ends own other) more alike is ends waits = absurd alike
 follows_lands u (Ends gain ending) (Goes own other) more alike is ends waits = absurd alike
 
@@ -203,11 +208,22 @@ gain_alike (Ends gain ending) (Ends own other) alike = alike.0
 gain_alike (Goes gain after) (Ends own other) alike = absurd alike
 gain_alike (Ends gain ending) (Goes own other) alike = absurd alike
 
+-- ---- refusals
+
+-- a refused selection is the same of the walk and of the run
+abbrev AreAlikeRefused : Refusals → Refusals → Type 0
+AreAlikeRefused refusals (InSelection problem choice) = refusals ≡ InSelection problem choice
+AreAlikeRefused refusals (InAnswer question sheet bases) = Unit {0}
+
+shown_fits : (question : Question) (sheet : Sheet) (bases : List Basis) (e : Evidence) (place : Option Place) → linear_programming_of_128_bits.Overflows question sheet bases e place → EvidenceFits e
+unfolding linear_programming_of_128_bits
+shown_fits question sheet bases e place shown = shown.1
+
 -- ---- moves
 
 module _ (w : Walker) where
   pub record IsMatched (card : ℕ) (walked run : StatementMove) : Type 0 where
-    pub by : (outcome : StatementOutcome) (more : List ℕ) → Gives linear_programming card run outcome → IsDue w outcome more → Lands outcome more (walk_move checker_of_128_bits w walked)
+    pub by : (outcome : StatementOutcome) (more : List ℕ) → Gives linear_programming_of_128_bits card run outcome → IsDue w outcome more → Lands outcome more (walk_move checker_of_128_bits w walked)
 
   -- and it looks for stop texts first
   pub record IsFollowed (card : ℕ) (walked run : StatementMove) : Type 0 where
@@ -223,7 +239,7 @@ module _ (w : Walker) where
 
   -- ---- an operation may be refused
 
-  module _ (card : ℕ) (walked run : StatementMove) (refusals others : Refusals) (followed : IsFollowed card walked run) where
+  module _ (card : ℕ) (walked run : StatementMove) (refusals others : Refusals) (alike : AreAlikeRefused refusals others) (followed : IsFollowed card walked run) where
     refused_too : (outcome : StatementOutcome) (more : List ℕ) (o : Option Found) (refused other : Bool) (turn : WalkTurn) → Lands outcome more (unless_found o (if other then Finds (Unchecked w.rest) else turn)) →
         Lands outcome more (unless_found o (if refused || other then Finds (Unchecked w.rest) else turn))
     refused_too outcome more (Some found) refused other turn lands = lands
@@ -234,15 +250,31 @@ module _ (w : Walker) where
     stops_too outcome more lands (InSelection problem choice) = refused_too outcome more (opened w walked) (not (is_made problem choice)) (refuses_selection walked) (due checker_of_128_bits w walked) lands
     stops_too outcome more lands (InAnswer question sheet bases) = lands
 
+    -- where an operation of a selection is refused, the walk finds just that
+    refused_lands : (problem : Problem ℕ) (choice : Choice) (e : Evidence) → IsSelectionRefusal problem choice e → (outcome : StatementOutcome) (more : List ℕ) →
+        Lands outcome more (walk_move checker_of_128_bits w (MayStop (InSelection problem choice) walked))
+    refused_lands problem choice e refused outcome more = by (is_made problem choice) (λ is. (made_iff problem choice).0 is e refused) (opened w walked) (never_opened w walked)
+      where
+        by : (made : Bool) → (made ≡ true → ⊥) → (o : Option Found) → IsNeverWrong o → Lands outcome more (unless_found o (if not made || refuses_selection walked then Finds (Unchecked w.rest) else due checker_of_128_bits w walked))
+        by true unmade o never = absurd (unmade refl)
+        by false unmade (Some found) never = never
+        by false unmade None never = tt
+
+    shown_lands : card ≤ max_count → (outcome : StatementOutcome) (more : List ℕ) (evidence : Evidence) (place : Option Place) → outcome ≡ stops (OverflowStop (record { evidence = evidence; place = place; card = card })) → IsDue w outcome more →
+        (r : Refusals) → AreAlikeRefused refusals r → Shows linear_programming_of_128_bits r evidence place → Lands outcome more (walk_move checker_of_128_bits w (MayStop refusals walked))
+    shown_lands small outcome more evidence place is given (InSelection problem choice) same shown =
+        subst (λ (q : Refusals). Lands outcome more (walk_move checker_of_128_bits w (MayStop q walked))) (sym same) (refused_lands problem choice evidence shown.0 outcome more)
+    shown_lands small outcome more evidence place is given (InAnswer question sheet bases) same shown =
+        let own : Overflow = record { evidence = evidence; place = place; card = card } in
+        let due : IsDue w (stops (OverflowStop own)) more = subst (λ (o : StatementOutcome). IsDue w o more) is given in
+        opened_lands outcome more (MayStop refusals walked) (followed.looks (ap is_open_stop (due.text ∙ due.ends) ∙ open_overflow own (shown_fits question sheet bases evidence place shown) small))
+
     pub may_stop : IsFollowed card (MayStop refusals walked) (MayStop others run)
     may_stop = record { matched = λ small. record { by = lands small }; looks = followed.looks }
       where
-        lands : card ≤ max_count → (outcome : StatementOutcome) (more : List ℕ) → Gives linear_programming card (MayStop others run) outcome → IsDue w outcome more → Lands outcome more (walk_move checker_of_128_bits w (MayStop refusals walked))
+        lands : card ≤ max_count → (outcome : StatementOutcome) (more : List ℕ) → Gives linear_programming_of_128_bits card (MayStop others run) outcome → IsDue w outcome more → Lands outcome more (walk_move checker_of_128_bits w (MayStop refusals walked))
         lands small outcome more (inl gives) given = stops_too outcome more ((followed.matched small).by outcome more gives given) refusals
-        lands small outcome more (inr (evidence, place, holds, is)) given =
-            let own : Overflow = record { evidence = evidence; place = place; card = card } in
-            let due : IsDue w (stops (OverflowStop own)) more = subst (λ (o : StatementOutcome). IsDue w o more) is given in
-            opened_lands outcome more (MayStop refusals walked) (followed.looks (ap is_open_stop (due.text ∙ due.ends.0) ∙ open_overflow own due.ends.1 small))
+        lands small outcome more (inr (evidence, place, shown, is)) given = shown_lands small outcome more evidence place is given others alike shown
 
   -- ---- nothing is asked
 
@@ -305,7 +337,7 @@ module _ (w : Walker) where
   pub selecting : (card : ℕ) (problem : Problem ℕ) (choice : Choice) (go own : LinearProgram → StatementMove) → ((lp : LinearProgram) → selected problem choice ≡ Ok lp → IsFollowed card (go lp) (own lp)) →
       IsFollowed card (selects card problem choice go) (selects card problem choice own)
   selecting card problem choice go own followed =
-      unless_selection_fault card (selected problem choice) _ _ (λ lp e. may_stop card (go lp) (own lp) (InSelection problem choice) (InSelection problem choice) (followed lp e))
+      unless_selection_fault card (selected problem choice) _ _ (λ lp e. may_stop card (go lp) (own lp) (InSelection problem choice) (InSelection problem choice) refl (followed lp e))
 
   -- ---- questions
 
@@ -327,7 +359,7 @@ module _ (w : Walker) where
       matched = λ small. record {
         by = λ outcome more (answer, right, is) given.
             subst (λ (o : StatementOutcome). Lands o more (walk_move checker_of_128_bits w (Asks question sheet s go))) (sym is)
-            (by small answer more right (subst (λ (o : StatementOutcome). IsDue w o more) is given) (open_question w question sheet go) refl (never_question w question sheet go));
+            (by small answer more (right_too question sheet t answer right) (subst (λ (o : StatementOutcome). IsDue w o more) is given) (open_question w question sheet go) refl (never_question w question sheet go));
       };
       looks = question_looks question sheet go;
     }

@@ -35,13 +35,13 @@ use Rattle.walk_definitions.specs.Words.{Parsed, max_count, fraction_in}
 use Rattle.walk_definitions.specs.Tests.{verdict_test}
 use Rattle.walk_definitions.specs.Reading.{Judged, Right, Refuses, by_verdict as judge, tested, judged_map, judged, Claim, verdict_in}
 use Rattle.walk_definitions.specs.Walker.{Pending, Walker, Unchecked, open_question, passed, pending_after, answered}
-use Rattle.own_listing_laws.specs.Fitting.{VerdictFits, CheckFits}
+use Rattle.fitting_answers.specs.Fitting.{VerdictFits, CheckFits, GainFits}
 use Rattle.own_listing_laws.specs.Printed.{IsReadable, IsPrinted}
 use Rattle.own_listing_laws.proofs.Claims.{verdict_read}
 use Rattle.own_listing_laws.proofs.Ended.{IsOf, end_is, dual_end_is, dual_never_unbounded}
 use Rattle.own_listing_laws.proofs.Tests.{Passes, verdict_passes}
 use Rattle.own_listing_laws.proofs.Stops.{open_limit, open_price}
-use Rattle.own_listing_laws.proofs.Pace.{rebased, WaitsFor, WaitsAt, Lands, GainFits, IsDue, AreAlike, WaitsAfter, follows_lands, IsFollowed, may_stop, asked_lands, never_stopped}
+use Rattle.own_listing_laws.proofs.Pace.{rebased, WaitsFor, WaitsAt, Lands, IsDue, AreAlike, WaitsAfter, follows_lands, IsFollowed, may_stop, asked_lands, never_stopped}
 
 -- ---- a test that passes
 
@@ -251,7 +251,7 @@ module _ (w : Walker) (s : State) (opening : Basis) (steps : List Basis) (card :
 
   pub path_followed : IsFollowed w card (asks question sheet set_up go) (asks question sheet present own)
   path_followed =
-      may_stop w card (Asks question sheet (present_basis set_up) go) (Asks question sheet (present_basis present) own) (InAnswer question sheet (path_of set_up)) (InAnswer question sheet (path_of present))
+      may_stop w card (Asks question sheet (present_basis set_up) go) (Asks question sheet (present_basis present) own) (InAnswer question sheet (path_of set_up)) (InAnswer question sheet (path_of present)) tt
       (asked_lands w card question sheet (present_basis set_up) (present_basis present) go own lands)
     where
       lands : card ≤ max_count → (answer : PathEnd) (more : List ℕ) → IsRight linear_programming question sheet (present_basis present) answer → IsDue w (own answer) more → open_question w question sheet go ≡ None →
@@ -259,6 +259,6 @@ module _ (w : Walker) (s : State) (opening : Basis) (steps : List Basis) (card :
       lands small (Reached bases verdict check) more right given none =
           reached_lands bases verdict check more (has_ended solver path sheet (present_basis present) limit bases verdict check (knows_linear_programming.solves solver sheet (present_basis present) limit (Reached bases verdict check) right)) given
       lands small PathLimit more right given none =
-          absurd (never_stopped w card question sheet (present_basis set_up) (present_basis present) go own none (ap is_open_stop (given.text ∙ given.ends.0) ∙ open_limit _ limits small))
+          absurd (never_stopped w card question sheet (present_basis set_up) (present_basis present) go own none (ap is_open_stop (given.text ∙ given.ends) ∙ open_limit _ limits small))
       lands small (PricesWrong j) more right given none =
-          absurd (never_stopped w card question sheet (present_basis set_up) (present_basis present) go own none (ap is_open_stop (given.text ∙ given.ends.0) ∙ open_price _ small (wrong_variable solver path limit j (knows_linear_programming.solves solver sheet (present_basis present) limit (PricesWrong j) right))))
+          absurd (never_stopped w card question sheet (present_basis set_up) (present_basis present) go own none (ap is_open_stop (given.text ∙ given.ends) ∙ open_price _ small (wrong_variable solver path limit j (knows_linear_programming.solves solver sheet (present_basis present) limit (PricesWrong j) right))))

@@ -24,7 +24,7 @@ use Rattle.walk_definitions.specs.Tables.{begins_table_line}
 use Rattle.walk_definitions.specs.Tests.{point_of, verdict_test, solution_test}
 use Rattle.walk_definitions.specs.Reading.{Right, by_verdict, tested, judged_map, judged, Claim}
 use Rattle.walk_definitions.specs.Walker.{settles}
-use Rattle.own_listing_laws.specs.Fitting.{LinesFit, VerdictFits}
+use Rattle.fitting_answers.specs.Fitting.{LinesFit, VerdictFits}
 use Rattle.own_listing_laws.specs.Laws.{IsShownChecked, JudgedRight}
 use Rattle.own_listing_laws.proofs.Claims.{verdict_read}
 use Rattle.own_listing_laws.proofs.Sections.{reported_read}

@@ -20,7 +20,7 @@ use Rattle.walk_definitions.specs.Checkers.{checker_of_128_bits}
 use Rattle.walk_definitions.specs.Words.{Parsed, left_after, with_text, with_word, fraction_in}
 use Rattle.walk_definitions.specs.Tables.{begins_table_line, pair_slots, part_slots, table_in, ray_in}
 use Rattle.walk_definitions.specs.Reading.{row_slots, column_slots, solution_in, interval_in, close_in}
-use Rattle.own_listing_laws.specs.Fitting.{ValuesFit, LinesFit, EndFits}
+use Rattle.fitting_answers.specs.Fitting.{ValuesFit, LinesFit, EndFits}
 use Rattle.own_listing_laws.specs.Printed.{IsEndOf, of_direction, of_ray}
 use Rattle.own_listing_laws.proofs.Spelled.{Gives, text_first, or_else, or_first, not_there, done, fraction_first}
 use Rattle.own_listing_laws.proofs.Tabled.{AllMatch, matched_of, table_read}

@@ -22,7 +22,7 @@ use Rattle.walk_definitions.specs.Forms.{all_operations}
 use Rattle.walk_definitions.specs.Reading.{with_check}
 use Rattle.walk_definitions.proofs.Texts.{drop_text, stands, cut_before}
 use Rattle.walk_definitions.proofs.Numbers.{digits_spell, fraction_of_text}
-use Rattle.own_listing_laws.specs.Fitting.{CheckFits}
+use Rattle.fitting_answers.specs.Fitting.{CheckFits}
 
 -- no blank and no line feed
 abbrev pub IsWord : List ℕ → Type 0

@@ -15,7 +15,7 @@ use Rattle.walk_definitions.specs.Words.{ends_word, word_in, max_count}
 use Rattle.walk_definitions.specs.Forms.{Piece, Text, Count, Fraction, Operation, is_of, left_by, has_form, limit_stop, read_fault, punch_fault, memory_stop, singular_stop, price_stop, overflow_stop, is_open_stop, is_ranges, is_punched, is_inserted, counted_line}
 use Rattle.walk_definitions.proofs.Texts.{stands, drop_text}
 use Rattle.walk_definitions.proofs.Numbers.{fraction_of_text}
-use Rattle.own_listing_laws.specs.Fitting.{OverflowFits}
+use Rattle.fitting_answers.specs.Fitting.{EvidenceFits}
 use Rattle.own_listing_laws.proofs.Spelled.{IsWord, word_is, digits_word, rational_word, count_of_text, operation_word, operation_named}
 
 record Leaves (form : List Piece) (rest after : List ℕ) : Type 0 where
@@ -128,7 +128,7 @@ as_overflow : (formula op left right p q i j term theta card lines : List ℕ) �
     (codes " TERM " ++ (term ++ (codes " THETA " ++ (theta ++ (codes " CARD " ++ (card ++ (10 ∷ lines))))))))))))))))))))))
 as_overflow formula op left right p q i j term theta card lines = simp (append_assoc, append-nil)
 
-pub open_overflow : (overflow : Overflow) → OverflowFits overflow → overflow.card ≤ max_count → is_open_stop (ending_text (OverflowStop overflow)) ≡ true
+pub open_overflow : (overflow : Overflow) → EvidenceFits overflow.evidence → overflow.card ≤ max_count → is_open_stop (ending_text (OverflowStop overflow)) ≡ true
 open_overflow overflow fit card =
     let e = overflow.evidence in
     let lines : List ℕ = codes "BASIS " ++ (basis_text overflow.place ++ (codes "\n" ++ (codes "WAY " ++ (way_text overflow.place ++ (codes "\n" ++ []))))) in

@@ -29,7 +29,7 @@ use Rattle.walk_definitions.specs.Tables.{Slot, AnyCode, AnyNumber, Known, all_c
 use Rattle.walk_definitions.proofs.Texts.{stands, is_text}
 use Rattle.walk_definitions.proofs.Numbers.{fraction_of_text}
 use Rattle.walk_definitions.proofs.Lines.{whole_line}
-use Rattle.own_listing_laws.specs.Fitting.{ValuesFit, LinesFit}
+use Rattle.fitting_answers.specs.Fitting.{ValuesFit, LinesFit}
 use Rattle.own_listing_laws.proofs.Spelled.{IsWord, text_first, word_first, done, rational_word}
 
 -- ---- values

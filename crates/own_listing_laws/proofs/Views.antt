@@ -180,7 +180,7 @@ module _ (w : Walker) (s : State) (opening : Basis) (steps : List Basis) (card :
 
   pub reported_followed : IsFollowed w card (asks (OfSolution mark) sheet set_up go) (asks (OfSolution mark) sheet present own)
   reported_followed =
-      may_stop w card (Asks (OfSolution mark) sheet (present_basis set_up) go) (Asks (OfSolution mark) sheet (present_basis present) own) (InAnswer (OfSolution mark) sheet (path_of set_up)) (InAnswer (OfSolution mark) sheet (path_of present))
+      may_stop w card (Asks (OfSolution mark) sheet (present_basis set_up) go) (Asks (OfSolution mark) sheet (present_basis present) own) (InAnswer (OfSolution mark) sheet (path_of set_up)) (InAnswer (OfSolution mark) sheet (path_of present)) tt
       (asked_lands w card (OfSolution mark) sheet (present_basis set_up) (present_basis present) go own lands)
     where
       lands : card ≤ max_count → (answer : SolutionLines) (more : List ℕ) → IsRight linear_programming (OfSolution mark) sheet (present_basis present) answer → IsDue w (own answer) more → open_question w (OfSolution mark) sheet go ≡ None →

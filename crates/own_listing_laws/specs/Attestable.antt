@@ -35,7 +35,7 @@ use Rattle.walk_definitions.specs.Checkers.{checker_of_128_bits}
 use Rattle.walk_definitions.specs.Forms.{is_open_stop}
 use Rattle.walk_definitions.specs.Walker.{Attested, refuses_selection}
 use Rattle.walk_definitions.specs.Found.{EndsIn}
-use Rattle.own_listing_laws.specs.Fitting.{VerdictFits}
+use Rattle.fitting_answers.specs.Fitting.{VerdictFits}
 use Rattle.own_listing_laws.specs.Laws.{IsShownChecked}
 
 -- a linear program is selected of the setup, and no operation of the selection is refused

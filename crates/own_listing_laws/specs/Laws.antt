@@ -29,7 +29,6 @@ use Rattle.answer_definitions.specs.Verdicts.{IsSolvedBy}
 use Rattle.answer_definitions.specs.Sections.{IsSolutionOf, solution_lines}
 use Rattle.answer_definitions.specs.ParametricRuns.{interval_of, IsChained}
 use Rattle.soundness_laws.specs.ParametricRuns.{ChangesFreely}
-use Rattle.answer_definitions.specs.Real.{linear_programming}
 use Rattle.run_definitions.specs.State.{Present}
 use Rattle.run_definitions.specs.Moves.{printed_by, gain_text, gain_of, StatementOutcome, Goes, Ends, InSelection, StatementMove, MayStop, DecidesAlone}
 use Rattle.run_definitions.specs.Verbs.{asks}
@@ -42,7 +41,9 @@ use Rattle.walk_definitions.specs.Tables.{begins_table_line}
 use Rattle.walk_definitions.specs.Reading.{Judged, Right, Fails, verdict_in, solution_in, interval_in, close_in, judged}
 use Rattle.walk_definitions.specs.Walker.{Walker, Found, Attested, Wrong, Finds, closes, follows, passed, pending_after, refuses_selection, settles, walk_move}
 use Rattle.walk_definitions.specs.Found.{EndsIn}
-use Rattle.own_listing_laws.specs.Fitting.{SlacksFit, LinesFit, VerdictFits, CheckFits, IntervalsFit, EndFits, ReportsFit, StopFits}
+use Rattle.fitting_answers.specs.Real.{linear_programming_of_128_bits}
+use Rattle.fitting_answers.specs.Fitting.{LinesFit, VerdictFits, CheckFits, IntervalsFit, EndFits}
+use Rattle.own_listing_laws.specs.Slacks.{SlacksFit}
 use Rattle.own_listing_laws.specs.Printed.{IsReadable, IsPrinted, IsEndOf}
 
 -- the path has ended optimal at a basis
@@ -139,8 +140,8 @@ pub record WalksOn : Type 0 where
   -- an end that isn't an open stop, where nothing is pending
   pub end : (w : Walker) (ending : Ending) → w.pending ≡ None → w.rest ≡ ending_text ending → is_open_stop w.rest ≡ false → closes w ending ≡ Finds (Attested w.reports)
 
--- The listing of a job's run is never found wrong by the walk, where its fractions have 128 bits and the counts of an overflow's evidence
--- have 32: it is attested, or a line of it can't be attested, or an operation of a test is refused.
+-- The listing of a job's run is never found wrong by the walk, where the answers that the run goes by fit 128 bits: it is attested, or a
+-- line of it can't be attested, or an operation of a test is refused.
 abbrev pub NeverWrong : Type 0
-NeverWrong = (bytes : List ℕ) (reports : List Report) (cards : List (List ℕ)) (ending : Ending) (found : Found) → IsJobRun linear_programming bytes reports cards ending → ReportsFit reports → StopFits ending →
+NeverWrong = (bytes : List ℕ) (reports : List Report) (cards : List (List ℕ)) (ending : Ending) (found : Found) → IsJobRun linear_programming_of_128_bits bytes reports cards ending →
     EndsIn checker_of_128_bits bytes (listing reports ending) found → IsNotWrong found

@@ -1,4 +1,4 @@
-pub mod Fitting
+pub mod Slacks
 pub mod Printed
 pub mod Laws
 pub mod Attestable

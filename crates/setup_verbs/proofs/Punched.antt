@@ -17,7 +17,7 @@ use Rattle.listing_definitions.specs.declared.VerbFault.TheVariants.{NoSetup}
 use Rattle.listing_definitions.specs.Report.{BasisOut}
 use Rattle.listing_definitions.specs.Text.{report_text}
 use Rattle.question_definitions.specs.Answers.{Basis, OfPunch}
-use Rattle.answer_definitions.specs.Real.{linear_programming}
+use Rattle.fitting_answers.specs.Real.{linear_programming_of_128_bits}
 use Rattle.run_definitions.specs.State.{Present, present_basis, State, choice_of}
 use Rattle.run_definitions.specs.Moves.{Punches, StatementOutcome, next, StatementMove, Asks, Gives, or_fault}
 use Rattle.run_definitions.specs.Verbs.{max_counted, selects_present, verb_move}
@@ -39,23 +39,23 @@ go state present lp =
     Asks OfPunch (record { problem = present.problem; lp = lp }) (present_basis present) (λ cards.
     next (Punches (BasisOut present.problem.name (min (length cards) max_counted)) cards) state)
 
-begins : (card : ℕ) (state : State) (outcome : StatementOutcome) → Gives linear_programming card (or_fault card NoSetup state.setup (λ present. selects_present card state present (go state present))) outcome →
-    Gives linear_programming card (verb_move Punch card state) outcome
-unfolding linear_programming verb_move
+begins : (card : ℕ) (state : State) (outcome : StatementOutcome) → Gives linear_programming_of_128_bits card (or_fault card NoSetup state.setup (λ present. selects_present card state present (go state present))) outcome →
+    Gives linear_programming_of_128_bits card (verb_move Punch card state) outcome
+unfolding linear_programming_of_128_bits verb_move
 begins card state outcome g = g
 
 module _ (card : ℕ) (cards : List (List ℕ)) (machine : Machine) where
   pub no_setup : (print punch : SinkState) → machine.setup ≡ None →
-      Performs linear_programming Punch card print print punch punch cards machine machine (refused_act card (Fault NoSetup))
+      Performs linear_programming_of_128_bits Punch card print print punch punch cards machine machine (refused_act card (Fault NoSetup))
   no_setup print punch none =
-      punches_nothing punch IsPresent (Gives linear_programming) Punch card print print cards machine machine (refused_act card (Fault NoSetup))
+      punches_nothing punch IsPresent (Gives linear_programming_of_128_bits) Punch card print print cards machine machine (refused_act card (Fault NoSetup))
       (without_setup Punch card go (begins card) cards machine print none)
 
   module _ (setup : Setup) (is_setup : machine.setup ≡ Some setup) (problem : Problem ℕ) (on_file : filed_under setup.name machine.file ≡ Some problem) where
     pub not_selected : (print punch : SinkState) (refusal : Refusal) → IsUnselected problem (choice_of machine.cells setup.options) refusal →
-        Performs linear_programming Punch card print print punch punch cards machine machine (refused_act card refusal)
+        Performs linear_programming_of_128_bits Punch card print print punch punch cards machine machine (refused_act card refusal)
     not_selected print punch refusal u =
-        punches_nothing punch IsPresent (Gives linear_programming) Punch card print print cards machine machine (refused_act card refusal)
+        punches_nothing punch IsPresent (Gives linear_programming_of_128_bits) Punch card print print cards machine machine (refused_act card refusal)
         (unselected Punch card go (begins card) cards machine setup is_setup problem on_file print refusal u)
 
     module _ (lp : LinearProgram) (ok : selected problem (choice_of machine.cells setup.options) ≡ Ok lp) where
@@ -65,15 +65,15 @@ module _ (card : ℕ) (cards : List (List ℕ)) (machine : Machine) where
       abbrev punched : State → StatementOutcome
       punched state = next (Punches (BasisOut problem.name (min (length deck) max_counted)) deck) state
 
-      gives : {position executed : ℕ} {state : State} → Represents cards machine position executed state → Gives linear_programming card (verb_move Punch card state) (punched state)
-      unfolding linear_programming
+      gives : {position executed : ℕ} {state : State} → Represents cards machine position executed state → Gives linear_programming_of_128_bits card (verb_move Punch card state) (punched state)
+      unfolding linear_programming_of_128_bits
       gives {state = state} s =
           selected_gives Punch card go (begins card) cards machine setup is_setup problem on_file s lp ok (punched state)
           (inl (deck, ap (λ (b : Basis). basis_deck problem lp b) (sym (viewed Punch card go (begins card) cards machine setup is_setup problem on_file s).reached), refl))
 
       -- the punch stops in the deck
       pub deck_cut : (print : SinkState) {punch_old punch_new : SinkState} {T : Type 0} (stop : WriteStop) → Writes {T = T} punch_old punch_new (Err stop) (card_text deck) →
-          Performs linear_programming Punch card print print punch_old punch_new cards machine machine (Err (halt.Punch stop))
+          Performs linear_programming_of_128_bits Punch card print print punch_old punch_new cards machine machine (Err (halt.Punch stop))
       deck_cut print stop punches = λ position executed state s. record {
         report = BasisOut problem.name (min (length deck) max_counted);
         deck = deck;
@@ -91,7 +91,7 @@ module _ (card : ℕ) (cards : List (List ℕ)) (machine : Machine) where
         own_line result prints = writes_same (ap (λ (n : Name). report_text (BasisOut n count)) is_name ∙ ap (λ (k : ℕ). report_text (BasisOut problem.name k)) is_count) prints
 
         pub deck_punched : Writes {T = Unit {0}} print_old print_new (Ok tt) (report_text (BasisOut name count)) →
-            Performs linear_programming Punch card print_old print_new punch_old punch_new cards machine machine (Ok Next)
+            Performs linear_programming_of_128_bits Punch card print_old print_new punch_old punch_new cards machine machine (Ok Next)
         deck_punched prints = λ position executed state s. record {
           gain = Punches (BasisOut problem.name (min (length deck) max_counted)) deck;
           comes = (state, gives s, s);
@@ -101,7 +101,7 @@ module _ (card : ℕ) (cards : List (List ℕ)) (machine : Machine) where
 
         -- the deck is punched, and the print stops in its line
         pub deck_line_cut : (stop : WriteStop) → Writes {T = Unit {0}} print_old print_new (Err stop) (report_text (BasisOut name count)) →
-            Performs linear_programming Punch card print_old print_new punch_old punch_new cards machine machine (Err (halt.Print stop))
+            Performs linear_programming_of_128_bits Punch card print_old print_new punch_old punch_new cards machine machine (Err (halt.Print stop))
         deck_line_cut stop prints = λ position executed state s. record {
           outcome = punched state;
           gives = gives s;

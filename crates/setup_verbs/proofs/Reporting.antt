@@ -21,7 +21,8 @@ use Rattle.run_machine.specs.declared.finding.Finding.{Finding}
 use Rattle.run_machine.specs.declared.finding.Finding.TheVariants.{Overflow}
 use Rattle.setup_verbs.specs.Machines.{Machine}
 use Rattle.run_machine.specs.Ends.{end_view, place_view}
-use Rattle.answer_definitions.specs.Real.{linear_programming}
+use Rattle.fitting_answers.specs.Fitting.{EvidenceFits}
+use Rattle.fitting_answers.specs.Real.{linear_programming_of_128_bits}
 use Rattle.setup_verbs.specs.Standing.{Represents}
 use Rattle.setup_verbs.specs.Statements.{LeadsTo, Executes, Follows}
 use Rattle.run_machine.specs.Findings.{ReportsFinding}
@@ -50,13 +51,13 @@ module _ where
 
   -- an operation is refused, or there is no memory
   pub overflow_tells : (F : Gain → Finding → Type 0) (print : SinkState) (s : Basis) (after : List Basics) (e : Evidence) (result : Result Finding Halt) → IsOverflowAt s after e result →
-      ((place : OwnPlace) → place_view place ≡ record { basis = s; way = waypoint (basics_of s) after e.way } → F Nothing (Overflow e (Some place))) → ReportsFinding F print print result
-  overflow_tells F print s after e _ (reported place is) holds = record { gain = Nothing; holds = holds place is; writes = writes_nothing print tt }
+      ((place : OwnPlace) → place_view place ≡ record { basis = s; way = waypoint (basics_of s) after e.way } → EvidenceFits e → F Nothing (Overflow e (Some place))) → ReportsFinding F print print result
+  overflow_tells F print s after e _ (reported place is fits) holds = record { gain = Nothing; holds = holds place is fits; writes = writes_nothing print tt }
   overflow_tells F print s after e _ no_memory holds = refl
 
 -- the outcome of a statement that comes to an act
-outcome_by : (card : ℕ) (move : StatementMove) (cards : List (List ℕ)) (new : Machine) (position executed : ℕ) (gain : Gain) (then : Act) → Follows linear_programming card move cards new position executed gain then →
-    (outcome : StatementOutcome) × Gives linear_programming card move outcome × (gain_of outcome ≡ gain)
+outcome_by : (card : ℕ) (move : StatementMove) (cards : List (List ℕ)) (new : Machine) (position executed : ℕ) (gain : Gain) (then : Act) → Follows linear_programming_of_128_bits card move cards new position executed gain then →
+    (outcome : StatementOutcome) × Gives linear_programming_of_128_bits card move outcome × (gain_of outcome ≡ gain)
 outcome_by card move cards new position executed gain act.Next f = (next gain f.0, f.1, refl)
 outcome_by card move cards new position executed gain (act.Jump to) f = (jump gain to f.0, f.1, refl)
 outcome_by card move cards new position executed gain (act.Ends end) f = (EndsRun gain (end_view end), f, refl)
@@ -65,9 +66,9 @@ outcome_by card move cards new position executed gain (act.Ends end) f = (EndsRu
 module _ (verb : Verb ℕ) (card : ℕ) (cards : List (List ℕ)) (old : Machine) (F : Gain → Finding → Type 0)
     (new : Finding → Machine) (then : Finding → Act) (no_cards : (gain : Gain) (finding : Finding) → F gain finding → punched_by gain ≡ [])
     (comes : (gain : Gain) (finding : Finding) → F gain finding → (position executed : ℕ) (state : State) → Represents cards old position executed state →
-    LeadsTo linear_programming verb card cards position executed state (new finding) gain (then finding)) where
+    LeadsTo linear_programming_of_128_bits verb card cards position executed state (new finding) gain (then finding)) where
   pub reported_executes : (print_old print_new : SinkState) (finding : Finding) → ReportsFinding F print_old print_new (Ok finding) →
-      Executes linear_programming verb card print_old print_new cards old (new finding) (Ok (then finding))
+      Executes linear_programming_of_128_bits verb card print_old print_new cards old (new finding) (Ok (then finding))
   reported_executes print_old print_new finding t = λ position executed state s. record {
     gain = t.gain;
     no_cards = no_cards t.gain finding t.holds;
@@ -76,7 +77,7 @@ module _ (verb : Verb ℕ) (card : ℕ) (cards : List (List ℕ)) (old : Machine
   }
 
   pub cut_executes : (print_old print_new : SinkState) (any : Machine) (h : Halt) → ReportsFinding F print_old print_new (Err h) →
-      Executes linear_programming verb card print_old print_new cards old any (Err h)
+      Executes linear_programming_of_128_bits verb card print_old print_new cards old any (Err h)
   cut_executes print_old print_new any (halt.Print stop) t = λ position executed state s.
       let o = outcome_by card (verb_move verb card state) cards (new t.finding) position executed t.gain (then t.finding) (comes t.gain t.finding t.holds position executed state s) in
       record {

@@ -26,7 +26,8 @@ use Rattle.listing_definitions.specs.declared.VerbFault.TheVariants.{DeckNotFoun
 use Rattle.listing_definitions.specs.Report.{Inserted}
 use Rattle.listing_definitions.specs.Ending as endings
 use Rattle.question_definitions.specs.Answers.{Basis}
-use Rattle.answer_definitions.specs.Real.{linear_programming}
+use Rattle.fitting_answers.specs.Fitting.{EvidenceFits}
+use Rattle.fitting_answers.specs.Real.{linear_programming_of_128_bits}
 use Rattle.run_definitions.specs.State.{State}
 use Rattle.run_definitions.specs.Moves.{Prints, stops, Gives}
 use Rattle.run_definitions.specs.Verbs.{verb_move}
@@ -82,8 +83,9 @@ IsGiven card problem lp wanted from cards (Err h) = h ≡ halt.NoMemory
 abbrev pub overflow_ending : ℕ → Basis → Basics → Evidence → endings.Ending
 overflow_ending card present way e = endings.OverflowStop (record { evidence = e; place = Some (record { basis = present; way = way }); card = card })
 
+-- its evidence fits
 abbrev pub IsOverflowEnd : {X : Type 0} → ℕ → Basis → Basics → Evidence → Result End X → Type 0
-IsOverflowEnd card present way e (Ok end) = end_view end ≡ overflow_ending card present way e
+IsOverflowEnd card present way e (Ok end) = (end_view end ≡ overflow_ending card present way e) × EvidenceFits e
 IsOverflowEnd card present way e (Err refused) = Unit {0}
 
 module _ (card : ℕ) (setup : Setup) (choice : Choice) (lp : LinearProgram) (s : Basis) (first last : ℕ) (cards : List (List ℕ)) where
@@ -113,6 +115,7 @@ module _ (card : ℕ) (setup : Setup) (choice : Choice) (lp : LinearProgram) (s 
     pub evidence : Evidence
     pub way : Basics
     pub is_refused : InstallRefused lp.matrix (basics_of s) way evidence
+    pub fits : EvidenceFits evidence
     pub is_end : end_view end ≡ overflow_ending card setup.basis way evidence
 
   abbrev pub IsInstalledFor : Result Found Halt → Type 0
@@ -133,14 +136,14 @@ module _ (card : ℕ) (cards : List (List ℕ)) (machine : Machine) where
   -- from each state that the machine shows, the statement prints this line and goes on with this setup
   pub record IsInserted (new : Setup) (deck : Name) (basic next : ℕ) : Type 0 where
     pub comes : (position executed : ℕ) (state : State) → Represents cards machine position executed state →
-        LeadsTo linear_programming Insert card cards position executed state (record machine { setup = Some new; decks_from = next; mark = None }) (Prints (Inserted deck basic)) act.Next
+        LeadsTo linear_programming_of_128_bits Insert card cards position executed state (record machine { setup = Some new; decks_from = next; mark = None }) (Prints (Inserted deck basic)) act.Next
     pub ready : IsReady machine.file new
     pub first : 1 ≤ next
     pub last : next ≤ length cards + 1
 
   -- from each state that the machine shows, the statement ends the run so
   abbrev pub EndsSo : endings.Ending → Type 0
-  EndsSo ending = (position executed : ℕ) (state : State) → Represents cards machine position executed state → Gives linear_programming card (verb_move Insert card state) (stops ending)
+  EndsSo ending = (position executed : ℕ) (state : State) → Represents cards machine position executed state → Gives linear_programming_of_128_bits card (verb_move Insert card state) (stops ending)
 
   -- the run ends with the lines of a dependency, and the problem that has their names is on file
   pub record IsSingularAt (name : Name) (p : LinearProgram) (d : List ℚ) : Type 0 where

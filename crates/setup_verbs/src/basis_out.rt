@@ -1,7 +1,7 @@
 // PUNCH.
 ghost use Rattle.std.specs.Prelude.{ℕ, List, IfSome};
 ghost use Rattle.control_definitions.specs.Program as program;
-ghost use Rattle.answer_definitions.specs.Real.{linear_programming};
+ghost use Rattle.fitting_answers.specs.Real.{linear_programming_of_128_bits};
 ghost use Rattle.setup_verbs.specs.Standing.{IsReady};
 ghost use Rattle.setup_verbs.specs.Statements.{Performs};
 
@@ -27,7 +27,7 @@ pub fn punch_present<E: Engine, P: Sink, U: Sink>(
 ) -> Result<Act, Halt>
     requires { IfSome machine.now.setup (IsReady machine.now.file) }
     ensures { (cards : List (List ℕ)) →
-        Performs linear_programming program.Punch card (P.taken print.old) (P.taken print.new)
+        Performs linear_programming_of_128_bits program.Punch card (P.taken print.old) (P.taken print.new)
         (U.taken punch.old) (U.taken punch.new) cards machine.now machine.now result }
 {
     let Some(setup) = &machine.setup else {

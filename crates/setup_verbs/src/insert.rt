@@ -6,7 +6,7 @@ ghost use Rattle.lp_definitions.specs.Waypoints.{waypoint};
 ghost use Rattle.basis_deck_definitions.specs.Placings.{HasNames};
 ghost use Rattle.basis_deck_definitions.specs.Writing.{basic_columns};
 ghost use Rattle.control_definitions.specs.Program as program;
-ghost use Rattle.answer_definitions.specs.Real.{linear_programming};
+ghost use Rattle.fitting_answers.specs.Real.{linear_programming_of_128_bits};
 ghost use Rattle.setup_verbs.specs.Standing.{IsReady, IsSound};
 ghost use Rattle.setup_verbs.specs.Statements.{Executes};
 ghost use Rattle.problem_file.specs.Filed.{filed_under};
@@ -294,7 +294,7 @@ pub fn insert_basis<E: Engine, P: Sink>(
     card: u32,
 ) -> Result<Act, Halt>
     requires { IsSound cards.now machine.old }
-    ensures acts { Executes linear_programming program.Insert card (P.taken print.old)
+    ensures acts { Executes linear_programming_of_128_bits program.Insert card (P.taken print.old)
         (P.taken print.new) cards.now machine.old machine.new result }
     ensures sound { IsSound cards.now machine.new }
 {

@@ -2,7 +2,7 @@
 ghost use Rattle.std.specs.Prelude.{◌≡◌, ℕ, List, IfOk, IfErr};
 ghost use Rattle.control_definitions.specs.Program as program;
 ghost use Rattle.control_verbs.specs.Views.{options_view};
-ghost use Rattle.answer_definitions.specs.Real.{linear_programming};
+ghost use Rattle.fitting_answers.specs.Real.{linear_programming_of_128_bits};
 ghost use Rattle.setup_verbs.specs.Standing.{IsSound};
 ghost use Rattle.setup_verbs.specs.Statements.{Executes};
 ghost use Rattle.setup_verbs.specs.Opening.{IsOpened, IsNotOpened};
@@ -78,7 +78,7 @@ pub fn set_up<E: Engine, P: Sink>(
     options: &SetupOptions,
 ) -> Result<Act, Halt>
     ensures acts { (cards : List (List ℕ)) →
-        Executes linear_programming (program.Setup (options_view options.now)) card
+        Executes linear_programming_of_128_bits (program.Setup (options_view options.now)) card
         (P.taken print.old) (P.taken print.new) cards machine.old machine.new result }
     ensures sound { (cards : List (List ℕ)) → IsSound cards machine.old →
         IsSound cards machine.new }

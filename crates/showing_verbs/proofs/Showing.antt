@@ -40,7 +40,8 @@ use Rattle.setup_verbs.specs.Machines.{Machine}
 use Rattle.setup_verbs.specs.Kept.{Setup}
 use Rattle.run_machine.specs.declared.selecting.Refusal.TheVariants.{Fault}
 use Rattle.run_machine.specs.Ends.{place_view}
-use Rattle.answer_definitions.specs.Real.{linear_programming}
+use Rattle.fitting_answers.specs.Fitting.{SolutionFits, EvidenceFits}
+use Rattle.fitting_answers.specs.Real.{linear_programming_of_128_bits}
 use Rattle.setup_verbs.specs.Standing.{IsPresent, IsSolved, ShowsSetup, Represents}
 use Rattle.setup_verbs.specs.Statements.{LeadsTo, Executes}
 use Rattle.run_machine.specs.Choosing.{refused_act, IsSelected}
@@ -57,12 +58,13 @@ use Rattle.setup_verbs.proofs.Present.{IsPresentOf, lie_up_to, one_problem, pres
 
 -- they are printed or broken off
 module _ {print_old print_new : SinkState} (sheet : OwnSheet) (s : Basis) (before : List Basics) (mark : Mark) (point prices slack list : List ℚ) (same : list ≡ slack)
-    (is_viewed : IsSolutionOf (sheet_view sheet) s (solution_lines sheet.problem.now sheet.lp.now s point prices slack)) where
+    (is_viewed : IsSolutionOf (sheet_view sheet) s (solution_lines sheet.problem.now sheet.lp.now s point prices slack))
+    (fit : SolutionFits (solution_lines sheet.problem.now sheet.lp.now s point prices slack)) where
   pub lines_reported : Writes {T = Unit {0}} print_old print_new (Ok tt) (report_text (Solution mark (solution_lines sheet.problem.now sheet.lp.now s point prices list))) →
       ReportsFinding (LinesFound (sheet_view sheet) s before mark) print_old print_new (Ok Printed)
   lines_reported writes = record {
     gain = Prints (Solution mark (solution_lines sheet.problem.now sheet.lp.now s point prices slack));
-    holds = viewed is_viewed;
+    holds = viewed is_viewed fit;
     writes = subst (λ (xs : List ℚ). Writes {T = Unit {0}} print_old print_new (Ok tt) (report_text (Solution mark (solution_lines sheet.problem.now sheet.lp.now s point prices xs)))) same writes;
   }
 
@@ -71,14 +73,14 @@ module _ {print_old print_new : SinkState} (sheet : OwnSheet) (s : Basis) (befor
   lines_cut stop writes = record {
     gain = Prints (Solution mark (solution_lines sheet.problem.now sheet.lp.now s point prices slack));
     finding = Printed;
-    holds = viewed is_viewed;
+    holds = viewed is_viewed fit;
     writes = subst (λ (xs : List ℚ). Writes {T = Unit {0}} print_old print_new (Err stop) (report_text (Solution mark (solution_lines sheet.problem.now sheet.lp.now s point prices xs)))) same writes;
   }
 
 pub lines_overflow : (sheet : OwnSheet) (s : Basis) (before after : List Basics) (mark : Mark) (e : Evidence) → SolutionRefused sheet.lp.now before s after e →
-    (place : OwnPlace) → place_view place ≡ record { basis = s; way = waypoint (basics_of s) after e.way } → LinesFound (sheet_view sheet) s before mark Nothing (Overflow e (Some place))
-lines_overflow sheet s before after mark e o place is =
-    overflows (λ earlier lie. subst (λ (p : endings.Place). IsEvidence (SolutionStatement sheet.lp.now) None 0 (earlier ++ s ∷ []) [] e (Some p)) (sym is) (o.shows earlier lie))
+    (place : OwnPlace) → place_view place ≡ record { basis = s; way = waypoint (basics_of s) after e.way } → EvidenceFits e → LinesFound (sheet_view sheet) s before mark Nothing (Overflow e (Some place))
+lines_overflow sheet s before after mark e o place is fit =
+    overflows (λ earlier lie. subst (λ (p : endings.Place). IsEvidence (SolutionStatement sheet.lp.now) None 0 (earlier ++ s ∷ []) [] e (Some p)) (sym is) (o.shows earlier lie)) fit
 
 -- ---- a setup
 
@@ -112,8 +114,8 @@ module _ (file : Filed) {setup old : Setup} (is_old : setup ≡ old) (mark : Mar
 -- ---- the statement
 
 no_cards_by : (problem : Problem ℕ) (setup : Setup) (mark : Mark) (gain : Gain) (finding : Finding) → Shows problem setup mark gain finding → punched_by gain ≡ []
-no_cards_by problem setup mark _ _ (viewed h) = refl
-no_cards_by problem setup mark _ _ (overflows h) = refl
+no_cards_by problem setup mark _ _ (viewed h fit) = refl
+no_cards_by problem setup mark _ _ (overflows h fit) = refl
 
 abbrev sheet_of : Present → LinearProgram → Sheet
 sheet_of present lp = record { problem = present.problem; lp = lp }
@@ -131,20 +133,20 @@ module _ (card : ℕ) (state : State) where
   abbrev go_set_up : Present → StatementMove
   go_set_up present = or_fault card verb_fault.NotSolved state.mark (go_marked present)
 
-  solution_gives : (outcome : StatementOutcome) → Gives linear_programming card (or_fault card verb_fault.NoSetup state.setup go_set_up) outcome → Gives linear_programming card (verb_move SolutionVerb card state) outcome
-  unfolding linear_programming verb_move
+  solution_gives : (outcome : StatementOutcome) → Gives linear_programming_of_128_bits card (or_fault card verb_fault.NoSetup state.setup go_set_up) outcome → Gives linear_programming_of_128_bits card (verb_move SolutionVerb card state) outcome
+  unfolding linear_programming_of_128_bits verb_move
   solution_gives outcome g = g
 
-  gives_no_setup : state.setup ≡ None → Gives linear_programming card (verb_move SolutionVerb card state) (stops (endings.VerbStop (record { fault = verb_fault.NoSetup; card = card })))
+  gives_no_setup : state.setup ≡ None → Gives linear_programming_of_128_bits card (verb_move SolutionVerb card state) (stops (endings.VerbStop (record { fault = verb_fault.NoSetup; card = card })))
   gives_no_setup e = solution_gives (stops (endings.VerbStop (record { fault = verb_fault.NoSetup; card = card }))) (gives_fault card verb_fault.NoSetup state.setup go_set_up e)
 
-  gives_set_up : (present : Present) (outcome : StatementOutcome) → state.setup ≡ Some present → Gives linear_programming card (go_set_up present) outcome → Gives linear_programming card (verb_move SolutionVerb card state) outcome
+  gives_set_up : (present : Present) (outcome : StatementOutcome) → state.setup ≡ Some present → Gives linear_programming_of_128_bits card (go_set_up present) outcome → Gives linear_programming_of_128_bits card (verb_move SolutionVerb card state) outcome
   gives_set_up present outcome e given = solution_gives outcome (gives_found card verb_fault.NoSetup state.setup go_set_up present outcome e given)
 
 pub solution_no_setup : (card : ℕ) (cards : List (List ℕ)) (machine : Machine) (print : SinkState) → machine.setup ≡ None →
-    Executes linear_programming SolutionVerb card print print cards machine machine (refused_act card (Fault verb_fault.NoSetup))
+    Executes linear_programming_of_128_bits SolutionVerb card print print cards machine machine (refused_act card (Fault verb_fault.NoSetup))
 solution_no_setup card cards machine print none =
-    quietly IsPresent (Gives linear_programming) SolutionVerb card cards machine print (λ position executed state s.
+    quietly IsPresent (Gives linear_programming_of_128_bits) SolutionVerb card cards machine print (λ position executed state s.
     gives_no_setup card state (subst (λ (kept : Option Setup). ShowsSetup machine.file kept state.setup) none s.setup))
 
 module _ (card : ℕ) (cards : List (List ℕ)) (old : Machine) (setup : Setup) (is_setup : old.setup ≡ Some setup) (problem : Problem ℕ) (on_file : filed_under setup.name old.file ≡ Some problem) where
@@ -155,13 +157,13 @@ module _ (card : ℕ) (cards : List (List ℕ)) (old : Machine) (setup : Setup) 
     abbrev present : Present
     present = present_with problem setup.options p.opening p.steps
 
-    not_solved : old.mark ≡ None → Gives linear_programming card (verb_move SolutionVerb card state) (stops (endings.VerbStop (record { fault = verb_fault.NotSolved; card = card })))
+    not_solved : old.mark ≡ None → Gives linear_programming_of_128_bits card (verb_move SolutionVerb card state) (stops (endings.VerbStop (record { fault = verb_fault.NotSolved; card = card })))
     not_solved none =
         gives_set_up card state present (stops (endings.VerbStop (record { fault = verb_fault.NotSolved; card = card }))) p.is_viewed
         (gives_fault card verb_fault.NotSolved state.mark (go_marked card state present) (s.mark ∙ none))
 
     module _ (new : Setup) (mark : Mark) (is_mark : old.mark ≡ Some mark) (ok : selected problem (choice_of old.cells setup.options) ≡ Ok setup.lp) (k : IsSameSetup setup new) where
-      marked_gives : (outcome : StatementOutcome) → Gives linear_programming card (go_view card state present mark setup.lp) outcome → Gives linear_programming card (verb_move SolutionVerb card state) outcome
+      marked_gives : (outcome : StatementOutcome) → Gives linear_programming_of_128_bits card (go_view card state present mark setup.lp) outcome → Gives linear_programming_of_128_bits card (verb_move SolutionVerb card state) outcome
       marked_gives outcome g =
           gives_set_up card state present outcome p.is_viewed
           (gives_found card verb_fault.NotSolved state.mark (go_marked card state present) mark outcome (s.mark ∙ is_mark)
@@ -193,35 +195,35 @@ module _ (card : ℕ) (cards : List (List ℕ)) (old : Machine) (setup : Setup) 
           }
 
       pub reported_comes : (gain : Gain) (finding : Finding) → Shows problem setup mark gain finding →
-          LeadsTo linear_programming SolutionVerb card cards position executed state (record old { setup = Some new }) gain (act_of old.cells card finding)
-      unfolding linear_programming
-      reported_comes _ _ (viewed {lines = lines} h) =
-          (state, marked_gives (printed card state mark lines) (inl (lines, subst (λ (b : Basis). IsSolutionOf (record { problem = problem; lp = setup.lp }) b lines) (sym p.reached) h, refl)), still_stands)
-      reported_comes _ _ (overflows {e = e} {place = place} h) =
+          LeadsTo linear_programming_of_128_bits SolutionVerb card cards position executed state (record old { setup = Some new }) gain (act_of old.cells card finding)
+      unfolding linear_programming_of_128_bits
+      reported_comes _ _ (viewed {lines = lines} h fit) =
+          (state, marked_gives (printed card state mark lines) (inl (lines, (subst (λ (b : Basis). IsSolutionOf (record { problem = problem; lp = setup.lp }) b lines) (sym p.reached) h, fit), refl)), still_stands)
+      reported_comes _ _ (overflows {e = e} {place = place} h fit) =
           let same : matrix_of problem ≡ setup.lp.matrix = same_matrix problem (choice_of old.cells setup.options) setup.lp ok in
           marked_gives (stops (endings.OverflowStop (record { evidence = e; place = option_map place_view place; card = card })))
           (inr (
             e,
             option_map place_view place,
-            subst (λ (bs : List Basis). IsEvidence (SolutionStatement setup.lp) None 0 bs [] e (option_map place_view place)) (sym p.ends) (h p.initial (lie_up_to problem setup state.setup p setup.lp same)),
+            (subst (λ (bs : List Basis). IsEvidence (SolutionStatement setup.lp) None 0 bs [] e (option_map place_view place)) (sym p.ends) (h p.initial (lie_up_to problem setup state.setup p setup.lp same)), fit),
             refl,
           ))
 
   module _ where
-    pub solution_not_solved : (print : SinkState) (any : Machine) → old.mark ≡ None → Executes linear_programming SolutionVerb card print print cards old any (refused_act card (Fault verb_fault.NotSolved))
+    pub solution_not_solved : (print : SinkState) (any : Machine) → old.mark ≡ None → Executes linear_programming_of_128_bits SolutionVerb card print print cards old any (refused_act card (Fault verb_fault.NotSolved))
     solution_not_solved print any none =
-        quietly IsPresent (Gives linear_programming) SolutionVerb card cards old print {new = any} (λ position executed state s. not_solved position executed state s none)
+        quietly IsPresent (Gives linear_programming_of_128_bits) SolutionVerb card cards old print {new = any} (λ position executed state s. not_solved position executed state s none)
 
     module _ (print_old print_new : SinkState) (new : Setup) (mark : Mark) (is_mark : old.mark ≡ Some mark) (ok : selected problem (choice_of old.cells setup.options) ≡ Ok setup.lp) (k : IsSameSetup setup new) where
       pub solution_found : (finding : Finding) (then : Act) → then ≡ act_of old.cells card finding → ReportsFinding (Shows problem setup mark) print_old print_new (Ok finding) →
-          Executes linear_programming SolutionVerb card print_old print_new cards old (record old { setup = Some new }) (Ok then)
+          Executes linear_programming_of_128_bits SolutionVerb card print_old print_new cards old (record old { setup = Some new }) (Ok then)
       solution_found finding then e t =
-          subst (λ (a : Act). Executes linear_programming SolutionVerb card print_old print_new cards old (record old { setup = Some new }) (Ok a)) (sym e)
+          subst (λ (a : Act). Executes linear_programming_of_128_bits SolutionVerb card print_old print_new cards old (record old { setup = Some new }) (Ok a)) (sym e)
           (reported_executes SolutionVerb card cards old (Shows problem setup mark) (λ found. record old { setup = Some new }) (act_of old.cells card) (no_cards_by problem setup mark)
           (λ gain found h position executed state s. reported_comes position executed state s new mark is_mark ok k gain found h) print_old print_new finding t)
 
       pub solution_cut : (any : Machine) (h : Halt) → ReportsFinding (Shows problem setup mark) print_old print_new (Err h) →
-          Executes linear_programming SolutionVerb card print_old print_new cards old any (Err h)
+          Executes linear_programming_of_128_bits SolutionVerb card print_old print_new cards old any (Err h)
       solution_cut any h t =
           cut_executes SolutionVerb card cards old (Shows problem setup mark) (λ found. record old { setup = Some new }) (act_of old.cells card) (no_cards_by problem setup mark)
           (λ gain found h position executed state s. reported_comes position executed state s new mark is_mark ok k gain found h) print_old print_new any h t

@@ -18,6 +18,7 @@ use Rattle.listing_definitions.specs.Ending.{Place}
 use Rattle.question_definitions.specs.Answers.{Basis, Sheet}
 use Rattle.answer_definitions.specs.Sections.{IsSolutionOf, IsRanged}
 use Rattle.answer_definitions.specs.Evidence.{IsEvidence}
+use Rattle.fitting_answers.specs.Fitting.{SolutionFits, EvidenceFits}
 use Rattle.basis_values.specs.Calls.{LieIn}
 use Rattle.run_definitions.specs.Moves.{Gain, Nothing, Prints}
 use Rattle.run_machine.specs.declared.end.Place.{Place as OwnPlace}
@@ -35,12 +36,12 @@ module _ (sheet : Sheet) (s : Basis) (before : List Basics) where
       LieIn sheet.lp.matrix before (earlier ++ s ∷ []) →
       IsEvidence (SolutionStatement sheet.lp) None 0 (earlier ++ s ∷ []) [] e place
 
-  -- its lines are printed with the mark; or an operation is refused
+  -- its lines are printed with the mark; or an operation is refused; the numbers that are printed fit
   pub data LinesFound (mark : Mark) : Gain → Finding → Type 0 where
-    viewed : {lines : SolutionLines} → IsSolutionOf sheet s lines →
+    viewed : {lines : SolutionLines} → IsSolutionOf sheet s lines → SolutionFits lines →
         LinesFound mark (Prints (Solution mark lines)) Printed
     overflows : {e : Evidence} {place : Option OwnPlace} →
-        LinesOverflow e (option_map place_view place) → LinesFound mark Nothing (Overflow e place)
+        LinesOverflow e (option_map place_view place) → EvidenceFits e → LinesFound mark Nothing (Overflow e place)
 
 -- those of a setup's present basis, in the linear program that it keeps
 abbrev pub Shows : Problem ℕ → Setup → Mark → Gain → Finding → Type 0
@@ -56,11 +57,11 @@ module _ (sheet : Sheet) (s : Basis) (before : List Basics) where
       LieIn sheet.lp.matrix before (earlier ++ s ∷ []) →
       IsEvidence (RangeStatement sheet.lp) None 0 (earlier ++ s ∷ []) [] e place
 
-  -- its intervals are printed; or an operation is refused
+  -- its intervals are printed; or an operation is refused, whose evidence fits
   pub data RangesFound : Gain → Finding → Type 0 where
     ranged : {lines : RangeLines} → IsRanged sheet s lines → RangesFound (Prints (Ranges lines)) Printed
     stopped : {e : Evidence} {place : Option OwnPlace} →
-        RangesOverflow e (option_map place_view place) → RangesFound Nothing (Overflow e place)
+        RangesOverflow e (option_map place_view place) → EvidenceFits e → RangesFound Nothing (Overflow e place)
 
 -- those of a setup's present basis, in the linear program that it keeps
 abbrev pub ShowsRanges : Problem ℕ → Setup → Gain → Finding → Type 0

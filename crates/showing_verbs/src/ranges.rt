@@ -10,7 +10,7 @@ ghost use Rattle.listing_tables.specs.Sheets.{IsSheet};
 ghost use Rattle.basis_values.specs.Calls.{HasRates, KeepsRates};
 ghost use Rattle.answer_definitions.specs.Sections.{IsRanged};
 ghost use Rattle.verb_answers.specs.Answers.{sheet_view, AreRanged};
-ghost use Rattle.answer_definitions.specs.Real.{linear_programming};
+ghost use Rattle.fitting_answers.specs.Real.{linear_programming_of_128_bits};
 ghost use Rattle.setup_verbs.specs.Standing.{IsReady, IsSolved, IsSound};
 ghost use Rattle.setup_verbs.specs.Statements.{Executes};
 ghost use Rattle.run_machine.specs.Findings.{ReportsFinding};
@@ -134,7 +134,7 @@ pub fn show_ranges<E: Engine, P: Sink>(
     requires solved { IfSome machine.old.mark
         (λ mark. IfSome machine.old.setup (IsSolved mark machine.old.cells.xobj machine.old.cells.xrhs machine.old.file)) }
     ensures acts { (cards : List (List ℕ)) →
-        Executes linear_programming program.Ranging card (P.taken print.old) (P.taken print.new)
+        Executes linear_programming_of_128_bits program.Ranging card (P.taken print.old) (P.taken print.new)
         cards machine.old machine.new result }
     ensures sound { (cards : List (List ℕ)) → IsSound cards machine.old →
         IsSound cards machine.new }

@@ -10,7 +10,7 @@ ghost use Rattle.listing_tables.specs.Sheets.{IsSheet};
 ghost use Rattle.basis_values.specs.Calls.{HasRates, KeepsRates};
 ghost use Rattle.answer_definitions.specs.Sections.{IsSolutionOf};
 ghost use Rattle.verb_answers.specs.Answers.{sheet_view, AreSolutionValues};
-ghost use Rattle.answer_definitions.specs.Real.{linear_programming};
+ghost use Rattle.fitting_answers.specs.Real.{linear_programming_of_128_bits};
 ghost use Rattle.setup_verbs.specs.Standing.{IsReady, IsSolved, IsSound};
 ghost use Rattle.setup_verbs.specs.Statements.{Executes};
 ghost use Rattle.run_machine.specs.Findings.{ReportsFinding};
@@ -21,6 +21,7 @@ use listing_definitions::{Mark, VerbFault};
 use listing_tables::Sheet;
 use lp_model::{Basis, Engine, Rates, Stop};
 use problem_file::ProblemFile;
+use report_sizes::recall_solution;
 use report_text::{Report, text_of};
 use run_machine::{Act, Finding, Halt, Machine, Refusal, act_of};
 use setup_verbs::{Setup, overflow_at};
@@ -45,6 +46,7 @@ fn print_lines<P: Sink>(
         ReportsFinding (LinesFound (sheet_view sheet.entry) basis.now before mark)
         (P.taken print.old) (P.taken print.new) result }
 {
+    recall_solution(sheet, basis, &viewed.point, &viewed.prices, &viewed.slack);
     let report = Report::Solution {
         mark,
         sheet,
@@ -126,7 +128,7 @@ pub fn show_solution<E: Engine, P: Sink>(
     requires solved { IfSome machine.old.mark
         (λ mark. IfSome machine.old.setup (IsSolved mark machine.old.cells.xobj machine.old.cells.xrhs machine.old.file)) }
     ensures acts { (cards : List (List ℕ)) →
-        Executes linear_programming program.Solution card (P.taken print.old) (P.taken print.new)
+        Executes linear_programming_of_128_bits program.Solution card (P.taken print.old) (P.taken print.new)
         cards machine.old machine.new result }
     ensures sound { (cards : List (List ℕ)) → IsSound cards machine.old →
         IsSound cards machine.new }

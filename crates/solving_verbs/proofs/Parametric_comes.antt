@@ -14,7 +14,8 @@ use Rattle.listing_definitions.specs.declared.VerbFault.TheVariants.{NoSetup, No
 use Rattle.listing_definitions.specs.Report.{Solved}
 use Rattle.listing_definitions.specs.Ending as endings
 use Rattle.question_definitions.specs.Answers.{Basis, Sheet, Changing, parametric_solver, ParametricRun, OfParametricRun, ParametricRunEnd, Opening, Chained, ParametricRunLimit}
-use Rattle.answer_definitions.specs.Real.{linear_programming}
+use Rattle.fitting_answers.specs.Fitting.{EvidenceFits, ParametricRunEndFits}
+use Rattle.fitting_answers.specs.Real.{linear_programming_of_128_bits}
 use Rattle.answer_definitions.specs.ParametricRuns.{IsParametricRun}
 use Rattle.answer_definitions.specs.Evidence.{OverflowsAt}
 use Rattle.run_definitions.specs.State.{Present, State, choice_of, gone_through}
@@ -48,10 +49,10 @@ no_cards_by : (problem : Problem ℕ) (cells : Cells) (verb : ParametricVerb) (s
 no_cards_by problem cells verb setup new _ _ (unselected h) = refl
 no_cards_by problem cells verb setup new _ _ (too_large h) = refl
 no_cards_by problem cells verb setup new _ _ (not_asked ok h) = refl
-no_cards_by problem cells verb setup new _ _ (run_through ok a e f (opened r)) = refl
-no_cards_by problem cells verb setup new _ _ (run_through ok a e f (chained r)) = refl
+no_cards_by problem cells verb setup new _ _ (run_through ok a e f (opened r fit)) = refl
+no_cards_by problem cells verb setup new _ _ (run_through ok a e f (chained r fit)) = refl
 no_cards_by problem cells verb setup new _ _ (run_through ok a e f (at_limit r)) = refl
-no_cards_by problem cells verb setup new _ _ (run_through ok a e f (overflows r)) = refl
+no_cards_by problem cells verb setup new _ _ (run_through ok a e f (overflows r fit)) = refl
 
 -- ---- the verb's tests
 
@@ -81,19 +82,19 @@ module _ (verb : ParametricVerb) (card : ℕ) (state : State) (present : Present
   abbrev with_setup : StatementMove
   with_setup = or_selection_fault card (selected present.problem (choice_of state.cells present.options)) parametric_run_move
 
-  asked_gives : (lp : LinearProgram) (parametric_run : ParametricRun) → IsAsked verb present.problem state.cells parametric_run → (outcome : StatementOutcome) → Gives linear_programming card (run_move lp parametric_run) outcome → Gives linear_programming card (tested_move lp) outcome
+  asked_gives : (lp : LinearProgram) (parametric_run : ParametricRun) → IsAsked verb present.problem state.cells parametric_run → (outcome : StatementOutcome) → Gives linear_programming_of_128_bits card (run_move lp parametric_run) outcome → Gives linear_programming_of_128_bits card (tested_move lp) outcome
   asked_gives lp parametric_run a outcome g =
       let same : parametric_run ≡ record { changing = parametric_run.changing; from = state.cells.xparam; to = parametric_run.to; limit = steps_allowed state.cells } =
       λ i. record { changing = parametric_run.changing; from = a.is_first i; to = parametric_run.to; limit = a.is_limit i } in
       gives_found card (change_fault verb) (option_and_then (change_of verb present.problem) (name_moved verb state.cells)) (with_change lp) parametric_run.changing outcome a.changes
       (gives_found card NoParmax state.cells.xparmax (with_last lp parametric_run.changing) a.is_last.last outcome a.is_last.is_moved
       (gives_found card ParmaxBelow (not_less state.cells.xparam a.is_last.last) (up_to lp parametric_run.changing) parametric_run.to outcome a.is_last.is_last
-      (subst (λ (s : ParametricRun). Gives linear_programming card (run_move lp s) outcome) same g)))
+      (subst (λ (s : ParametricRun). Gives linear_programming_of_128_bits card (run_move lp s) outcome) same g)))
 
   abbrev faulted : VerbFault → StatementOutcome
   faulted fault = stops (endings.VerbStop (record { fault = fault; card = card }))
 
-  refused_gives : (lp : LinearProgram) (fault : VerbFault) → IsAskFault verb present.problem state.cells fault → Gives linear_programming card (tested_move lp) (faulted fault)
+  refused_gives : (lp : LinearProgram) (fault : VerbFault) → IsAskFault verb present.problem state.cells fault → Gives linear_programming_of_128_bits card (tested_move lp) (faulted fault)
   refused_gives lp _ (no_change none) = gives_fault card (change_fault verb) (option_and_then (change_of verb present.problem) (name_moved verb state.cells)) (with_change lp) none
   refused_gives lp _ (no_value {changing = changing} changes (no_last none)) =
       gives_found card (change_fault verb) (option_and_then (change_of verb present.problem) (name_moved verb state.cells)) (with_change lp) changing (faulted NoParmax) changes
@@ -103,16 +104,16 @@ module _ (verb : ParametricVerb) (card : ℕ) (state : State) (present : Present
       (gives_found card NoParmax state.cells.xparmax (with_last lp changing) last (faulted ParmaxBelow) moved
       (gives_fault card ParmaxBelow (not_less state.cells.xparam last) (up_to lp changing) less))
 
-parametric_run_gives : (verb : ParametricVerb) (card : ℕ) (state : State) (outcome : StatementOutcome) → Gives linear_programming card (or_fault card NoSetup state.setup (with_setup verb card state)) outcome →
-    Gives linear_programming card (verb_move (verb_of verb) card state) outcome
-unfolding linear_programming verb_move
+parametric_run_gives : (verb : ParametricVerb) (card : ℕ) (state : State) (outcome : StatementOutcome) → Gives linear_programming_of_128_bits card (or_fault card NoSetup state.setup (with_setup verb card state)) outcome →
+    Gives linear_programming_of_128_bits card (verb_move (verb_of verb) card state) outcome
+unfolding linear_programming_of_128_bits verb_move
 parametric_run_gives Paraobj card state outcome g = g
 parametric_run_gives Pararhs card state outcome g = g
 
 pub parametric_run_no_setup : (verb : ParametricVerb) (card : ℕ) (cards : List (List ℕ)) (machine : Machine) (print : SinkState) → machine.setup ≡ None →
-    Executes linear_programming (verb_of verb) card print print cards machine machine (refused_act card (Fault NoSetup))
+    Executes linear_programming_of_128_bits (verb_of verb) card print print cards machine machine (refused_act card (Fault NoSetup))
 parametric_run_no_setup verb card cards machine print none =
-    quietly IsPresent (Gives linear_programming) (verb_of verb) card cards machine print (λ position executed state s.
+    quietly IsPresent (Gives linear_programming_of_128_bits) (verb_of verb) card cards machine print (λ position executed state s.
     parametric_run_gives verb card state (stops (endings.VerbStop (record { fault = NoSetup; card = card })))
     (gives_fault card NoSetup state.setup (with_setup verb card state) (subst (λ (kept : Option Setup). ShowsSetup machine.file kept state.setup) none s.setup)))
 
@@ -129,29 +130,29 @@ module _ (verb : ParametricVerb) (card : ℕ) (cards : List (List ℕ)) (old : M
   abbrev after : Cells → Machine
   after cells = record old { setup = Some new; mark = None; cells = cells }
 
-  setup_gives : (outcome : StatementOutcome) → Gives linear_programming card (with_setup verb card state present) outcome → Gives linear_programming card (verb_move (verb_of verb) card state) outcome
+  setup_gives : (outcome : StatementOutcome) → Gives linear_programming_of_128_bits card (with_setup verb card state present) outcome → Gives linear_programming_of_128_bits card (verb_move (verb_of verb) card state) outcome
   setup_gives outcome g = parametric_run_gives verb card state outcome (gives_found card NoSetup state.setup (with_setup verb card state) present outcome p.is_viewed g)
 
-  selected_gives : (lp : LinearProgram) → selected problem (choice_of old.cells setup.options) ≡ Ok lp → (outcome : StatementOutcome) → Gives linear_programming card (parametric_run_move verb card state present lp) outcome →
-      Gives linear_programming card (verb_move (verb_of verb) card state) outcome
+  selected_gives : (lp : LinearProgram) → selected problem (choice_of old.cells setup.options) ≡ Ok lp → (outcome : StatementOutcome) → Gives linear_programming_of_128_bits card (parametric_run_move verb card state present lp) outcome →
+      Gives linear_programming_of_128_bits card (verb_move (verb_of verb) card state) outcome
   selected_gives lp ok outcome g =
       setup_gives outcome (gives_selected card (selected problem (choice_of state.cells setup.options)) (parametric_run_move verb card state present) lp outcome
       (ap (λ (c : Cells). selected problem (choice_of c setup.options)) s.cells ∙ ok) g)
 
-  fault_gives : (fault : VerbFault) → HasSelectionFault problem (choice_of old.cells setup.options) fault → Gives linear_programming card (verb_move (verb_of verb) card state) (faulted verb card state present fault)
+  fault_gives : (fault : VerbFault) → HasSelectionFault problem (choice_of old.cells setup.options) fault → Gives linear_programming_of_128_bits card (verb_move (verb_of verb) card state) (faulted verb card state present fault)
   fault_gives fault h =
       setup_gives (faulted verb card state present fault)
       (gives_unselected card (selected problem (choice_of state.cells setup.options)) (parametric_run_move verb card state present) h.why fault
       (ap (λ (c : Cells). selected problem (choice_of c setup.options)) s.cells ∙ h.is_refused) h.is_fault)
 
   selection_gives : (e : Evidence) → HasSelectionOverflow problem (choice_of old.cells setup.options) e →
-      Gives linear_programming card (verb_move (verb_of verb) card state) (stops (endings.OverflowStop (record { evidence = e; place = None; card = card })))
+      Gives linear_programming_of_128_bits card (verb_move (verb_of verb) card state) (stops (endings.OverflowStop (record { evidence = e; place = None; card = card })))
   selection_gives e h =
       selected_gives h.lp h.is_selected (stops (endings.OverflowStop (record { evidence = e; place = None; card = card })))
       (inr (e, None, (subst (λ (c : Cells). SelectionOverflows problem (choice_of c setup.options) e None) (sym s.cells) (h.is_refusal, refl)), refl))
 
   not_asked_gives : (lp : LinearProgram) → selected problem (choice_of old.cells setup.options) ≡ Ok lp → (fault : VerbFault) → IsAskFault verb problem old.cells fault →
-      Gives linear_programming card (verb_move (verb_of verb) card state) (faulted verb card state present fault)
+      Gives linear_programming_of_128_bits card (verb_move (verb_of verb) card state) (faulted verb card state present fault)
   not_asked_gives lp ok fault h =
       selected_gives lp ok (faulted verb card state present fault)
       (inl (refused_gives verb card state present lp fault (subst (λ (c : Cells). IsAskFault verb problem c fault) (sym s.cells) h)))
@@ -160,27 +161,30 @@ module _ (verb : ParametricVerb) (card : ℕ) (cards : List (List ℕ)) (old : M
     abbrev sheet : Sheet
     sheet = record { problem = problem; lp = lp }
 
-    run_gives : (outcome : StatementOutcome) → Gives linear_programming card (run_move verb card state present lp parametric_run) outcome → Gives linear_programming card (verb_move (verb_of verb) card state) outcome
+    run_gives : (outcome : StatementOutcome) → Gives linear_programming_of_128_bits card (run_move verb card state present lp parametric_run) outcome → Gives linear_programming_of_128_bits card (verb_move (verb_of verb) card state) outcome
     run_gives outcome g =
         selected_gives lp ok outcome
         (inl (asked_gives verb card state present lp parametric_run (subst (λ (c : Cells). IsAsked verb problem c parametric_run) (sym s.cells) a) outcome g))
 
-    run_through_gives : (answer : ParametricRunEnd) → IsParametricRun sheet setup.basis parametric_run answer → Gives linear_programming card (verb_move (verb_of verb) card state) (after_parametric_run card parametric_run present state answer)
-    unfolding linear_programming
-    run_through_gives answer right =
+    run_through_gives : (answer : ParametricRunEnd) → IsParametricRun sheet setup.basis parametric_run answer → ParametricRunEndFits answer → Gives linear_programming_of_128_bits card (verb_move (verb_of verb) card state) (after_parametric_run card parametric_run present state answer)
+    unfolding linear_programming_of_128_bits
+    run_through_gives answer right fit =
         run_gives (after_parametric_run card parametric_run present state answer)
-        (inl (answer, subst (λ (b : Basis). IsParametricRun sheet b parametric_run answer) (sym p.reached) right, refl))
+        (inl (answer, (subst (λ (b : Basis). IsParametricRun sheet b parametric_run answer) (sym p.reached) right, fit), refl))
 
-    overflow_gives : (e : Evidence) (place : Option endings.Place) → ParametricRunOverflows sheet setup.basis new.basis parametric_run setup.engine.waypoints new.engine.waypoints e place →
-        Gives linear_programming card (verb_move (verb_of verb) card state) (stops (endings.OverflowStop (record { evidence = e; place = place; card = card })))
-    unfolding linear_programming
-    overflow_gives e place h =
+    overflow_gives : (e : Evidence) (place : Option endings.Place) → ParametricRunOverflows sheet setup.basis new.basis parametric_run setup.engine.waypoints new.engine.waypoints e place → EvidenceFits e →
+        Gives linear_programming_of_128_bits card (verb_move (verb_of verb) card state) (stops (endings.OverflowStop (record { evidence = e; place = place; card = card })))
+    unfolding linear_programming_of_128_bits
+    overflow_gives e place h fit =
         run_gives (stops (endings.OverflowStop (record { evidence = e; place = place; card = card })))
         (inr (
           e,
           place,
-          subst (λ (bs : List Basis). OverflowsAt (OfParametricRun parametric_run) sheet bs e place) (sym p.ends)
-              (h p.initial (lie_up_to problem setup state.setup p lp (same_matrix problem (choice_of old.cells setup.options) lp ok))),
+          (
+            subst (λ (bs : List Basis). OverflowsAt (OfParametricRun parametric_run) sheet bs e place) (sym p.ends)
+                (h p.initial (lie_up_to problem setup state.setup p lp (same_matrix problem (choice_of old.cells setup.options) lp ok))),
+            fit,
+          ),
           refl,
         ))
 
@@ -199,23 +203,23 @@ module _ (verb : ParametricVerb) (card : ℕ) (cards : List (List ℕ)) (old : M
         }
 
   pub found_comes : (gain : Gain) (finding : Finding) → ParametricRuns problem old.cells verb setup new gain finding →
-      LeadsTo linear_programming (verb_of verb) card cards position executed state (after (cells_left finding old.cells)) gain (act_of (cells_left finding old.cells) card finding)
+      LeadsTo linear_programming_of_128_bits (verb_of verb) card cards position executed state (after (cells_left finding old.cells)) gain (act_of (cells_left finding old.cells) card finding)
   found_comes _ _ (unselected {fault = fault} h) = fault_gives fault h
   found_comes _ _ (too_large {e = e} h) = selection_gives e h
   found_comes _ _ (not_asked {lp = lp} {fault = fault} ok h) = not_asked_gives lp ok fault h
-  found_comes _ _ (run_through {lp = lp} {parametric_run = parametric_run} ok a same_name same_options (opened {bases = bases} {verdict = verdict} {check = check} r)) =
+  found_comes _ _ (run_through {lp = lp} {parametric_run = parametric_run} ok a same_name same_options (opened {bases = bases} {verdict = verdict} {check = check} r fit)) =
       verdict_comes card cards (after old.cells) position executed (verb_move (verb_of verb) card state) (Solved (parametric_solver parametric_run.changing) verdict check) (record state { setup = Some (gone_through bases present); mark = None })
       (after_stands lp ok parametric_run a same_name same_options bases (Opening bases verdict check) r state.cells old.cells s.cells) old.cells demands s.cells (mark_of verdict)
-      (run_through_gives lp ok parametric_run a (Opening bases verdict check) r.reaches)
-  found_comes _ _ (run_through {lp = lp} {parametric_run = parametric_run} ok a same_name same_options (chained {bases = bases} {intervals = intervals} {end = end} r)) = (
+      (run_through_gives lp ok parametric_run a (Opening bases verdict check) r.reaches fit)
+  found_comes _ _ (run_through {lp = lp} {parametric_run = parametric_run} ok a same_name same_options (chained {bases = bases} {intervals = intervals} {end = end} r fit)) = (
     record state { setup = Some (gone_through bases present); mark = None; cells = record (state.cells) { xparam = last_value end } },
-    run_through_gives lp ok parametric_run a (Chained bases intervals end) r.reaches,
+    run_through_gives lp ok parametric_run a (Chained bases intervals end) r.reaches fit,
     after_stands lp ok parametric_run a same_name same_options bases (Chained bases intervals end) r (record (state.cells) { xparam = last_value end }) (record (old.cells) { xparam = last_value end })
         (ap (λ (c : Cells). record c { xparam = last_value end }) s.cells),
   )
   found_comes _ _ (run_through {lp = lp} {parametric_run = parametric_run} ok a same_name same_options (at_limit right)) =
-      subst (λ (c : Cells). Gives linear_programming card (verb_move (verb_of verb) card state) (stops (endings.LimitStop (record { limit = steps_allowed c; card = card })))) s.cells (run_through_gives lp ok parametric_run a ParametricRunLimit right)
-  found_comes _ _ (run_through {lp = lp} {parametric_run = parametric_run} ok a same_name same_options (overflows {e = e} {place = place} h)) = overflow_gives lp ok parametric_run a e (option_map place_view place) h
+      subst (λ (c : Cells). Gives linear_programming_of_128_bits card (verb_move (verb_of verb) card state) (stops (endings.LimitStop (record { limit = steps_allowed c; card = card })))) s.cells (run_through_gives lp ok parametric_run a ParametricRunLimit right tt)
+  found_comes _ _ (run_through {lp = lp} {parametric_run = parametric_run} ok a same_name same_options (overflows {e = e} {place = place} h fit)) = overflow_gives lp ok parametric_run a e (option_map place_view place) h fit
 
 module _ (verb : ParametricVerb) (card : ℕ) (print_old print_new : SinkState) (cards : List (List ℕ)) (old : Machine) (setup new : Setup) (is_setup : old.setup ≡ Some setup)
     (ready : IsReady old.file setup) (demands : AreDemands old.cells) where
@@ -224,16 +228,16 @@ module _ (verb : ParametricVerb) (card : ℕ) (print_old print_new : SinkState) 
 
   pub parametric_run_found : (finding : Finding) (cells : Cells) (then : Act) → cells ≡ cells_left finding old.cells → then ≡ act_of cells card finding →
       ReportsFinding (ParametricRuns ready.problem old.cells verb setup new) print_old print_new (Ok finding) →
-      Executes linear_programming (verb_of verb) card print_old print_new cards old (record old { setup = Some new; mark = None; cells = cells }) (Ok then)
+      Executes linear_programming_of_128_bits (verb_of verb) card print_old print_new cards old (record old { setup = Some new; mark = None; cells = cells }) (Ok then)
   parametric_run_found finding cells then e f t =
-      subst (λ (a : Act). Executes linear_programming (verb_of verb) card print_old print_new cards old (record old { setup = Some new; mark = None; cells = cells }) (Ok a)) (sym f)
-      (subst (λ (c : Cells). Executes linear_programming (verb_of verb) card print_old print_new cards old (record old { setup = Some new; mark = None; cells = c }) (Ok (act_of c card finding))) (sym e)
+      subst (λ (a : Act). Executes linear_programming_of_128_bits (verb_of verb) card print_old print_new cards old (record old { setup = Some new; mark = None; cells = cells }) (Ok a)) (sym f)
+      (subst (λ (c : Cells). Executes linear_programming_of_128_bits (verb_of verb) card print_old print_new cards old (record old { setup = Some new; mark = None; cells = c }) (Ok (act_of c card finding))) (sym e)
       (reported_executes (verb_of verb) card cards old (ParametricRuns ready.problem old.cells verb setup new) left_by (λ found. act_of (cells_left found old.cells) card found)
       (no_cards_by ready.problem old.cells verb setup new)
       (λ gain found h position executed state s. found_comes verb card cards old setup new is_setup ready.problem ready.on_file demands position executed state s gain found h) print_old print_new finding t))
 
   pub parametric_run_cut : (any : Machine) (h : Halt) → ReportsFinding (ParametricRuns ready.problem old.cells verb setup new) print_old print_new (Err h) →
-      Executes linear_programming (verb_of verb) card print_old print_new cards old any (Err h)
+      Executes linear_programming_of_128_bits (verb_of verb) card print_old print_new cards old any (Err h)
   parametric_run_cut any h t =
       cut_executes (verb_of verb) card cards old (ParametricRuns ready.problem old.cells verb setup new) left_by (λ found. act_of (cells_left found old.cells) card found)
       (no_cards_by ready.problem old.cells verb setup new)

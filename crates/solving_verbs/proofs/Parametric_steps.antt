@@ -32,7 +32,8 @@ use Rattle.question_definitions.specs.Answers.{Basis, parametric_solver, changin
 use Rattle.answer_definitions.specs.ParametricRuns.{shifts_of, sheet_at, interval_of, end_of}
 use Rattle.answer_definitions.specs.Evidence.{OverflowsAt}
 use Rattle.listing_tables.specs.declared.sheet.Sheet.{Sheet as OwnSheet}
-use Rattle.report_text.specs.Parametric.{chain_view}
+use Rattle.fitting_answers.specs.Fitting.{VerdictFits, CheckFits, IntervalsFit, EndFits, EvidenceFits}
+use Rattle.report_text.specs.Parametric.{interval_view, end_view, chain_view}
 use Rattle.report_text.specs.Verdicts.{verdict_view, check_view}
 use Rattle.parametric_run.specs.Calls as calls
 use Rattle.verb_answers.specs.Reports.{sheet_view}
@@ -74,14 +75,15 @@ module _ (sheet : OwnSheet) (parametric_run : ParametricRun) (s now : Basis) (be
   Finds = ParametricRunFinds (sheet_view sheet) s now parametric_run before after
 
   -- a verdict on the opening
-  module _ (outcome : Outcome) (a : IsAnswered sheet parametric_run s now before after (record { report = para_reports.Opening outcome; refused = refused })) where
+  module _ (outcome : Outcome) (a : IsAnswered sheet parametric_run s now before after (record { report = para_reports.Opening outcome; refused = refused }))
+      (fit : VerdictFits (verdict_view sheet outcome) × CheckFits (check_view refused)) where
     abbrev verdict : Gain
     verdict = Prints (Solved by (verdict_view sheet outcome) (check_view refused))
 
     opening_found : Finds verdict (Ended (mark_of (verdict_view sheet outcome)))
     opening_found =
         subst (λ (b : Solver). Finds (Prints (Solved b (verdict_view sheet outcome) (check_view refused))) (Ended (mark_of (verdict_view sheet outcome)))) (sym named)
-        (opened {bases = a.bases} (record { reaches = a.run_through; leads = a.leads; lie = a.lie }))
+        (opened {bases = a.bases} (record { reaches = a.run_through; leads = a.leads; lie = a.lie }) fit)
 
     module _ (print_old print_new : SinkState) where
       pub opening_reported : (mark : Mark) → mark ≡ mark_of (verdict_view sheet outcome) → Writes {T = Unit {0}} print_old print_new (Ok tt) (report_text (Solved by (verdict_view sheet outcome) (check_view refused))) →
@@ -94,7 +96,8 @@ module _ (sheet : OwnSheet) (parametric_run : ParametricRun) (s now : Basis) (be
 
   -- the intervals and their end
   module _ (run : ParaRun) (a : IsAnswered sheet parametric_run s now before after (record { report = para_reports.Run run; refused = refused })) (change : Name) (from to : ℚ)
-      (changes : change ≡ changing_name parametric_run.changing) (begins : from ≡ parametric_run.from) (goes : to ≡ parametric_run.to) where
+      (changes : change ≡ changing_name parametric_run.changing) (begins : from ≡ parametric_run.from) (goes : to ≡ parametric_run.to)
+      (fit : IntervalsFit (map (interval_view sheet) run.parts) × EndFits (end_view sheet to run.end)) where
     abbrev intervals : Gain
     intervals = Prints (Parametric by (chain_view sheet change from to run))
 
@@ -117,7 +120,7 @@ module _ (sheet : OwnSheet) (parametric_run : ParametricRun) (s now : Basis) (be
         subst (λ (v : ℚ). Finds intervals (RanThrough v)) (same_last ∙ sym e)
         (subst (λ (c : Chain). Finds (Prints (Parametric by c)) (RanThrough (last_value (end_of (sheet_view sheet) parametric_run.to (calls.end_of run.end))))) same_chain
         (subst (λ (b : Solver). Finds (Prints (Parametric b whole)) (RanThrough (last_value (end_of (sheet_view sheet) parametric_run.to (calls.end_of run.end))))) (sym named)
-        (chained {bases = a.bases} (record { reaches = a.run_through; leads = a.leads; lie = a.lie }))))
+        (chained {bases = a.bases} (record { reaches = a.run_through; leads = a.leads; lie = a.lie }) (subst (λ (c : Chain). IntervalsFit c.intervals × EndFits c.end) (sym same_chain) fit))))
 
     module _ (print_old print_new : SinkState) where
       pub chain_reported : (value : ℚ) → value ≡ value_left to run.end → Writes {T = Unit {0}} print_old print_new (Ok tt) (report_text (Parametric by (chain_view sheet change from to run))) →
@@ -143,26 +146,26 @@ module _ (sheet : OwnSheet) (parametric_run : ParametricRun) (s now : Basis) (be
       by (inl there) = there.is_way
       by (inr limit) = absurd (other (unplaced_limit (sheet_view sheet) (s ∷ []) parametric_run e (limit.overflows [])))
 
-  at_limit_formula : e.formula ≡ 13 → Stops Nothing (Overflow e None)
-  at_limit_formula is = overflows {place = None} (λ earlier lie. by o earlier (λ there. placed_apart (sheet_view sheet) (earlier ++ s ∷ []) parametric_run e _ (there.overflows earlier lie) is))
+  at_limit_formula : e.formula ≡ 13 → EvidenceFits e → Stops Nothing (Overflow e None)
+  at_limit_formula is fit = overflows {place = None} (λ earlier lie. by o earlier (λ there. placed_apart (sheet_view sheet) (earlier ++ s ∷ []) parametric_run e _ (there.overflows earlier lie) is)) fit
     where
       by : RunOverflowsThere sheet parametric_run s now before after e ⊎ LimitOverflows sheet parametric_run s now before after e → (earlier : List Basis) → (RunOverflowsThere sheet parametric_run s now before after e → ⊥) →
           OverflowsAt (OfParametricRun parametric_run) (sheet_view sheet) (earlier ++ s ∷ []) e None
       by (inl there) earlier apart = absurd (apart there)
       by (inr limit) earlier apart = limit.overflows earlier
 
-  at_place : e.formula ≢ 13 → (place : OwnPlace) → place_view place ≡ record { basis = now; way = waypoint (basics_of now) after e.way } → Stops Nothing (Overflow e (Some place))
-  at_place other place is = by o
+  at_place : e.formula ≢ 13 → (place : OwnPlace) → place_view place ≡ record { basis = now; way = waypoint (basics_of now) after e.way } → EvidenceFits e → Stops Nothing (Overflow e (Some place))
+  at_place other place is fit = by o
     where
       by : RunOverflowsThere sheet parametric_run s now before after e ⊎ LimitOverflows sheet parametric_run s now before after e → Stops Nothing (Overflow e (Some place))
-      by (inl there) = overflows (λ earlier lie. subst (λ (p : endings.Place). OverflowsAt (OfParametricRun parametric_run) (sheet_view sheet) (earlier ++ s ∷ []) e (Some p)) (sym is) (there.overflows earlier lie))
+      by (inl there) = overflows (λ earlier lie. subst (λ (p : endings.Place). OverflowsAt (OfParametricRun parametric_run) (sheet_view sheet) (earlier ++ s ∷ []) e (Some p)) (sym is) (there.overflows earlier lie)) fit
       by (inr limit) = absurd (other (unplaced_limit (sheet_view sheet) (s ∷ []) parametric_run e (limit.overflows [])))
 
-  pub run_overflow_tells : (print : SinkState) (result : Result Finding Halt) → IsRunOverflow now after e result → ReportsFinding Stops print print result
-  run_overflow_tells print result reported = by (ℕ_discrete e.formula 13)
+  pub run_overflow_tells : (print : SinkState) (result : Result Finding Halt) → IsRunOverflow now after e result → EvidenceFits e → ReportsFinding Stops print print result
+  run_overflow_tells print result reported fit = by (ℕ_discrete e.formula 13)
     where
       by : Dec (e.formula ≡ 13) → ReportsFinding Stops print print result
-      by (yes is) = subst (λ (r : Result Finding Halt). ReportsFinding Stops print print r) (sym (reported.0 is)) (tells_quietly Stops print (Ok (Overflow e None)) (at_limit_formula is))
+      by (yes is) = subst (λ (r : Result Finding Halt). ReportsFinding Stops print print r) (sym (reported.0 is)) (tells_quietly Stops print (Ok (Overflow e None)) (at_limit_formula is fit))
       by (no other) = overflow_tells Stops print now after e result (reported.1 other) (at_place other)
 
 -- ---- what is asked for can be run

@@ -1,11 +1,9 @@
 -- A setup of whose problem was selected again, beside the setup before.
 use Rattle.std.proofs.Common.{◌≡◌, ℕ, Some, Ok, sym, ap, subst, ◌∙◌}
-use Rattle.problem_definitions.specs.Names.{Name}
 use Rattle.problem_definitions.specs.Problem.{Problem}
 use Rattle.problem_file.specs.Filed.{Filed, filed_under}
 use Rattle.control_definitions.specs.Cells.{Cells}
 use Rattle.selection_definitions.specs.Selection.{selected}
-use Rattle.lp_definitions.specs.LinearProgram.{LinearProgram}
 use Rattle.basis_values.specs.Calls.{HasRates}
 use Rattle.question_definitions.specs.Answers.{Basis}
 use Rattle.run_definitions.specs.State.{choice_of}

@@ -39,6 +39,7 @@ use Rattle.run_machine.specs.declared.act.Halt.TheVariants as halt
 use Rattle.run_machine.specs.declared.end.Place.{Place as OwnPlace}
 use Rattle.run_machine.specs.declared.finding.Finding.{Finding}
 use Rattle.run_machine.specs.declared.finding.Finding.TheVariants.{Ended, Overflow}
+use Rattle.fitting_answers.specs.Fitting.{VerdictFits, CheckFits, EvidenceFits}
 use Rattle.basis_values.specs.Calls.{HasRates}
 use Rattle.setup_verbs.specs.Kept.{Engine, Setup}
 use Rattle.setup_verbs.specs.Standing.{IsReady, IsSolved}
@@ -58,19 +59,19 @@ use Rattle.solving_verbs.proofs.Selected_again.{name_kept, options_kept, basis_k
 -- ---- the path
 
 module _ (solver : Solver) (sheet : Sheet) (s now : Basis) (limit : Option ℕ) (before after : List Basics) (bases : List Basis) (verdict : PathVerdict) (check : Check)
-    (r : PathReaches solver sheet s now limit before after bases verdict check) where
+    (r : PathReaches solver sheet s now limit before after bases verdict check) (fit : VerdictFits verdict × CheckFits check) where
   -- its verdict is printed or broken off
   pub verdict_reported : (mark : Mark) {print_old print_new : SinkState} → mark ≡ mark_of verdict → Writes {T = Unit {0}} print_old print_new (Ok tt) (report_text (Solved solver verdict check)) →
       ReportsFinding (PathFinds solver sheet s now limit before after) print_old print_new (Ok (Ended mark))
   verdict_reported mark e writes = record {
     gain = Prints (Solved solver verdict check);
-    holds = subst (λ (m : Mark). PathFinds solver sheet s now limit before after (Prints (Solved solver verdict check)) (Ended m)) (sym e) (reached r);
+    holds = subst (λ (m : Mark). PathFinds solver sheet s now limit before after (Prints (Solved solver verdict check)) (Ended m)) (sym e) (reached r fit);
     writes = writes;
   }
 
   pub verdict_cut : (stop : WriteStop) {print_old print_new : SinkState} → Writes {T = Unit {0}} print_old print_new (Err stop) (report_text (Solved solver verdict check)) →
       ReportsFinding (PathFinds solver sheet s now limit before after) print_old print_new (Err (halt.Print stop))
-  verdict_cut stop writes = record { gain = Prints (Solved solver verdict check); finding = Ended (mark_of verdict); holds = reached r; writes = writes }
+  verdict_cut stop writes = record { gain = Prints (Solved solver verdict check); finding = Ended (mark_of verdict); holds = reached r fit; writes = writes }
 
 -- only a limit is passed
 pub limit_passed : (sheet : OwnSheet) (s now : Basis) (limit : Option ℕ) → PassesLimit sheet s now limit → IsSolvedBy Primal (sheet_view sheet) s limit PathLimit
@@ -81,10 +82,10 @@ limit_passed sheet s now None h = h
 pub path_overflows : (solver : Solver) (rule : Rule) (statement : SolvingStatement) (sheet : OwnSheet) (s now : Basis) (limit : Option ℕ) (before after : List Basics) (e : Evidence) →
     ((bases : List Basis) (place : Option endings.Place) → RuleOverflowsOnPath rule statement (sheet_view sheet) bases limit e place → OverflowsBy solver (sheet_view sheet) bases limit e place) →
     RuleOverflowsThere rule statement sheet s now limit before after e →
-    (place : OwnPlace) → place_view place ≡ record { basis = now; way = waypoint (basics_of now) after e.way } → PathFinds solver (sheet_view sheet) s now limit before after Nothing (Overflow e (Some place))
-path_overflows solver rule statement sheet s now limit before after e by o place is =
+    (place : OwnPlace) → place_view place ≡ record { basis = now; way = waypoint (basics_of now) after e.way } → EvidenceFits e → PathFinds solver (sheet_view sheet) s now limit before after Nothing (Overflow e (Some place))
+path_overflows solver rule statement sheet s now limit before after e by o place is fit =
     overflows (λ earlier lie. by (earlier ++ s ∷ []) (Some (place_view place))
-    (subst (λ (p : endings.Place). RuleOverflowsOnPath rule statement (sheet_view sheet) (earlier ++ s ∷ []) limit e (Some p)) (sym is) (o.overflows earlier lie)))
+    (subst (λ (p : endings.Place). RuleOverflowsOnPath rule statement (sheet_view sheet) (earlier ++ s ∷ []) limit e (Some p)) (sym is) (o.overflows earlier lie))) fit
 
 -- ---- what is found with a setup
 
@@ -133,12 +134,12 @@ end_reached Pararhs sheet s now limit bases verdict check lawful no_change from 
 pub solved_ends : (solver : Solver) (sheet : Sheet) (s now : Basis) (limit : Option ℕ) (before after : List Basics) (gain : Gain) (finding : Finding) → IsLinearProgram sheet.lp → sheet.lp.change ≡ None →
     IsNonsingularBasis sheet.lp s → IsNonsingularBasis sheet.lp now → PathFinds solver sheet s now limit before after gain finding →
     (Fact : Mark → Type 0) → ((mark : Mark) → (mark ≡ Optimal → IsOptimalBasis sheet.lp now) → Fact mark) → IfEnded finding Fact
-solved_ends solver sheet s now limit before after _ _ lawful no_change from at (reached {bases = bases} {verdict = verdict} {check = check} r) Fact gives =
+solved_ends solver sheet s now limit before after _ _ lawful no_change from at (reached {bases = bases} {verdict = verdict} {check = check} r fit) Fact gives =
     let end = end_reached solver sheet s now limit bases verdict check lawful no_change from at r.leads r.reaches in
     gives (mark_of verdict) (λ is. optimal_ending sheet.lp now sheet (length bases) end.ending lawful at end.ends (subst (λ (v : PathVerdict). mark_of v ≡ Optimal) end.is_verdict is))
 solved_ends solver sheet s now limit before after _ _ lawful no_change from at (wrong_prices h) Fact gives = tt
 solved_ends solver sheet s now limit before after _ _ lawful no_change from at (at_limit h) Fact gives = tt
-solved_ends solver sheet s now limit before after _ _ lawful no_change from at (overflows h) Fact gives = tt
+solved_ends solver sheet s now limit before after _ _ lawful no_change from at (overflows h fit) Fact gives = tt
 
 -- The setup that code has opened, which is the one that is spoken of, and what is left of it.
 module _ (verb : SolvingVerb) (cells : Cells) (file : Filed) {setup old : Setup} (is_old : setup ≡ old) (new : Setup) (there : Problem ℕ) (is_there : filed_under setup.name file ≡ Some there) where

@@ -20,6 +20,7 @@ use Rattle.control_definitions.specs.Cells.{Cells, steps_allowed}
 use Rattle.question_definitions.specs.Answers.{Basis, Sheet, Reached, PathLimit, PricesWrong}
 use Rattle.answer_definitions.specs.Verdicts.{IsSolvedBy}
 use Rattle.answer_definitions.specs.Evidence.{OverflowsBy}
+use Rattle.fitting_answers.specs.Fitting.{VerdictFits, CheckFits, EvidenceFits}
 use Rattle.basis_values.specs.Calls.{LieIn}
 use Rattle.run_definitions.specs.State.{choice_of}
 use Rattle.run_definitions.specs.Moves.{Gain, Nothing, Prints}
@@ -63,16 +64,17 @@ module _ (solver : Solver) (sheet : Sheet) (s now : Basis) (limit : Option ℕ) 
       LieIn sheet.lp.matrix before (earlier ++ s ∷ []) →
       OverflowsBy solver sheet (earlier ++ s ∷ []) limit e place
 
-  -- its verdict is printed; or a price of s is wrong; or it goes on past the limit; or an operation is refused
+  -- its verdict is printed; or a price of s is wrong; or it goes on past the limit; or an operation is refused; the numbers that are
+  -- printed fit
   pub data PathFinds : Gain → Finding → Type 0 where
     reached : {bases : List Basis} {verdict : PathVerdict} {check : Check} →
-        PathReaches bases verdict check →
+        PathReaches bases verdict check → VerdictFits verdict × CheckFits check →
         PathFinds (Prints (Solved solver verdict check)) (Ended (mark_of verdict))
     wrong_prices : {variable : ℕ} → IsSolvedBy solver sheet s limit (PricesWrong variable) →
         PathFinds Nothing (WrongPrices variable)
     at_limit : IsSolvedBy solver sheet s limit PathLimit → PathFinds Nothing Limit
     overflows : {e : Evidence} {place : Option OwnPlace} →
-        PathOverflows e (option_map place_view place) → PathFinds Nothing (Overflow e place)
+        PathOverflows e (option_map place_view place) → EvidenceFits e → PathFinds Nothing (Overflow e place)
 
 -- With these cells the selection of a setup's problem is refused; or the path of the verb is followed from the present basis, and the
 -- setup keeps where it has come to.

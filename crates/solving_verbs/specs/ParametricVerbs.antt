@@ -20,6 +20,7 @@ use Rattle.listing_definitions.specs.declared.VerbFault.{VerbFault}
 use Rattle.listing_definitions.specs.Report.{PathVerdict, Check, ParametricInterval, ChainEnd, Solved, Parametric}
 use Rattle.listing_definitions.specs.Ending.{Place}
 use Rattle.control_definitions.specs.Cells.{Cells}
+use Rattle.fitting_answers.specs.Fitting.{VerdictFits, CheckFits, IntervalsFit, EndFits, EvidenceFits}
 use Rattle.basis_values.specs.Calls.{LieIn}
 use Rattle.bounded_primal.specs.declared.moves.PrimalStop.{PrimalStop}
 use Rattle.question_definitions.specs.Answers.{Basis, Sheet, changing_name, parametric_solver, ParametricRun, OfParametricRun, ParametricRunEnd, Opening, Chained, ParametricRunLimit}
@@ -103,19 +104,19 @@ module _ (sheet : Sheet) (s now : Basis) (parametric_run : ParametricRun) (befor
       OverflowsAt (OfParametricRun parametric_run) sheet (earlier ++ s ∷ []) e place
 
   -- the verdict on its opening is printed; or its intervals are, and it has come to this value; or it goes on past the limit; or an
-  -- operation is refused
+  -- operation is refused; the numbers that are printed fit
   pub data ParametricRunFinds : Gain → Finding → Type 0 where
     opened : {bases : List Basis} {verdict : PathVerdict} {check : Check} →
-        ParametricRunReaches bases (Opening bases verdict check) →
+        ParametricRunReaches bases (Opening bases verdict check) → VerdictFits verdict × CheckFits check →
         ParametricRunFinds (Prints (Solved (parametric_solver parametric_run.changing) verdict check)) (Ended (mark_of verdict))
     chained : {bases : List Basis} {intervals : List ParametricInterval} {end : ChainEnd} →
-        ParametricRunReaches bases (Chained bases intervals end) →
+        ParametricRunReaches bases (Chained bases intervals end) → IntervalsFit intervals × EndFits end →
         ParametricRunFinds
         (Prints (Parametric (parametric_solver parametric_run.changing) (record { from = parametric_run.from; change = changing_name parametric_run.changing; intervals = intervals; end = end })))
         (RanThrough (last_value end))
     at_limit : IsParametricRun sheet s parametric_run ParametricRunLimit → ParametricRunFinds Nothing Limit
     overflows : {e : Evidence} {place : Option OwnPlace} →
-        ParametricRunOverflows e (option_map place_view place) → ParametricRunFinds Nothing (Overflow e place)
+        ParametricRunOverflows e (option_map place_view place) → EvidenceFits e → ParametricRunFinds Nothing (Overflow e place)
 
 -- With these cells the selection of a setup's problem is refused, or what the verb asks for is; or the run is made from the present
 -- basis, and the setup keeps where it has come to.

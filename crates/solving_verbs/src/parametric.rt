@@ -10,7 +10,8 @@ ghost use Rattle.basis_values.specs.Calls.{HasRates};
 ghost use Rattle.listing_tables.specs.Sheets.{IsSheet};
 ghost use Rattle.report_text.specs.Verdicts.{IsOutcome};
 ghost use Rattle.report_text.specs.Parametric.{IsParametric};
-ghost use Rattle.answer_definitions.specs.Real.{linear_programming};
+ghost use Rattle.fitting_answers.specs.Real.{linear_programming_of_128_bits};
+ghost use Rattle.fitting_answers.specs.Fitting.{EvidenceFits};
 ghost use Rattle.verb_answers.specs.Reports.{sheet_view};
 ghost use Rattle.verb_answers.specs.RunReports.{IsAnswered, IsPrintable};
 ghost use Rattle.run_machine.specs.Standing.{AreDemands};
@@ -31,6 +32,7 @@ use lp_definitions::Evidence;
 use lp_model::{Basis, Engine, Lp, Outcome, ParaEnd, ParaReport, ParaRun, Rates};
 use parametric_request::{ParametricVerb, RequestStop, request_of};
 use problem_file::ProblemFile;
+use report_sizes::{recall_chain, recall_verdict};
 use report_text::{Report, text_of};
 use run_cells::{Cells, NumberCell};
 use run_machine::{Act, Finding, Halt, Machine, Refusal, act_of, refused};
@@ -82,6 +84,7 @@ fn print_opening<P: Sink>(
         ReportsFinding (ParametricRunFinds (sheet_view sheet.entry) s reached (parametric_run_view parametric_run.now) before after)
         (P.taken print.old) (P.taken print.new) result }
 {
+    recall_verdict(sheet, outcome, &refused);
     let verdict = Report::Solved {
         by: parametric_run.solver(),
         sheet,
@@ -118,6 +121,7 @@ fn print_chain<P: Sink>(
         (P.taken print.old) (P.taken print.new) result }
 {
     let to = parametric_run.to();
+    recall_chain(sheet, to, run);
     let report = Report::Parametric {
         by: parametric_run.solver(),
         sheet,
@@ -161,7 +165,8 @@ fn overflow_in<R: Rates>(
 ) -> Result<Finding, Halt>
     requires rates { HasRates (R.matrix rates.now) (R.basics rates.now) lp.now basis.now }
     requires way { evidence.formula ≢ 13 → evidence.way ≤ length (R.waypoints rates.now) }
-    ensures { IsRunOverflow basis.now (R.waypoints rates.now) evidence result }
+    ensures tells { IsRunOverflow basis.now (R.waypoints rates.now) evidence result }
+    ensures fits { EvidenceFits evidence }
 {
     if evidence.formula == LIMIT_FORMULA {
         return Ok(Finding::Overflow {
@@ -278,7 +283,7 @@ pub fn show_parametric_run<E: Engine, P: Sink>(
     requires demands { AreDemands machine.old.cells }
     requires ready { IfSome machine.old.setup (IsReady machine.old.file) }
     ensures acts { (cards : List (List ℕ)) →
-        Executes linear_programming (verb_of verb) card (P.taken print.old) (P.taken print.new)
+        Executes linear_programming_of_128_bits (verb_of verb) card (P.taken print.old) (P.taken print.new)
         cards machine.old machine.new result }
     ensures sound { (cards : List (List ℕ)) → IsSound cards machine.old →
         IsSound cards machine.new }

@@ -12,7 +12,7 @@ ghost use Rattle.listing_tables.specs.Sheets.{IsSheet};
 ghost use Rattle.report_text.specs.Verdicts.{IsOutcome, verdict_view, check_view};
 ghost use Rattle.verb_answers.specs.Reports.{sheet_view};
 ghost use Rattle.run_definitions.specs.Verbs.{mark_of};
-ghost use Rattle.answer_definitions.specs.Real.{linear_programming};
+ghost use Rattle.fitting_answers.specs.Real.{linear_programming_of_128_bits};
 ghost use Rattle.run_machine.specs.Standing.{AreDemands};
 ghost use Rattle.setup_verbs.specs.Standing.{IsReady, IsSolved, IsSound};
 ghost use Rattle.setup_verbs.specs.Statements.{Executes};
@@ -26,6 +26,7 @@ use listing_definitions::{Mark, Solver, VerbFault};
 use listing_tables::Sheet;
 use lp_model::{Basis, Engine, Outcome, Rates};
 use problem_file::ProblemFile;
+use report_sizes::recall_verdict;
 use report_text::{Report, text_of};
 use run_cells::Cells;
 use run_machine::{Act, Finding, Halt, Machine, Refusal, act_of, mark_left, refused};
@@ -66,6 +67,7 @@ fn print_verdict<P: Sink>(
         ReportsFinding (PathFinds solver (sheet_view sheet.entry) s reached limit before after)
         (P.taken print.old) (P.taken print.new) result }
 {
+    recall_verdict(sheet, &report.outcome, &report.refused);
     let verdict = Report::Solved {
         by: solver,
         sheet,
@@ -225,7 +227,7 @@ pub fn solve<E: Engine, P: Sink>(
     requires demands { AreDemands machine.old.cells }
     requires ready { IfSome machine.old.setup (IsReady machine.old.file) }
     ensures acts { (cards : List (List ℕ)) →
-        Executes linear_programming (verb_of verb) card (P.taken print.old) (P.taken print.new)
+        Executes linear_programming_of_128_bits (verb_of verb) card (P.taken print.old) (P.taken print.new)
         cards machine.old machine.new result }
     ensures sound { (cards : List (List ℕ)) → IsSound cards machine.old →
         IsSound cards machine.new }

@@ -4,6 +4,7 @@ use Rattle.exact_values.specs.Rational.{ℚ}
 use Rattle.lp_definitions.specs.Waypoints.{waypoint}
 use Rattle.basis_deck.specs.Installing.{InstallStops}
 use Rattle.selection_definitions.specs.Choice.{Choice}
+use Rattle.fitting_answers.specs.Fitting.{EvidenceFits}
 use Rattle.setup_verbs.specs.Kept.{Setup}
 use Rattle.setup_verbs.specs.Inserting.{IsSingularFor}
 use Rattle.setup_verbs.proofs.Inserted.{ended_at}
@@ -41,5 +42,6 @@ returns-in-Ok-overflow_end g c =
       evidence = c.in-Err-Overflow.evidence;
       way = waypoint (g.E.Rates.basics c.in-Err-Overflow.engine) (g.E.Rates.waypoints c.in-Err-Overflow.engine) c.in-Err-Overflow.evidence.way;
       is_refused = stops.refuses.refused;
-      is_end = ended_at g.E.Rates.basics g.E.Rates.waypoints c.args.card _ _ c.setup.view_is _ _ c.in-Err-Overflow.evidence-is _ _ c.in-Err-Overflow.engine-is c.in-Ok-overflow_end.end c.in-Ok-overflow_end.ensures;
+      fits = subst EvidenceFits c.in-Err-Overflow.evidence-is c.in-Ok-overflow_end.ensures.1;
+      is_end = ended_at g.E.Rates.basics g.E.Rates.waypoints c.args.card _ _ c.setup.view_is _ _ c.in-Err-Overflow.evidence-is _ _ c.in-Err-Overflow.engine-is c.in-Ok-overflow_end.end c.in-Ok-overflow_end.ensures.0;
     }

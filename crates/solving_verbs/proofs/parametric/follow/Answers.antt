@@ -25,4 +25,4 @@ overflow_in-requires-clause-way g c =
 pub returns-in-Err-Overflow-clause-tells : goal.returns-in-Err-Overflow-clause-tells
 returns-in-Err-Overflow-clause-tells g c =
     let t = subst (StopsParametricRun c.args.sheet (parametric_run_view c.args.parametric_run.now) c.args.basis.now c.run_from.new.basis (g.R.Rates.waypoints c.args.rates.now) (g.R.Rates.waypoints c.run_from.new.rates)) c.in-Err-Overflow.field-0-is c.in-Err-Overflow.ensures.stops in
-    run_overflow_tells c.args.sheet (parametric_run_view c.args.parametric_run.now) c.args.basis.now c.run_from.new.basis (g.R.Rates.waypoints c.args.rates.now) (g.R.Rates.waypoints c.run_from.new.rates) c.in-Err-Overflow.evidence t (g.P.Sink.taken c.args.print.now) c.overflow_in.result c.overflow_in.ensures
+    run_overflow_tells c.args.sheet (parametric_run_view c.args.parametric_run.now) c.args.basis.now c.run_from.new.basis (g.R.Rates.waypoints c.args.rates.now) (g.R.Rates.waypoints c.run_from.new.rates) c.in-Err-Overflow.evidence t (g.P.Sink.taken c.args.print.now) c.overflow_in.result c.overflow_in.ensures.tells c.overflow_in.ensures.fits

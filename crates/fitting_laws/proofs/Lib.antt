@@ -1,0 +1,3 @@
+pub mod Weaker
+pub mod Outcomes
+pub mod Runs
