@@ -58,6 +58,7 @@ impl Formula {
     }
 
     /// The sum.
+    #[inline(always)]
     pub fn sum(self, left: Frac, right: Frac) -> Result<Frac, Evidence>
         ensures value { IfOk result (λ sum. sum ≡ left +ℚ right) }
         ensures refused { IfErr result (IsRefusal self Op.Add left right) }
@@ -74,6 +75,7 @@ impl Formula {
     }
 
     /// The difference.
+    #[inline(always)]
     pub fn difference(self, left: Frac, right: Frac) -> Result<Frac, Evidence>
         ensures value { IfOk result (λ difference. difference ≡ left -ℚ right) }
         ensures refused { IfErr result (IsRefusal self Op.Sub left right) }
@@ -88,6 +90,7 @@ impl Formula {
     }
 
     /// The product.
+    #[inline(always)]
     pub fn product(self, left: Frac, right: Frac) -> Result<Frac, Evidence>
         ensures value { IfOk result (λ product. product ≡ left *ℚ right) }
         ensures refused { IfErr result (IsRefusal self Op.Mul left right) }
@@ -104,6 +107,7 @@ impl Formula {
     }
 
     /// The quotient.
+    #[inline(always)]
     pub fn quotient(self, left: Frac, right: Frac) -> Result<Frac, Evidence>
         requires { right ≢ zero_ℚ }
         ensures value { IfOk result (λ quotient. quotient ≡ left /ℚ right) }

@@ -55,6 +55,7 @@ pub fn length_formula(q: u32, k: u32, term: u32) -> Formula
 }
 
 /// The limit ahead of `k`, which moves at this speed.
+#[inline(always)]
 fn limit_before(lp: &Lp, speed: Frac, k: u32) -> Option<Ahead>
     requires { IsVariable lp.now.matrix k }
     ensures { IsAhead lp.now (λ _. speed) k result }
@@ -108,6 +109,7 @@ pub fn length_to(
 }
 
 /// What is nearer: what was nearest so far, or `k` at this length.
+#[inline(always)]
 pub fn nearer(nearest: Option<Reach>, length: Option<Frac>, k: u32) -> Option<Reach>
     ensures { result ≡ sooner nearest length k }
 {
