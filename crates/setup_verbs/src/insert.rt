@@ -33,7 +33,8 @@ use name_table::Name;
 use problem_file::{Problem, ProblemFile};
 use report_text::{Report, text_of};
 use run_machine::{
-    Act, End, Halt, Machine, Refusal, SingularBasis, present_choice, problem_on_file, select_present,
+    Act, End, Halt, Machine, Refusal, SingularBasis, present_choice, problem_on_file,
+    select_present,
 };
 use std::alloc::Global;
 use std::mem::replace;
