@@ -1,10 +1,11 @@
 // The machine that runs a program.
 
-ghost use Rattle.std.specs.Prelude.{◌≡◌, ◌≤◌, ◌+◌, ◌-◌, ℕ, List, length, drop};
+ghost use Rattle.std.specs.Prelude.{◌≡◌, ◌≤◌, ◌+◌, ◌-◌, ℕ, List, Some, IsSome, length, drop};
 ghost use Rattle.std.specs.Option.{option_copied};
 ghost use Rattle.card_definitions.specs.Cards.{numbered_cards};
 ghost use Rattle.deck_definitions.specs.Decks.{decks_of};
 ghost use Rattle.control_definitions.specs.Cells.{name_in};
+ghost use Rattle.problem_file.specs.Filed.{filed_under};
 ghost use Rattle.run_definitions.specs.State.{start};
 ghost use Rattle.run_machine.specs.Standing.{IsSound, Represents, named, filed};
 
@@ -34,6 +35,17 @@ pub fn wanted_name(moved: Option<Name>, file: &ProblemFile) -> Option<Name>
     match moved {
         Some(name) => Some(name),
         None => file.last(),
+    }
+}
+
+/// The problem of a name that is on file.
+pub fn problem_on_file<'a>(file: &'a ProblemFile, name: &Name) -> &'a Problem
+    requires { IsSome (filed_under name.now file.now) }
+    ensures { filed_under name.now file.now ≡ Some result.now }
+{
+    match file.get(name) {
+        Some(problem) => problem,
+        None => unreachable!(),
     }
 }
 

@@ -1,6 +1,7 @@
 // What the present cells select of a problem.
-ghost use Rattle.std.specs.Prelude.{◌≡◌, Ok, IfOk, IfErr};
+ghost use Rattle.std.specs.Prelude.{◌≡◌, true, Ok, IfOk, IfErr};
 ghost use Rattle.selection_definitions.specs.Selection.{selected};
+ghost use Rattle.selection_definitions.specs.Making.{is_made};
 ghost use Rattle.lp_setup.specs.Stops.{fault_of, IsOverflowOf};
 ghost use Rattle.control_verbs.specs.Views.{options_view};
 ghost use Rattle.run_definitions.specs.State.{choice_of};
@@ -89,7 +90,7 @@ pub fn present_choice(cells: &Cells, options: SetupChoice) -> Choice
     }
 }
 
-/// The linear program that the present cells select of a problem, with these options.
+/// The linear program that the present cells select of a problem, with these options. None of its operations is refused.
 pub fn select_present(
     alloc: Global,
     problem: &Problem,
@@ -98,6 +99,7 @@ pub fn select_present(
 ) -> Result<Lp, Refusal>
     ensures selected { IfOk result
         (λ lp. selected problem.now (choice_of cells.now options) ≡ Ok lp) }
+    ensures made { IfOk result (λ _. is_made problem.now (choice_of cells.now options) ≡ true) }
     ensures refused { IfErr result (IsUnselected problem.now (choice_of cells.now options)) }
 {
     let choice = present_choice(cells, options);

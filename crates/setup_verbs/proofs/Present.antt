@@ -1,5 +1,5 @@
 -- The setup of a state, with the problem that is on file, and what is selected of it.
-use Rattle.std.proofs.Common.{◌≡◌, ℕ, List, [], ◌∷◌, ◌++◌, Option, Some, None, IfSome, Ok, length, refl, sym, ap, subst, ◌∙◌}
+use Rattle.std.proofs.Common.{◌≡◌, ℕ, List, [], ◌∷◌, ◌++◌, Option, Some, None, IfSome, IsSome, Ok, length, refl, sym, ap, subst, ◌∙◌}
 use Rattle.std.proofs.lemmas.Option.{same_Some}
 use Rattle.lp_definitions.specs.LinearProgram.{Matrix, LinearProgram}
 use Rattle.simplex_definitions.specs.Path.{last_of}
@@ -77,8 +77,8 @@ pub ready_of : (file : Filed) (kept : Option Setup) (setup : Setup) → kept ≡
 ready_of file kept setup is h = subst (λ (o : Option Setup). IfSome o (IsReady file)) is h
 
 -- its problem is on file
-pub stays_on_file : (file : Filed) (setup : Setup) → IsReady file setup → filed_under setup.name file ≡ None → ⊥
-stays_on_file file setup ready none = let on = ready.on_file in cc
+pub stays_on_file : (file : Filed) (setup : Setup) → IsReady file setup → IsSome (filed_under setup.name file)
+stays_on_file file setup ready = subst IsSome (sym ready.on_file) refl
 
 module _ (file : Filed) (setup : Setup) (r : IsReady file setup) (problem : Problem ℕ) (on_file : filed_under setup.name file ≡ Some problem) where
   own_selected : selected problem (chosen setup) ≡ Ok setup.lp

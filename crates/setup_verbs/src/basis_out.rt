@@ -11,7 +11,7 @@ use job_devices::Sink;
 use listing_definitions::VerbFault;
 use lp_model::Engine;
 use report_text::{Report, text_of};
-use run_machine::{Act, Halt, Machine, Refusal, select_present};
+use run_machine::{Act, Halt, Machine, Refusal, problem_on_file, select_present};
 use std::alloc::Global;
 
 /// PUNCH: selects by the cells as they stand, punches the deck of the present basis, and prints the number of its cards.
@@ -33,10 +33,7 @@ pub fn punch_present<E: Engine, P: Sink, U: Sink>(
     let Some(setup) = &machine.setup else {
         return Refusal::Fault(VerbFault::NoSetup).act(card);
     };
-    // a setup's problem stays on file
-    let Some(problem) = machine.file.get(&setup.name) else {
-        unreachable!();
-    };
+    let problem = problem_on_file(&machine.file, &setup.name);
     let lp = match select_present(alloc, problem, &machine.cells, setup.options) {
         Ok(lp) => lp,
         Err(refusal) => return refusal.act(card),

@@ -33,7 +33,8 @@ use name_table::Name;
 use problem_file::{Problem, ProblemFile};
 use report_text::{Report, text_of};
 use run_machine::{
-    Act, End, Halt, Machine, Refusal, SingularBasis, present_choice, select_present,
+    Act, End, Halt, Machine, Refusal, SingularBasis, present_choice, problem_on_file,
+    select_present,
 };
 use std::alloc::Global;
 use std::mem::replace;
@@ -256,10 +257,7 @@ fn find_basis<E: Engine>(
     let Some(setup) = &machine.setup else {
         return ended(Refusal::Fault(VerbFault::NoSetup), card);
     };
-    // a setup's problem stays on file
-    let Some(problem) = machine.file.get(&setup.name) else {
-        unreachable!();
-    };
+    let problem = problem_on_file(&machine.file, &setup.name);
     let lp = match select_present(alloc, problem, &machine.cells, setup.options) {
         Ok(lp) => lp,
         Err(refusal) => return ended(refusal, card),

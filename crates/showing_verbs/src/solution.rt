@@ -23,7 +23,7 @@ use lp_model::{Basis, Engine, Rates, Stop};
 use problem_file::ProblemFile;
 use report_sizes::recall_solution;
 use report_text::{Report, text_of};
-use run_machine::{Act, Finding, Halt, Machine, Refusal, act_of};
+use run_machine::{Act, Finding, Halt, Machine, Refusal, act_of, problem_on_file};
 use setup_verbs::{Setup, overflow_at};
 use std::alloc::Global;
 use verb_answers::{SolutionValues, solution_of};
@@ -105,10 +105,7 @@ fn show_setup<E: Engine, P: Sink>(
     ensures waypoints { KeepsWaypoints setup.old.lp.matrix (basics_of setup.old.basis)
         setup.old.engine.waypoints (basics_of setup.old.basis) setup.new.engine.waypoints }
 {
-    // a setup's problem stays on file
-    let Some(problem) = file.get(&setup.name) else {
-        unreachable!();
-    };
+    let problem = problem_on_file(file, &setup.name);
     let sheet = Sheet {
         problem,
         lp: &setup.lp,

@@ -35,7 +35,7 @@ use problem_file::ProblemFile;
 use report_sizes::{recall_chain, recall_verdict};
 use report_text::{Report, text_of};
 use run_cells::{Cells, NumberCell};
-use run_machine::{Act, Finding, Halt, Machine, Refusal, act_of, refused};
+use run_machine::{Act, Finding, Halt, Machine, Refusal, act_of, problem_on_file, refused};
 use setup_verbs::{Setup, overflow_at, select_again};
 use std::alloc::Global;
 use verb_answers::{RunReport, objective_run_of, rhs_run_of};
@@ -231,10 +231,7 @@ fn find<E: Engine, P: Sink>(
         (P.taken print.old) (P.taken print.new) result }
     ensures ready { IsReady file.now setup.new }
 {
-    // a setup's problem stays on file
-    let Some(problem) = file.get(&setup.name) else {
-        unreachable!();
-    };
+    let problem = problem_on_file(file, &setup.name);
     if let Err(refusal) = select_again(alloc, problem, cells, setup) {
         return refused(refusal);
     }

@@ -29,7 +29,9 @@ use problem_file::ProblemFile;
 use report_sizes::recall_verdict;
 use report_text::{Report, text_of};
 use run_cells::Cells;
-use run_machine::{Act, Finding, Halt, Machine, Refusal, act_of, mark_left, refused};
+use run_machine::{
+    Act, Finding, Halt, Machine, Refusal, act_of, mark_left, problem_on_file, refused,
+};
 use setup_verbs::{Setup, overflow_at, select_again};
 use std::alloc::Global;
 use verb_answers::{PathReport, dual_from, path_from};
@@ -187,10 +189,7 @@ fn find<E: Engine, P: Sink>(
     ensures solved { IfOk result
         (λ finding. IfEnded finding (λ mark. IsSolved mark cells.now.xobj cells.now.xrhs file.now setup.new)) }
 {
-    // a setup's problem stays on file
-    let Some(problem) = file.get(&setup.name) else {
-        unreachable!();
-    };
+    let problem = problem_on_file(file, &setup.name);
     if let Err(refusal) = select_again(alloc, problem, cells, setup) {
         return refused(refusal);
     }

@@ -4,22 +4,22 @@ use Rattle.showing_verbs.proofs.Showing.{lines_at}
 use Rattle.showing_verbs.proofs.solution.show_setup.Goals as goal
 use Rattle.setup_verbs.proofs.Present.{ready_columns, ready_rows, ready_unchanged, stays_on_file}
 
-pub unreachable-unreachable : goal.unreachable-unreachable
-unreachable-unreachable g c = absurd (stays_on_file c.args.file.now _ (subst (IsReady c.args.file.now) (sym c.setup.view_is) c.requires) (sym c.in_default.ensures))
+pub problem_on_file-problem-requires : goal.problem_on_file-problem-requires
+problem_on_file-problem-requires g c = stays_on_file c.args.file.now _ (subst (IsReady c.args.file.now) (sym c.setup.view_is) c.requires)
 
 pub show_basis-requires-clause-sheet : goal.show_basis-requires-clause-sheet
 show_basis-requires-clause-sheet g c =
     let ready = subst (IsReady c.args.file.now) (sym c.setup.view_is) c.requires in
     record {
-      rows = ready_rows c.args.file.now _ ready c.in-Some.problem.now (sym c.in-Some.ensures);
-      columns = ready_columns c.args.file.now _ ready c.in-Some.problem.now (sym c.in-Some.ensures);
+      rows = ready_rows c.args.file.now _ ready c.problem_on_file-problem.result.now c.problem_on_file-problem.ensures;
+      columns = ready_columns c.args.file.now _ ready c.problem_on_file-problem.result.now c.problem_on_file-problem.ensures;
     }
 
 pub show_basis-requires-clause-no_change : goal.show_basis-requires-clause-no_change
 show_basis-requires-clause-no_change g c =
-    ready_unchanged c.args.file.now _ (subst (IsReady c.args.file.now) (sym c.setup.view_is) c.requires) c.in-Some.problem.now (sym c.in-Some.ensures)
+    ready_unchanged c.args.file.now _ (subst (IsReady c.args.file.now) (sym c.setup.view_is) c.requires) c.problem_on_file-problem.result.now c.problem_on_file-problem.ensures
 
 pub returns-clause-tells : goal.returns-clause-tells
 returns-clause-tells g c =
-    lines_at c.args.file.now c.setup.view_is c.args.mark c.in-Some.problem.now (sym c.in-Some.ensures) (g.P.Sink.taken c.args.print.now) (g.P.Sink.taken c.show_basis.new.print) c.show_basis.result
+    lines_at c.args.file.now c.setup.view_is c.args.mark c.problem_on_file-problem.result.now c.problem_on_file-problem.ensures (g.P.Sink.taken c.args.print.now) (g.P.Sink.taken c.show_basis.new.print) c.show_basis.result
     c.show_basis.ensures.tells
