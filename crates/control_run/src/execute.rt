@@ -2,7 +2,7 @@
 ghost use Rattle.std.specs.Prelude.{◌≡◌, ◌≤◌, length};
 ghost use Rattle.control_verbs.specs.Views.{viewed};
 ghost use Rattle.control_compiler.specs.Valid.{IsProgram};
-ghost use Rattle.answer_definitions.specs.Real.{linear_programming};
+ghost use Rattle.fitting_answers.specs.Real.{linear_programming_of_128_bits};
 ghost use Rattle.setup_verbs.specs.Standing.{IsSound};
 ghost use Rattle.run_machine.specs.Statements.{IsSoundVerb};
 ghost use Rattle.setup_verbs.specs.Statements.{Performs};
@@ -37,7 +37,7 @@ fn execute<E: Engine, P: Sink, U: Sink>(
 ) -> Result<Act, Halt>
     requires sound { IsSound cards.now machine.old }
     requires verb { IsSoundVerb (viewed statement.now.verb) }
-    ensures acts { Performs linear_programming (viewed statement.now.verb) statement.now.card
+    ensures acts { Performs linear_programming_of_128_bits (viewed statement.now.verb) statement.now.card
         (P.taken print.old) (P.taken print.new) (U.taken punch.old) (U.taken punch.new)
         cards.now machine.old machine.new result }
     ensures sound { IsSound cards.now machine.new }
@@ -80,7 +80,7 @@ pub fn step<E: Engine, P: Sink, U: Sink>(
     requires first { 1 ≤ position }
     requires within { position ≤ length input.program.now.statements }
     requires sound { IsSound input.cards.now machine.old }
-    ensures steps { Steps linear_programming input.entry.program.now input.entry.cards.now
+    ensures steps { Steps linear_programming_of_128_bits input.entry.program.now input.entry.cards.now
         (P.taken print.old) (P.taken print.new) (U.taken punch.old) (U.taken punch.new)
         position machine.old machine.new result }
     ensures sound { IsSound input.entry.cards.now machine.new }

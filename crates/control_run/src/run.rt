@@ -2,7 +2,7 @@
 ghost use Rattle.std.specs.Prelude.{◌≡◌, ◌≤◌, ◌-◌, ◌+◌, length, drop};
 ghost use Rattle.card_definitions.specs.Cards.{numbered_cards};
 ghost use Rattle.run_definitions.specs.State.{start};
-ghost use Rattle.answer_definitions.specs.Real.{linear_programming};
+ghost use Rattle.fitting_answers.specs.Real.{linear_programming_of_128_bits};
 ghost use Rattle.setup_verbs.specs.Standing.{IsSound, Represents};
 ghost use Rattle.control_run.specs.Running.{decks_after, Runs};
 ghost use Rattle.control_run.specs.Ended.{IsEndOfRun};
@@ -46,7 +46,7 @@ fn run_statements<E: Engine, P: Sink, U: Sink>(
     requires sound { IsSound input.cards.now machine.old }
     requires start { Represents input.cards.now machine.old 1 0
         (start (decks_after input.program.now input.cards.now)) }
-    ensures { Runs linear_programming input.entry.program.now input.entry.cards.now
+    ensures { Runs linear_programming_of_128_bits input.entry.program.now input.entry.cards.now
         (P.taken print.old) (P.taken print.new) (U.taken punch.old) (U.taken punch.new)
         result }
 {
@@ -73,7 +73,7 @@ fn run<E: Engine, P: Sink, U: Sink>(
     print: &mut P,
     punch: &mut U,
 ) -> Result<End, Halt>
-    ensures { Runs linear_programming input.entry.program.now input.entry.cards.now
+    ensures { Runs linear_programming_of_128_bits input.entry.program.now input.entry.cards.now
         (P.taken print.old) (P.taken print.new) (U.taken punch.old) (U.taken punch.new)
         result }
 {
@@ -96,7 +96,7 @@ pub fn run_on<E: Engine, P: Sink, U: Sink>(
     print: &mut P,
     punch: &mut U,
 ) -> RunStatus
-    ensures { IsEndOfRun linear_programming program.now cards.now
+    ensures { IsEndOfRun linear_programming_of_128_bits program.now cards.now
         (P.taken print.old) (P.taken print.new) (U.taken punch.old) (U.taken punch.new)
         result }
 {
@@ -114,7 +114,7 @@ pub fn run_program<P: Sink, U: Sink>(
     print: &mut P,
     punch: &mut U,
 ) -> RunStatus
-    ensures { IsEndOfRun linear_programming program.now cards.now
+    ensures { IsEndOfRun linear_programming_of_128_bits program.now cards.now
         (P.taken print.old) (P.taken print.new) (U.taken punch.old) (U.taken punch.new)
         result }
 {

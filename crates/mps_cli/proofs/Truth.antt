@@ -5,6 +5,8 @@ use Rattle.std.specs.Io.KnownBytes.{Appends}
 use Rattle.job_devices.specs.States.{SinkState}
 use Rattle.job_devices.specs.Causes.{Rose}
 use Rattle.answer_definitions.specs.Real.{linear_programming}
+use Rattle.fitting_answers.specs.Real.{linear_programming_of_128_bits}
+use Rattle.fitting_laws.proofs.Runs.{answered_too as also_answered}
 use Rattle.deck_definitions.specs.Transport.{made_job}
 use Rattle.run_definitions.specs.Answer.{Job, WithoutBytes, Read, Made, Failures, words_refused, memory_at_start, IsAnswered}
 use Rattle.soundness_laws.specs.Headline.{IsTrueAnswer}
@@ -31,16 +33,19 @@ use Rattle.mps_cli.proofs.May_end.{answered_too}
 runs_are_functions : IsFunction linear_programming
 runs_are_functions = is_function linear_programming knows_linear_programming answers_once
 
-true_answer : {job : Job} {failures : Failures} {status : ℕ} {PrintGains PunchGains : List ℕ → Type 0} → IsAnswered linear_programming job failures status PrintGains PunchGains →
+-- an answer whose numbers fit is a true one
+pub true_answer : {job : Job} {failures : Failures} {status : ℕ} {PrintGains PunchGains : List ℕ → Type 0} → IsAnswered linear_programming_of_128_bits job failures status PrintGains PunchGains →
     IsTrueAnswer linear_programming job failures status PrintGains PunchGains
-true_answer is = record {
-  printed = is.0;
-  punched = is.1;
-  print_gains = is.2;
-  punch_gains = is.3;
-  is_answer = is.4;
-  each_holds = answer_holds linear_programming knows_linear_programming is.4;
-}
+true_answer {job} {failures} {status} {PrintGains} {PunchGains} fitting =
+    let is : IsAnswered linear_programming job failures status PrintGains PunchGains = also_answered job failures status PrintGains PunchGains fitting in
+    record {
+      printed = is.0;
+      punched = is.1;
+      print_gains = is.2;
+      punch_gains = is.3;
+      is_answer = is.4;
+      each_holds = answer_holds linear_programming knows_linear_programming is.4;
+    }
 
 -- a true answer is that of the job's own run, or the run was broken off, or cut off
 pub once_answer : {job : Job} {failures : Failures} {status : ℕ} {PrintGains PunchGains : List ℕ → Type 0} → IsTrueAnswer linear_programming job failures status PrintGains PunchGains →
@@ -72,43 +77,43 @@ module _ (P : Job → Type 0) (asked : Option Request) (reported : Option (List 
 module _ (asked : Option Request) (reported : Option (List ℕ)) (status : RunStatus) where
   module _ {old new : SinkState} (read_failed punch_failed : Type 0) (punch : Option (List ℕ)) where
     -- the words are refused
-    words_headline : asked ≡ None → EndsWith old new Words status → (job : Job) → IsAsked asked reported job →
-        IsTrueAnswer linear_programming job (record { read = read_failed; print = Rose old.faults new.faults; punch = punch_failed; memory = Rose old.refusals new.refusals })
+    words_answer : asked ≡ None → EndsWith old new Words status → (job : Job) → IsAsked asked reported job →
+        IsAnswered linear_programming_of_128_bits job (record { read = read_failed; print = Rose old.faults new.faults; punch = punch_failed; memory = Rose old.refusals new.refusals })
         (code_of status) (Appends old.written new.written) (Appends punch punch)
-    words_headline none ends =
-        by_words _ asked reported none (true_answer (ending_answer linear_programming WithoutBytes _ Words (words_refused refl) punch status (λ e. e) (λ e. e) ends))
+    words_answer none ends =
+        by_words _ asked reported none (ending_answer linear_programming_of_128_bits WithoutBytes _ Words (words_refused refl) punch status (λ e. e) (λ e. e) ends)
 
     -- memory runs out while the words are read
-    memory_headline : EndsWith old new Memory status → (job : Job) → IsAsked asked reported job →
-        IsTrueAnswer linear_programming job (record { read = read_failed; print = Rose old.faults new.faults; punch = punch_failed; memory = Rose old.refusals new.refusals })
+    memory_answer : EndsWith old new Memory status → (job : Job) → IsAsked asked reported job →
+        IsAnswered linear_programming_of_128_bits job (record { read = read_failed; print = Rose old.faults new.faults; punch = punch_failed; memory = Rose old.refusals new.refusals })
         (code_of status) (Appends old.written new.written) (Appends punch punch)
-    memory_headline ends job is = true_answer (ending_answer linear_programming job _ Memory memory_at_start punch status (λ e. e) (λ e. e) ends)
+    memory_answer ends job is = ending_answer linear_programming_of_128_bits job _ Memory memory_at_start punch status (λ e. e) (λ e. e) ends
 
     -- the words ask for nothing
-    pub stopped_headline : (stop : WordsStop) → (stop ≡ stops.Refused → asked ≡ None) → EndsWith old new (stop_of_words stop) status → (job : Job) → IsAsked asked reported job →
-        IsTrueAnswer linear_programming job (record { read = read_failed; print = Rose old.faults new.faults; punch = punch_failed; memory = Rose old.refusals new.refusals })
+    pub stopped_answer : (stop : WordsStop) → (stop ≡ stops.Refused → asked ≡ None) → EndsWith old new (stop_of_words stop) status → (job : Job) → IsAsked asked reported job →
+        IsAnswered linear_programming_of_128_bits job (record { read = read_failed; print = Rose old.faults new.faults; punch = punch_failed; memory = Rose old.refusals new.refusals })
         (code_of status) (Appends old.written new.written) (Appends punch punch)
-    stopped_headline stops.Refused are_refused ends = words_headline (are_refused refl) ends
-    stopped_headline stops.NoMemory are_refused ends = memory_headline ends
+    stopped_answer stops.Refused are_refused ends = words_answer (are_refused refl) ends
+    stopped_answer stops.NoMemory are_refused ends = memory_answer ends
 
   -- the job is read
-  pub read_headline : (failures : Failures) (PrintGains PunchGains : List ℕ → Type 0) → asked ≡ Some request.Read →
-      ((given : Job) (bytes : List ℕ) → IsGiven reported failures.read given bytes → IsAnswered linear_programming given failures (code_of status) PrintGains PunchGains) →
-      (job : Job) → IsAsked asked reported job → IsTrueAnswer linear_programming job failures (code_of status) PrintGains PunchGains
-  read_headline failures PrintGains PunchGains read answers =
-      by_source _ asked reported read (λ bytes known. true_answer (answers (Read bytes) bytes (record { has_bytes = refl; is_reported = known; is_read = λ failed. refl })))
+  pub read_answer : (failures : Failures) (PrintGains PunchGains : List ℕ → Type 0) → asked ≡ Some request.Read →
+      ((given : Job) (bytes : List ℕ) → IsGiven reported failures.read given bytes → IsAnswered linear_programming_of_128_bits given failures (code_of status) PrintGains PunchGains) →
+      (job : Job) → IsAsked asked reported job → IsAnswered linear_programming_of_128_bits job failures (code_of status) PrintGains PunchGains
+  read_answer failures PrintGains PunchGains read answers =
+      by_source _ asked reported read (λ bytes known. answers (Read bytes) bytes (record { has_bytes = refl; is_reported = known; is_read = λ failed. refl }))
 
   -- the job is made
-  pub made_headline : (none_failed : Type 0) → (none_failed → ⊥) → (read_failed print_failed punch_failed memory_wanted : Type 0) (PrintGains PunchGains : List ℕ → Type 0) (size : ℕ) → asked ≡ Some (request.Make size) →
-      IsAnswered linear_programming (Made (made_job size)) (record { read = none_failed; print = print_failed; punch = punch_failed; memory = memory_wanted }) (code_of status) PrintGains PunchGains →
+  pub made_answer : (none_failed : Type 0) → (none_failed → ⊥) → (read_failed print_failed punch_failed memory_wanted : Type 0) (PrintGains PunchGains : List ℕ → Type 0) (size : ℕ) → asked ≡ Some (request.Make size) →
+      IsAnswered linear_programming_of_128_bits (Made (made_job size)) (record { read = none_failed; print = print_failed; punch = punch_failed; memory = memory_wanted }) (code_of status) PrintGains PunchGains →
       (job : Job) → IsAsked asked reported job →
-      IsTrueAnswer linear_programming job (record { read = read_failed; print = print_failed; punch = punch_failed; memory = memory_wanted }) (code_of status) PrintGains PunchGains
-  made_headline none_failed none read_failed print_failed punch_failed memory_wanted PrintGains PunchGains size made answer =
-      by_size _ asked reported size made (true_answer
-      (answered_too linear_programming (Made (made_job size)) (record { read = none_failed; print = print_failed; punch = punch_failed; memory = memory_wanted }) _ (λ e. absurd (none e)) (λ e. e) (λ e. e) (λ e. e) (code_of status) PrintGains PunchGains answer))
+      IsAnswered linear_programming_of_128_bits job (record { read = read_failed; print = print_failed; punch = punch_failed; memory = memory_wanted }) (code_of status) PrintGains PunchGains
+  made_answer none_failed none read_failed print_failed punch_failed memory_wanted PrintGains PunchGains size made answer =
+      by_size _ asked reported size made
+      (answered_too linear_programming_of_128_bits (Made (made_job size)) (record { read = none_failed; print = print_failed; punch = punch_failed; memory = memory_wanted }) _ (λ e. absurd (none e)) (λ e. e) (λ e. e) (λ e. e) (code_of status) PrintGains PunchGains answer)
 
   -- a job that is asked for as a request is
-  pub same_headline : (failures : Failures) (PrintGains PunchGains : List ℕ → Type 0) (request : Request) → asked ≡ Some request →
-      ((job : Job) → IsAsked (Some request) reported job → IsTrueAnswer linear_programming job failures (code_of status) PrintGains PunchGains) →
-      (job : Job) → IsAsked asked reported job → IsTrueAnswer linear_programming job failures (code_of status) PrintGains PunchGains
-  same_headline failures PrintGains PunchGains request is answers job asks = answers job (subst (λ (o : Option Request). IsAsked o reported job) is asks)
+  pub same_answer : (failures : Failures) (PrintGains PunchGains : List ℕ → Type 0) (request : Request) → asked ≡ Some request →
+      ((job : Job) → IsAsked (Some request) reported job → IsAnswered linear_programming_of_128_bits job failures (code_of status) PrintGains PunchGains) →
+      (job : Job) → IsAsked asked reported job → IsAnswered linear_programming_of_128_bits job failures (code_of status) PrintGains PunchGains
+  same_answer failures PrintGains PunchGains request is answers job asks = answers job (subst (λ (o : Option Request). IsAsked o reported job) is asks)

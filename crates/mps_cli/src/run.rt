@@ -5,6 +5,7 @@ ghost use Rattle.job_devices.specs.Causes.{Rose};
 ghost use Rattle.job_devices.specs.Memory.{sure_left};
 ghost use Rattle.card_reader.specs.Reading.{ReadsJob};
 ghost use Rattle.answer_definitions.specs.Real.{linear_programming};
+ghost use Rattle.fitting_answers.specs.Real.{linear_programming_of_128_bits};
 ghost use Rattle.deck_definitions.specs.Transport.{made_job};
 ghost use Rattle.run_definitions.specs.Answer.{Job, Made, IsAnswered};
 ghost use Rattle.one_run_laws.specs.Laws.{IsAnsweredOnce};
@@ -38,7 +39,7 @@ fn run_source<S: Source, P: Sink, U: Sink>(
         given bytes →
         let before = devices (S.given job.old) (P.taken print.old) (U.taken punch.old) in
         let after = devices (S.given job.new) (P.taken print.new) (U.taken punch.new) in
-        IsAnswered linear_programming given (failures before after) (code_of result)
+        IsAnswered linear_programming_of_128_bits given (failures before after) (code_of result)
         (PrintGains before after) (PunchGains before after) }
     ensures accounted { IsAccounted (Some Request.Read)
         (devices (S.given job.old) (P.taken print.old) (U.taken punch.old))
@@ -68,7 +69,7 @@ fn run_made<P: Sink, U: Sink>(alloc: Global, size: u32, print: &mut P, punch: &m
     requires most { size ≤ max_size }
     ensures answer { let before = devices (untold_source 0) (P.taken print.old) (U.taken punch.old) in
         let after = devices (untold_source 0) (P.taken print.new) (U.taken punch.new) in
-        IsAnswered linear_programming (Made (made_job size)) (failures before after)
+        IsAnswered linear_programming_of_128_bits (Made (made_job size)) (failures before after)
         (code_of result) (PrintGains before after) (PunchGains before after) }
     ensures accounted { IsAccounted (Some (Request.Make size))
         (devices (untold_source 0) (P.taken print.old) (U.taken punch.old))
@@ -91,10 +92,10 @@ fn run_request<S: Source, P: Sink, U: Sink>(
     punch: &mut U,
 ) -> RunStatus
     requires { HasSize request }
-    ensures headline { (asked : Job) → IsAsked (Some request) (S.given job.old).left asked →
+    ensures sizes { (asked : Job) → IsAsked (Some request) (S.given job.old).left asked →
         let before = devices (S.given job.old) (P.taken print.old) (U.taken punch.old) in
         let after = devices (S.given job.new) (P.taken print.new) (U.taken punch.new) in
-        IsTrueAnswer linear_programming asked (failures before after) (code_of result)
+        IsAnswered linear_programming_of_128_bits asked (failures before after) (code_of result)
         (PrintGains before after) (PunchGains before after) }
     ensures accounted { IsAccounted (Some request)
         (devices (S.given job.old) (P.taken print.old) (U.taken punch.old))
@@ -157,6 +158,16 @@ pub fn run_job<S: Source, P: Sink, U: Sink>(
         let before = devices (S.given job.old) (P.taken print.old) (U.taken punch.old) in
         let after = devices (S.given job.new) (P.taken print.new) (U.taken punch.new) in
         IsAnsweredOnce linear_programming asked (failures before after) (code_of result)
+        (PrintGains before after) (PunchGains before after) }
+
+    // The sizes of numbers. So the job is answered by a run whose answers fit: each fraction in a verdict, in SOLUTION, in a
+    // parametric run and in the evidence of an overflow of linear programming has 128 bits, and each count of such evidence has 32.
+    // By the law `never_wrong` of own_listing_laws mps360check never finds the listing of such a run wrong, where it ends by itself.
+    ensures sizes { (asked : Job) →
+        IsAsked (requests.asked (map string_bytes words.now)) (S.given job.old).left asked →
+        let before = devices (S.given job.old) (P.taken print.old) (U.taken punch.old) in
+        let after = devices (S.given job.new) (P.taken print.new) (U.taken punch.new) in
+        IsAnswered linear_programming_of_128_bits asked (failures before after) (code_of result)
         (PrintGains before after) (PunchGains before after) }
 
     // What stands, by the status. With 0, 1, 2, 8, 10, 12, 13, 16, 17 and 20 the run of the job has this end; the whole

@@ -2,7 +2,7 @@ use Rattle.std.proofs.Common.{refl, ap, Some, arith}
 use Rattle.job_devices.specs.States.{untold_source}
 use Rattle.deck_definitions.specs.Transport.{made_job}
 use Rattle.run_definitions.specs.Answer.{Made, memory_at_start}
-use Rattle.answer_definitions.specs.Real.{linear_programming}
+use Rattle.fitting_answers.specs.Real.{linear_programming_of_128_bits}
 use Rattle.command_line.specs.declared.request.Request.TheVariants.{Make}
 use Rattle.job_program.specs.declared.stop.EarlyStop.TheVariants.{Memory}
 use Rattle.mps_cli.proofs.Ending_answers.{ending_answer}
@@ -21,7 +21,7 @@ returns-in-Ok-clause-accounted g c = source_accounted c.run_source.result c.args
 
 pub returns-in-Err-clause-answer : goal.returns-in-Err-clause-answer
 returns-in-Err-clause-answer g c =
-    ending_answer linear_programming (Made (made_job c.args.size)) _ Memory memory_at_start (g.U.Sink.taken c.args.punch.now).written c.end_job.result (λ e. e) (λ e. e) c.end_job.ensures
+    ending_answer linear_programming_of_128_bits (Made (made_job c.args.size)) _ Memory memory_at_start (g.U.Sink.taken c.args.punch.now).written c.end_job.result (λ e. e) (λ e. e) c.end_job.ensures
 
 pub returns-in-Err-clause-accounted : goal.returns-in-Err-clause-accounted
 returns-in-Err-clause-accounted g c = untouched_accounted (Some (Make c.args.size)) (untold_source 0) (g.U.Sink.taken c.args.punch.now) Memory c.end_job.result tt c.end_job.ensures

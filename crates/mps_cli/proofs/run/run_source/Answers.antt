@@ -1,5 +1,5 @@
 use Rattle.std.proofs.Common.{refl, Some}
-use Rattle.answer_definitions.specs.Real.{linear_programming}
+use Rattle.fitting_answers.specs.Real.{linear_programming_of_128_bits}
 use Rattle.command_line.specs.declared.request.Request.TheVariants.{Read}
 use Rattle.mps_cli.proofs.Ending_answers.{ending_answer}
 use Rattle.mps_cli.specs.Causes.{nothing, in_run}
@@ -12,7 +12,7 @@ use Rattle.mps_cli.proofs.run.run_source.Goals as goal
 pub returns-in-Ok-clause-answer : goal.returns-in-Ok-clause-answer
 returns-in-Ok-clause-answer g c given bytes is =
     let are = prepared_of bytes c.in-Ok.prepared is.is_reported c.in-Ok.ensures.prepared in
-    answered_too linear_programming given _ _ (λ e. absurd e) (λ e. e) (λ e. e) (λ e. e) _ _ _ (c.run_program.ensures.answer given bytes is.has_bytes are.1 are.0)
+    answered_too linear_programming_of_128_bits given _ _ (λ e. absurd e) (λ e. e) (λ e. e) (λ e. e) _ _ _ (c.run_program.ensures.answer given bytes is.has_bytes are.1 are.0)
 
 pub returns-in-Ok-clause-accounted : goal.returns-in-Ok-clause-accounted
 returns-in-Ok-clause-accounted g c = record {
@@ -24,7 +24,7 @@ returns-in-Ok-clause-accounted g c = record {
 
 pub returns-in-Err-clause-answer : goal.returns-in-Err-clause-answer
 returns-in-Err-clause-answer g c given bytes is =
-    ending_answer linear_programming given _ c.in-Err.stop (may_stop linear_programming given bytes _ _ is.has_bytes is.is_read c.in-Err.stop is.is_reported c.in-Err.ensures.stop c.in-Err.ensures.cause) (g.U.Sink.taken c.args.punch.now).written c.end_job.result (λ e. e) (λ e. e) c.end_job.ensures
+    ending_answer linear_programming_of_128_bits given _ c.in-Err.stop (may_stop linear_programming_of_128_bits given bytes _ _ is.has_bytes is.is_read c.in-Err.stop is.is_reported c.in-Err.ensures.stop c.in-Err.ensures.cause) (g.U.Sink.taken c.args.punch.now).written c.end_job.result (λ e. e) (λ e. e) c.end_job.ensures
 
 pub returns-in-Err-clause-accounted : goal.returns-in-Err-clause-accounted
 returns-in-Err-clause-accounted g c =
