@@ -35,6 +35,7 @@ fn formula(number: u8, p: u32, q: u32, i: u32) -> Formula
 }
 
 /// The value of `i`, which has this rate, after the step `by` of `q`, by the plain operations.
+#[inline(always)]
 fn plainly_moved(value: Frac, rate: Frac, by: &Stopper, q: u32, i: u32) -> Result<Frac, Evidence>
     ensures value { IfOk result (λ moved. moved ≡ value +ℚ by.now.step *ℚ rate) }
     ensures refused { IfErr result (MovedRefused by.now.step rate value by.now.p q i) }
@@ -45,6 +46,7 @@ fn plainly_moved(value: Frac, rate: Frac, by: &Stopper, q: u32, i: u32) -> Resul
 }
 
 /// The same, also where only the plain operations are refused.
+#[inline(always)]
 fn moved(value: Frac, rate: Frac, by: &Stopper, q: u32, i: u32) -> Result<Frac, Evidence>
     ensures value { IfOk result (λ moved. moved ≡ value +ℚ by.now.step *ℚ rate) }
     ensures refused { IfErr result (MovedRefused by.now.step rate value by.now.p q i) }
@@ -76,6 +78,7 @@ fn is_needed(lp: &Lp, kept: Kept, k: u32) -> bool
 }
 
 /// The value of `i` after the step, and None where that is refused and it isn't `needed`.
+#[inline(always)]
 fn moved_if_possible(
     value: Frac,
     rate: Frac,
