@@ -11,51 +11,32 @@ use Rattle.selection_definitions.specs.Selection.{program_of_choice, selected}
 use Rattle.selection_definitions.specs.Making.{is_made}
 use Rattle.selection_definitions.specs.Refusals.{IsSelectionRefusal}
 use Rattle.selection_definitions.proofs.Making.{made_iff}
-use Rattle.lp_setup.specs.declared.stop.SelectStop.{SelectStop}
-use Rattle.lp_setup.specs.declared.stop.SelectStop.TheVariants as stops
-use Rattle.lp_setup.specs.Stops.{fault_of, IsOverflowOf}
 use Rattle.listing_definitions.specs.declared.VerbFault.{VerbFault}
 use Rattle.listing_definitions.specs.Ending.{VerbStop}
 use Rattle.run_definitions.specs.Moves.{stops as stopped, InSelection, StatementMove, Does, MayStop, or_fault}
 use Rattle.run_definitions.specs.Verbs.{selection_verb_fault, or_selection_fault}
+use Rattle.run_machine.specs.declared.selecting.Refusal.{Refusal}
+use Rattle.run_machine.specs.declared.selecting.Refusal.TheVariants as refusals
+use Rattle.run_machine.specs.Choosing.{IsUnselected}
 use Rattle.walk_definitions.specs.Checkers.{Checker}
 use Rattle.walk_definitions.specs.Walker as walks
 use Rattle.listing_walk.specs.declared.selecting.Unselected.{Unselected}
-use Rattle.listing_walk.specs.Choosing.{unselected_by, IsMade, IsNotMade}
+use Rattle.listing_walk.specs.Choosing.{unselected_by, IsNotMade}
 
--- ---- what a stop says
-
-is_refused : (problem : Problem ℕ) (choice : Choice) (why : SelectionFault) → Some why ≡ selection_fault problem choice → selected problem choice ≡ Err why
-unfolding selected
-is_refused problem choice why e = ap (λ fault. unless fault (program_of_choice problem choice)) (sym e)
-
-has_no_fault : (problem : Problem ℕ) (choice : Choice) → None ≡ selection_fault problem choice → selected problem choice ≡ Ok (program_of_choice problem choice)
-unfolding selected
-has_no_fault problem choice e = ap (λ fault. unless fault (program_of_choice problem choice)) (sym e)
+-- ---- what a refusal says
 
 -- an operation that is refused isn't made
 unmade : (problem : Problem ℕ) (choice : Choice) (e : Evidence) → IsSelectionRefusal problem choice e → (made : Bool) → is_made problem choice ≡ made → made ≡ false
 unmade problem choice e h true is = absurd ((made_iff problem choice).0 is e h)
 unmade problem choice e h false is = refl
 
-not_made : (problem : Problem ℕ) (choice : Choice) (stop : SelectStop) → fault_of stop ≡ selection_fault problem choice → IsOverflowOf problem choice stop → IsNotMade problem choice (unselected_by stop)
-not_made problem choice stops.NoObjective e h = record { why = _; is_refused = is_refused problem choice _ e; is_fault = refl }
-not_made problem choice stops.ObjectiveNotFree e h = record { why = _; is_refused = is_refused problem choice _ e; is_fault = refl }
-not_made problem choice stops.NoRhsSet e h = record { why = _; is_refused = is_refused problem choice _ e; is_fault = refl }
-not_made problem choice stops.NoRangeSet e h = record { why = _; is_refused = is_refused problem choice _ e; is_fault = refl }
-not_made problem choice stops.NoBoundSet e h = record { why = _; is_refused = is_refused problem choice _ e; is_fault = refl }
-not_made problem choice (stops.Overflow evidence) e h =
-    record { lp = program_of_choice problem choice; is_selected = has_no_fault problem choice e; is_refused = unmade problem choice evidence h (is_made problem choice) refl }
-not_made problem choice stops.NoMemory e h = tt
+not_made : (problem : Problem ℕ) (choice : Choice) (refusal : Refusal) → IsUnselected problem choice refusal → IsNotMade problem choice (unselected_by refusal)
+not_made problem choice (refusals.Fault fault) h = h
+not_made problem choice (refusals.Overflow e) h = record { lp = h.lp; is_selected = h.is_selected; is_refused = unmade problem choice e h.is_refusal (is_made problem choice) refl }
+not_made problem choice refusals.NoMemory h = tt
 
-pub not_made_by : (problem : Problem ℕ) (choice chosen : Choice) (stop : SelectStop) (refusal : Unselected) → choice ≡ chosen → refusal ≡ unselected_by stop → fault_of stop ≡ selection_fault problem choice →
-    IsOverflowOf problem choice stop → IsNotMade problem chosen refusal
-not_made_by problem choice chosen stop refusal same is e h =
-    subst (λ (c : Choice). IsNotMade problem c refusal) same (subst (IsNotMade problem choice) (sym is) (not_made problem choice stop e h))
-
-pub made_by : (problem : Problem ℕ) (choice chosen : Choice) (lp : LinearProgram) → choice ≡ chosen → selected problem choice ≡ Ok lp → is_made problem choice ≡ true → IsMade problem chosen lp
-made_by problem choice chosen lp same ok made =
-    subst (λ (c : Choice). IsMade problem c lp) same (record { is_selected = ok; is_made = made })
+pub not_made_by : (problem : Problem ℕ) (choice : Choice) (refusal : Refusal) (unselected : Unselected) → unselected ≡ unselected_by refusal → IsUnselected problem choice refusal → IsNotMade problem choice unselected
+not_made_by problem choice refusal unselected is h = subst (IsNotMade problem choice) (sym is) (not_made problem choice refusal h)
 
 -- ---- moves
 

@@ -5,8 +5,6 @@
 use Rattle.std.specs.Prelude.{◌≡◌, ℕ, true, false, Some, None, Ok}
 use Rattle.problem_definitions.specs.Problem.{Problem}
 use Rattle.lp_definitions.specs.LinearProgram.{LinearProgram}
-use Rattle.lp_setup.specs.declared.stop.SelectStop.{SelectStop}
-use Rattle.lp_setup.specs.declared.stop.SelectStop.TheVariants as stops
 use Rattle.selection_definitions.specs.Choice.{Choice}
 use Rattle.selection_definitions.specs.Selection.{selected}
 use Rattle.selection_definitions.specs.Making.{is_made}
@@ -15,21 +13,19 @@ use Rattle.listing_definitions.specs.declared.VerbFault.TheVariants as faults
 use Rattle.control_definitions.specs.Cells.{Cells}
 use Rattle.control_definitions.specs.Program.{SetupOptions}
 use Rattle.run_definitions.specs.State.{choice_of}
+use Rattle.run_machine.specs.declared.selecting.Refusal.{Refusal}
+use Rattle.run_machine.specs.declared.selecting.Refusal.TheVariants as refusals
 use Rattle.run_machine.specs.Choosing.{HasSelectionFault}
 use Rattle.run_machine.specs.Standing.{named, filed}
 use Rattle.listing_walk.specs.declared.chosen.Named.{Named}
 use Rattle.listing_walk.specs.declared.selecting.Unselected.{Unselected}
 use Rattle.listing_walk.specs.declared.selecting.Unselected.TheVariants.{Fault, Unchecked, NoMemory}
 
--- each fault of a selection is a verb fault
-abbrev pub unselected_by : SelectStop → Unselected
-unselected_by stops.NoObjective = Fault faults.NoObjective
-unselected_by stops.ObjectiveNotFree = Fault faults.ObjectiveNotFree
-unselected_by stops.NoRhsSet = Fault faults.NoRhsSet
-unselected_by stops.NoRangeSet = Fault faults.NoRangeSet
-unselected_by stops.NoBoundSet = Fault faults.NoBoundSet
-unselected_by (stops.Overflow e) = Unchecked
-unselected_by stops.NoMemory = NoMemory
+-- why nothing is selected, without the evidence
+abbrev pub unselected_by : Refusal → Unselected
+unselected_by (refusals.Fault fault) = Fault fault
+unselected_by (refusals.Overflow e) = Unchecked
+unselected_by refusals.NoMemory = NoMemory
 
 pub record IsMade (problem : Problem ℕ) (choice : Choice) (lp : LinearProgram) : Type 0 where
   pub is_selected : selected problem choice ≡ Ok lp

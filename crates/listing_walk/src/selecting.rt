@@ -3,12 +3,12 @@ ghost use Rattle.std.specs.Prelude.{◌≡◌, IfOk, IfErr};
 ghost use Rattle.run_definitions.specs.State.{choice_of};
 ghost use Rattle.listing_walk.specs.Choosing.{unselected_by, IsMade, IsNotMade};
 
-use job_devices::NoMemory;
 use listing_definitions::VerbFault;
 use lp_model::Lp;
-use lp_setup::{Choice, SelectStop, SetupChoice, select};
+use lp_setup::SetupChoice;
 use problem_file::Problem;
-use run_cells::{Cells, NameCell};
+use run_cells::Cells;
+use run_machine::Refusal;
 use std::alloc::Global;
 use thiserror::Error;
 
@@ -26,29 +26,14 @@ pub enum Unselected {
     NoMemory,
 }
 
-// Why nothing is selected.
-fn unselected_by(stop: SelectStop) -> Unselected
-    ensures { result ≡ unselected_by stop }
+// Why nothing is selected, without the evidence.
+fn unselected_by(refusal: Refusal) -> Unselected
+    ensures { result ≡ unselected_by refusal }
 {
-    match stop {
-        SelectStop::NoObjective => Unselected::Fault(VerbFault::NoObjective),
-        SelectStop::ObjectiveNotFree => Unselected::Fault(VerbFault::ObjectiveNotFree),
-        SelectStop::NoRhsSet => Unselected::Fault(VerbFault::NoRhsSet),
-        SelectStop::NoRangeSet => Unselected::Fault(VerbFault::NoRangeSet),
-        SelectStop::NoBoundSet => Unselected::Fault(VerbFault::NoBoundSet),
-        SelectStop::Overflow(_) => Unselected::Unchecked,
-        SelectStop::NoMemory => Unselected::NoMemory,
-    }
-}
-
-// What the present cells choose with these options.
-fn present_choice(cells: &Cells, options: SetupChoice) -> Choice
-    ensures { result ≡ choice_of cells.now options }
-{
-    Choice {
-        objective: cells.name(NameCell::Xobj),
-        rhs: cells.name(NameCell::Xrhs),
-        options,
+    match refusal {
+        Refusal::Fault(fault) => Unselected::Fault(fault),
+        Refusal::Overflow(_) => Unselected::Unchecked,
+        Refusal::NoMemory => Unselected::NoMemory,
     }
 }
 
@@ -62,9 +47,8 @@ pub fn select_present(
     ensures made { IfOk result (IsMade problem.now (choice_of cells.now options)) }
     ensures refused { IfErr result (IsNotMade problem.now (choice_of cells.now options)) }
 {
-    let choice = present_choice(cells, options);
-    match select(alloc, problem, &choice) {
+    match run_machine::select_present(alloc, problem, cells, options) {
         Ok(lp) => Ok(lp),
-        Err(stop) => Err(unselected_by(stop)),
+        Err(refusal) => Err(unselected_by(refusal)),
     }
 }

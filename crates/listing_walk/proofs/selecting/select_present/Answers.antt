@@ -4,5 +4,4 @@ use Rattle.listing_walk.proofs.selecting.select_present.Goals as goal
 
 pub returns-in-Err-clause-refused : goal.returns-in-Err-clause-refused
 returns-in-Err-clause-refused c =
-    not_made_by c.args.problem.now c.present_choice-choice.result (choice_of c.args.cells.now c.args.options) c.in-Err.stop c.unselected_by.result c.present_choice-choice.ensures c.unselected_by.ensures
-    c.in-Err.ensures.fault c.in-Err.ensures.overflow
+    not_made_by c.args.problem.now (choice_of c.args.cells.now c.args.options) c.in-Err.refusal c.unselected_by.result c.unselected_by.ensures c.in-Err.ensures.refused
