@@ -3,6 +3,7 @@ ghost use Rattle.std.specs.Prelude.{◌≡◌, ◌≤◌, ◌++◌, ◌∷◌, [
 ghost use Rattle.std.specs.List.{IsDistinct};
 ghost use Rattle.problem_definitions.specs.Names.{same};
 ghost use Rattle.name_table.specs.Numbers.{number_of};
+ghost use Rattle.problem_definitions.specs.declared.TheConstants.{MAX_ROWS, MAX_COLUMNS};
 
 use lp_model::NoMemory;
 use name_table::{AddStop, Name, NameTable};
@@ -11,7 +12,7 @@ use std::alloc::Global;
 
 // Puts a name at the end that isn't there.
 fn add_new(names: &mut NameTable, name: Name) -> Result<(), NoMemory>
-    requires room { length names.old ≤ 5000 }
+    requires room { length names.old ≤ MAX_COLUMNS }
     requires is_new { number_of name names.old ≡ None }
     ensures { OnOk result (names.new ≡ names.old ++ name ∷ []) }
 {
@@ -24,7 +25,7 @@ fn add_new(names: &mut NameTable, name: Name) -> Result<(), NoMemory>
 
 /// The names of these rows.
 pub fn names_of_rows(alloc: Global, rows: &[RowDecl]) -> Result<NameTable, NoMemory>
-    requires few { length rows.now ≤ 1000 }
+    requires few { length rows.now ≤ MAX_ROWS }
     requires distinct { IsDistinct same (map (λ row. row.name) rows.now) }
     ensures { IfOk result (λ names. names ≡ map (λ row. row.name) rows.now) }
 {
@@ -37,7 +38,7 @@ pub fn names_of_rows(alloc: Global, rows: &[RowDecl]) -> Result<NameTable, NoMem
 
 /// The names of these columns.
 pub fn names_of_columns(alloc: Global, columns: &[ColumnDecl]) -> Result<NameTable, NoMemory>
-    requires few { length columns.now ≤ 5000 }
+    requires few { length columns.now ≤ MAX_COLUMNS }
     requires distinct { IsDistinct same (map (λ column. column.name) columns.now) }
     ensures { IfOk result (λ names. names ≡ map (λ column. column.name) columns.now) }
 {

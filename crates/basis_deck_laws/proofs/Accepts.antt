@@ -17,7 +17,8 @@ use Rattle.deck_definitions.specs.Described.{described}
 use Rattle.deck_definitions.specs.declared.Style.TheVariants.{FixedFields}
 use Rattle.deck_definitions.specs.DataCards.{header_style, style_begun, style_of, form_on}
 use Rattle.deck_definitions.specs.Conversion.{section_card_fault, gaps_fault, section_fault, data_card_fault, card_fault, first_faulty}
-use Rattle.deck_definitions.proofs.Steps.{section_after-push, style_of-push, style_of-data, with_card, described-data, described-section, first_faulty-append}
+use Rattle.deck_definitions.proofs.Steps.{section_after-push, style_of-push, style_of-data, described-data, described-section, first_faulty-append}
+use Rattle.deck_definitions.specs.Steps.{with_card}
 use Rattle.basis_deck_laws.proofs.Cards.{IsWritten}
 
 -- where a reader stands after some cards of a fixed deck: the section that goes on, and the problem described

@@ -21,7 +21,7 @@ use Rattle.deck_definitions.specs.declared.Section.TheVariants.{Bounds}
 use Rattle.deck_definitions.specs.DataCards.{bound_of}
 use Rattle.deck_definitions.specs.Tests.{bounds_fault, bound_fault, is_bound_already, bound_value_fault, value_fault, number_fault_from, filled_from_5}
 use Rattle.deck_definitions.specs.Written.{data_card, bound_kind_text, bound_text}
-use Rattle.deck_definitions.proofs.Steps.{with_card, with_group}
+use Rattle.deck_definitions.specs.Steps.{with_card, with_group}
 use Rattle.deck_definitions.proofs.WrittenCards.{FitsField}
 use Rattle.deck_definitions.proofs.Examples.{bound_words}
 use Rattle.basis_deck_laws.proofs.Cards.{IsWritten, fields, written-card}

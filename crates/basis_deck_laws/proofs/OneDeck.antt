@@ -13,7 +13,7 @@ use Rattle.problem_definitions.proofs.Each.{each-append}
 use Rattle.deck_definitions.specs.Decks.{decks_of, name_of_deck}
 use Rattle.deck_definitions.specs.Written.{name_card, card_text}
 use Rattle.basis_deck_laws.proofs.Decks.{GoesOn, data-goes-on, mapped, one-deck-of, called-by}
-use Rattle.basis_deck_laws.proofs.Printable.{ArePrintable}
+use Rattle.basis_deck_laws.proofs.Printable.{IsPrintableText}
 use Rattle.basis_deck_laws.proofs.Texts.{IsCard, read-back, append-printable, trimmed-card, data-is}
 use Rattle.basis_deck_definitions.specs.Placings.{HasNames}
 use Rattle.basis_deck_definitions.specs.Writing.{is_up, basic_columns, nonbasic_rows, raised, exchange_card, limit_card, basis_deck}
@@ -40,7 +40,7 @@ module _ (problem : Problem ℕ) (lp : LinearProgram) (s : List Status) where
     subst (λ texts. name_of_deck (numbered_from first texts) ≡ Some problem.name) (sym deck_is) (called-by problem.name (body ++ codes "ENDATA" ∷ []) first lawful.name),
   )
 
-  code_printable : (up : Bool) → ArePrintable (cond up (codes "XU") (codes "XL"))
+  code_printable : (up : Bool) → IsPrintableText (cond up (codes "XU") (codes "XL"))
   code_printable true = refl
   code_printable false = refl
 

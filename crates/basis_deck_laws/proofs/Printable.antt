@@ -11,8 +11,8 @@ use Rattle.card_definitions.proofs.FirstFaults.{passes, test_fails}
 use Rattle.problem_definitions.specs.Valid.{IsDecimal}
 use Rattle.basis_deck_laws.proofs.Facts.{reads-as}
 
-abbrev pub ArePrintable : List ℕ → Type 0
-ArePrintable text = list_all is_printable text ≡ true
+abbrev pub IsPrintableText : List ℕ → Type 0
+IsPrintableText text = list_all is_printable text ≡ true
 
 -- ---- what is printable where its parts are
 
@@ -25,37 +25,37 @@ and-second true b h = h
 and-second false b h = absurd (cc h)
 
 module _ (p : ℕ → Bool) (printable : (x : ℕ) → p x ≡ true → is_printable x ≡ true) where
-  all-leading : (xs : List ℕ) → ArePrintable (without_leading p xs) → ArePrintable xs
+  all-leading : (xs : List ℕ) → IsPrintableText (without_leading p xs) → IsPrintableText xs
   all-leading [] h = refl
   all-leading (x ∷ xs) h = by (p x) refl h (all-leading xs)
     where
-      by : (b : Bool) → p x ≡ b → ArePrintable (drop (cond b (1 + prefix_len p xs) 0) (x ∷ xs)) → (ArePrintable (drop (prefix_len p xs) xs) → ArePrintable xs) → ArePrintable (x ∷ xs)
+      by : (b : Bool) → p x ≡ b → IsPrintableText (drop (cond b (1 + prefix_len p xs) 0) (x ∷ xs)) → (IsPrintableText (drop (prefix_len p xs) xs) → IsPrintableText xs) → IsPrintableText (x ∷ xs)
       by true e h rest =
           let next : 1 + prefix_len p xs ≡ suc (prefix_len p xs) = omega arith in
-          and_from (is_printable x) (list_all is_printable xs) (printable x e) (rest (subst (λ n. ArePrintable (drop n (x ∷ xs))) next h))
+          and_from (is_printable x) (list_all is_printable xs) (printable x e) (rest (subst (λ n. IsPrintableText (drop n (x ∷ xs))) next h))
       by false e h rest = h
 
-  all-after_one : (xs : List ℕ) → ArePrintable (after_one p xs) → ArePrintable xs
+  all-after_one : (xs : List ℕ) → IsPrintableText (after_one p xs) → IsPrintableText xs
   all-after_one [] h = refl
   all-after_one (x ∷ xs) h = by (p x) refl h
     where
-      by : (b : Bool) → p x ≡ b → ArePrintable (cond b xs (x ∷ xs)) → ArePrintable (x ∷ xs)
+      by : (b : Bool) → p x ≡ b → IsPrintableText (cond b xs (x ∷ xs)) → IsPrintableText (x ∷ xs)
       by true e h = and_from (is_printable x) (list_all is_printable xs) (printable x e) h
       by false e h = h
 
-  all-parts : (xs : List ℕ) → ArePrintable (before_first p xs) → ArePrintable (after_first p xs) → ArePrintable xs
+  all-parts : (xs : List ℕ) → IsPrintableText (before_first p xs) → IsPrintableText (after_first p xs) → IsPrintableText xs
   all-parts [] before after = refl
   all-parts (x ∷ xs) before after = by (p x) refl before after (all-parts xs)
     where
-      by : (b : Bool) → p x ≡ b → ArePrintable (take (cond (not b) (1 + position_or_len p xs) 0) (x ∷ xs)) → ArePrintable (drop (cond (not b) (1 + position_or_len p xs) 0 + 1) (x ∷ xs))
-          → (ArePrintable (take (position_or_len p xs) xs) → ArePrintable (drop (position_or_len p xs + 1) xs) → ArePrintable xs) → ArePrintable (x ∷ xs)
+      by : (b : Bool) → p x ≡ b → IsPrintableText (take (cond (not b) (1 + position_or_len p xs) 0) (x ∷ xs)) → IsPrintableText (drop (cond (not b) (1 + position_or_len p xs) 0 + 1) (x ∷ xs))
+          → (IsPrintableText (take (position_or_len p xs) xs) → IsPrintableText (drop (position_or_len p xs + 1) xs) → IsPrintableText xs) → IsPrintableText (x ∷ xs)
       by true e front back rest = and_from (is_printable x) (list_all is_printable xs) (printable x e) back
       by false e front back rest =
           let one : 1 + position_or_len p xs ≡ suc (position_or_len p xs) = omega arith in
           let two : 1 + position_or_len p xs + 1 ≡ suc (position_or_len p xs + 1) = omega arith in
-          let front = subst (λ n. ArePrintable (take n (x ∷ xs))) one front in
+          let front = subst (λ n. IsPrintableText (take n (x ∷ xs))) one front in
           and_from (is_printable x) (list_all is_printable xs) (and-first (is_printable x) (list_all is_printable (take (position_or_len p xs) xs)) front)
-          (rest (and-second (is_printable x) (list_all is_printable (take (position_or_len p xs) xs)) front) (subst (λ n. ArePrintable (drop n (x ∷ xs))) two back))
+          (rest (and-second (is_printable x) (list_all is_printable (take (position_or_len p xs) xs)) front) (subst (λ n. IsPrintableText (drop n (x ∷ xs))) two back))
 
 -- ---- the bytes of a number
 
@@ -96,23 +96,23 @@ record IsFormed (text : List ℕ) : Type 0 where
   whole_mantissa : rest_of_mantissa text ≡ []
   whole_exponent : rest_of_exponent text ≡ []
 
-formed-printable : (text : List ℕ) → IsFormed text → ArePrintable text
+formed-printable : (text : List ℕ) → IsFormed text → IsPrintableText text
 formed-printable text is = all-parts is_exponent_letter letter-printable text
     (all-after_one is_sign sign-printable (mantissa text) (all-leading is_digit digit-printable (after_one is_sign (mantissa text))
     (all-after_one is_point point-printable (after_whole_digits text) (all-leading is_digit digit-printable (after_one is_point (after_whole_digits text)) (ap (list_all is_printable) is.whole_mantissa)))))
     (all-after_one is_sign sign-printable (exponent text) (all-leading is_digit digit-printable (after_one is_sign (exponent text)) (ap (list_all is_printable) is.whole_exponent)))
 
-formed : (text : List ℕ) → length text ≤ formed_length text → ArePrintable text
+formed : (text : List ℕ) → length text ≤ formed_length text → IsPrintableText text
 formed [] h = refl
 formed (x ∷ xs) h = by (rest_of_mantissa (x ∷ xs)) (rest_of_exponent (x ∷ xs)) refl refl h
   where
-    by : (rm re : List ℕ) → rest_of_mantissa (x ∷ xs) ≡ rm → rest_of_exponent (x ∷ xs) ≡ re → length (x ∷ xs) ≤ cond (is_empty rm) (length (x ∷ xs) - length re) (length (mantissa (x ∷ xs)) - length rm) → ArePrintable (x ∷ xs)
+    by : (rm re : List ℕ) → rest_of_mantissa (x ∷ xs) ≡ rm → rest_of_exponent (x ∷ xs) ≡ re → length (x ∷ xs) ≤ cond (is_empty rm) (length (x ∷ xs) - length re) (length (mantissa (x ∷ xs)) - length rm) → IsPrintableText (x ∷ xs)
     by [] [] em ee h = formed-printable (x ∷ xs) (record { whole_mantissa = em; whole_exponent = ee })
     by [] (y ∷ ys) em ee h = absurd (omega (arith, h))
     by (y ∷ ys) re em ee h = absurd (omega (arith, h, length-take (position_or_len is_exponent_letter (x ∷ xs)) (x ∷ xs)))
 
 -- The text of a number.
-pub number-printable : (number : Decimal) → IsDecimal number → ArePrintable number.text
+pub number-printable : (number : Decimal) → IsDecimal number → IsPrintableText number.text
 unfolding number_fault
 number-printable number is =
     let reads = reads-as number is in
@@ -123,7 +123,7 @@ number-printable number is =
     (lacks_digit text ⟹ NoDigit) ∷
     (nat_lt 18 (exponent_size text) ⟹ ExponentRange) ∷ []) reads.fine in
     let whole = test_fails (nat_lt (formed_length text) (length text)) (BadCharacter (prefix_len is_blank number.text + formed_length text + 1)) t.1.0 in
-    subst ArePrintable (ap (λ (d : Decimal). d.text) reads.again) (formed text (not-less (formed_length text) (length text) whole))
+    subst IsPrintableText (ap (λ (d : Decimal). d.text) reads.again) (formed text (not-less (formed_length text) (length text) whole))
   where
     not-less : (a b : ℕ) → nat_lt a b ≡ false → b ≤ a
     not-less a b h = omega (arith, leb-false (suc a) b h)

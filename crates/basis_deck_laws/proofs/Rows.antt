@@ -20,7 +20,7 @@ use Rattle.deck_definitions.specs.declared.Section.TheVariants.{Rows}
 use Rattle.deck_definitions.specs.DataCards.{combination_kinds, combination_text, kind_on, is_card_of, row_of, parts_on, part_pairs_of}
 use Rattle.deck_definitions.specs.Tests.{filled_from_3, pairs_fault, row_fault}
 use Rattle.deck_definitions.specs.Written.{data_card, row_kind_text, combination_cards, row_cards}
-use Rattle.deck_definitions.proofs.Steps.{with_card}
+use Rattle.deck_definitions.specs.Steps.{with_card}
 use Rattle.deck_definitions.proofs.GoesOn.{with_row-new, row_fault-new, with_row-more, row_fault-more}
 use Rattle.deck_definitions.proofs.WrittenCards.{FitsField}
 use Rattle.basis_deck_laws.proofs.Cards.{IsWritten, fields, written-card}

@@ -29,11 +29,11 @@ use Rattle.deck_definitions.specs.Written.{row_kind_text, bound_kind_text, data_
 use Rattle.revise_laws.proofs.Lists.{each-filter}
 use Rattle.revise_laws.proofs.ByNames.{named-lawful}
 use Rattle.basis_deck_laws.proofs.Facts.{from-map, label-of}
-use Rattle.basis_deck_laws.proofs.Printable.{ArePrintable, number-printable}
+use Rattle.basis_deck_laws.proofs.Printable.{IsPrintableText, number-printable}
 
 -- a card of printable bytes, of which the last isn't a blank
 pub record IsCard (card : List ℕ) : Type 0 where
-  pub printable : ArePrintable card
+  pub printable : IsPrintableText card
   pub trimmed : without_trailing is_blank card ≡ card
 
 -- ---- cards come back from their text
@@ -45,14 +45,14 @@ printable-apart x n h none = by (eqb x n) refl
     by false e = refl
     by true e = let same = ap is_printable (eqb-true x n e) in absurd (cc (same, h, none))
 
-first-printable : (x : ℕ) (xs : List ℕ) → ArePrintable (x ∷ xs) → is_printable x ≡ true
+first-printable : (x : ℕ) (xs : List ℕ) → IsPrintableText (x ∷ xs) → is_printable x ≡ true
 first-printable x xs h = by (is_printable x) (list_all is_printable xs) h
   where
     by : (a b : Bool) → (a && b) ≡ true → a ≡ true
     by true b h = refl
     by false b h = h
 
-rest-printable : (x : ℕ) (xs : List ℕ) → ArePrintable (x ∷ xs) → ArePrintable xs
+rest-printable : (x : ℕ) (xs : List ℕ) → IsPrintableText (x ∷ xs) → IsPrintableText xs
 rest-printable x xs h = by (is_printable x) (list_all is_printable xs) h
   where
     by : (a b : Bool) → (a && b) ≡ true → b ≡ true
@@ -60,7 +60,7 @@ rest-printable x xs h = by (is_printable x) (list_all is_printable xs) h
     by false b h = absurd (cc h)
 
 -- no carriage return stands in printable bytes
-same-trailing : (xs : List ℕ) → ArePrintable xs → without_trailing is_trailing xs ≡ without_trailing is_blank xs
+same-trailing : (xs : List ℕ) → IsPrintableText xs → without_trailing is_trailing xs ≡ without_trailing is_blank xs
 same-trailing [] h = refl
 same-trailing (x ∷ xs) h =
     without_trailing-cons is_trailing x xs
@@ -71,7 +71,7 @@ same-trailing (x ∷ xs) h =
     blank true b h = refl
     blank false b h = h
 
-no-line-feed : (xs : List ℕ) → ArePrintable xs → AllByRecursion (λ x. is_line_feed x ≡ false) xs
+no-line-feed : (xs : List ℕ) → IsPrintableText xs → AllByRecursion (λ x. is_line_feed x ≡ false) xs
 no-line-feed [] h = tt
 no-line-feed (x ∷ xs) h = (printable-apart x 10 (first-printable x xs h) refl, no-line-feed xs (rest-printable x xs h))
 
@@ -99,20 +99,20 @@ read-back cards each = ap (λ parts. map (without_trailing is_trailing) (without
 
 -- ---- the cards of a deck
 
-pub append-printable : (xs ys : List ℕ) → ArePrintable xs → ArePrintable ys → ArePrintable (xs ++ ys)
+pub append-printable : (xs ys : List ℕ) → IsPrintableText xs → IsPrintableText ys → IsPrintableText (xs ++ ys)
 append-printable xs ys px py = list_all-append is_printable xs ys ∙ ap₂ (λ a b. a && b) px py
 
-blanks-printable : (n : ℕ) → ArePrintable (replicate n 32)
+blanks-printable : (n : ℕ) → IsPrintableText (replicate n 32)
 blanks-printable zero = refl
 blanks-printable (suc n) = blanks-printable n
 
-padded-printable : (width : ℕ) (text : List ℕ) → ArePrintable text → ArePrintable (padded width text)
+padded-printable : (width : ℕ) (text : List ℕ) → IsPrintableText text → IsPrintableText (padded width text)
 padded-printable width text h = append-printable text (replicate (width - length text) 32) h (blanks-printable (width - length text))
 
-pub trimmed-card : (xs : List ℕ) → ArePrintable xs → IsCard (without_trailing is_blank xs)
+pub trimmed-card : (xs : List ℕ) → IsPrintableText xs → IsCard (without_trailing is_blank xs)
 trimmed-card xs h = record { printable = part_passes is_printable 0 (length xs - suffix_len is_blank xs) xs h; trimmed = trimmed_twice is_blank xs }
 
-pub data-is : (kind name1 name2 value : List ℕ) → ArePrintable kind → ArePrintable name1 → ArePrintable name2 → ArePrintable value → IsCard (data_card kind name1 name2 value)
+pub data-is : (kind name1 name2 value : List ℕ) → IsPrintableText kind → IsPrintableText name1 → IsPrintableText name2 → IsPrintableText value → IsCard (data_card kind name1 name2 value)
 unfolding data_card
 data-is kind name1 name2 value pk p1 p2 pv =
     let K = padded 2 kind in
@@ -130,19 +130,19 @@ cards-flat : {X : Type 0} (P : X → Type 0) (f : X → List (List ℕ)) → ((x
 cards-flat P f is [] each = tt
 cards-flat P f is (x ∷ xs) each = each-append IsCard (f x) (flat_map f xs) (is x each.0) (cards-flat P f is xs each.1)
 
-row-kind : (kind : RowKind) → ArePrintable (row_kind_text kind)
+row-kind : (kind : RowKind) → IsPrintableText (row_kind_text kind)
 row-kind N = refl
 row-kind G = refl
 row-kind L = refl
 row-kind E = refl
 
-combination-kind : (kind : RowKind) → ArePrintable (combination_text kind)
+combination-kind : (kind : RowKind) → IsPrintableText (combination_text kind)
 combination-kind N = refl
 combination-kind G = refl
 combination-kind L = refl
 combination-kind E = refl
 
-bound-kind : (kind : BoundKind) → ArePrintable (bound_kind_text kind)
+bound-kind : (kind : BoundKind) → IsPrintableText (bound_kind_text kind)
 bound-kind Up = refl
 bound-kind Lo = refl
 bound-kind Fx = refl
@@ -211,7 +211,7 @@ module _ (q : Problem Name) (lawful : IsLawful q) (name : IsName q.name) where
   bounds-are : (set : Group (Bound Name)) → IsGroup (AreLawfulBounds q.columns) set → AllByRecursion IsCard (bound_cards set)
   bounds-are set is = by set.items is.items.on_columns is.items.values
     where
-      text : (bound : Bound Name) (o : Option Decimal) → bound.value ≡ o → IfSome o IsDecimal → ArePrintable (bound_text bound)
+      text : (bound : Bound Name) (o : Option Decimal) → bound.value ≡ o → IfSome o IsDecimal → IsPrintableText (bound_text bound)
       text bound None e is = rw e refl
       text bound (Some number) e is = rw e (number-printable number is)
 

@@ -14,6 +14,7 @@ use Rattle.card_definitions.specs.declared.CardFault.{CardFault}
 use Rattle.card_definitions.specs.declared.CardFault.TheVariants.{TooLong, NotPrintable, CardTooLong}
 use Rattle.card_definitions.proofs.Numbered.{numbered_from-append}
 use Rattle.card_reader.specs.Spans.{IsFaultless}
+use Rattle.card_definitions.specs.declared.TheConstants.{MAX_JOB_CARDS, MAX_JOB_BYTES}
 
 -- the fault of the first card that has one
 abbrev pub fault_of_cards : List (List ℕ) → Option CardFault
@@ -34,27 +35,27 @@ fault_of_cards-append cards card number at =
     ∙ ap (option_or (fault_of_cards cards)) (first_fault-one (card_fault last))
 
 -- more bytes than a job may have
-pub job_fault-bytes : (job : List ℕ) → 16400000 < length job → job_fault job ≡ Some TooLong
+pub job_fault-bytes : (job : List ℕ) → MAX_JOB_BYTES < length job → job_fault job ≡ Some TooLong
 unfolding job_fault
 job_fault-bytes job long =
-    let size : nat_lt 16400000 (length job) ≡ true = grind (arith, nat_tests) in
-    ap (λ t. first_fault ((t ⟹ TooLong) ∷ map card_fault (numbered_cards (cards_of job)))) (or_left (nat_lt 16400000 (length job)) (nat_lt 200000 (length (cards_of job))) size)
+    let size : nat_lt MAX_JOB_BYTES (length job) ≡ true = grind (arith, nat_tests) in
+    ap (λ t. first_fault ((t ⟹ TooLong) ∷ map card_fault (numbered_cards (cards_of job)))) (or_left (nat_lt MAX_JOB_BYTES (length job)) (nat_lt MAX_JOB_CARDS (length (cards_of job))) size)
 
 -- more cards than a job may have
-pub job_fault-cards : (job : List ℕ) → 200000 < length (cards_of job) → job_fault job ≡ Some TooLong
+pub job_fault-cards : (job : List ℕ) → MAX_JOB_CARDS < length (cards_of job) → job_fault job ≡ Some TooLong
 unfolding job_fault
 job_fault-cards job many =
-    let count : nat_lt 200000 (length (cards_of job)) ≡ true = grind (arith, nat_tests) in
-    ap (λ t. first_fault ((t ⟹ TooLong) ∷ map card_fault (numbered_cards (cards_of job)))) (or_right (nat_lt 16400000 (length job)) (nat_lt 200000 (length (cards_of job))) count)
+    let count : nat_lt MAX_JOB_CARDS (length (cards_of job)) ≡ true = grind (arith, nat_tests) in
+    ap (λ t. first_fault ((t ⟹ TooLong) ∷ map card_fault (numbered_cards (cards_of job)))) (or_right (nat_lt MAX_JOB_BYTES (length job)) (nat_lt MAX_JOB_CARDS (length (cards_of job))) count)
 
 -- neither, so the fault is that of the first card that has one
-pub job_fault-within : (job : List ℕ) (cards : List (List ℕ)) → length job ≤ 16400000 → length cards ≤ 200000 → cards ≡ cards_of job → job_fault job ≡ fault_of_cards cards
+pub job_fault-within : (job : List ℕ) (cards : List (List ℕ)) → length job ≤ MAX_JOB_BYTES → length cards ≤ MAX_JOB_CARDS → cards ≡ cards_of job → job_fault job ≡ fault_of_cards cards
 unfolding job_fault
 job_fault-within job cards short few all =
-    let size : nat_lt 16400000 (length job) ≡ false = grind (arith, nat_tests) in
-    let fewer : length (cards_of job) ≤ 200000 = omega (arith, ap length all) in
-    let count : nat_lt 200000 (length (cards_of job)) ≡ false = grind (arith, nat_tests) in
-    ap (λ t. first_fault ((t ⟹ TooLong) ∷ map card_fault (numbered_cards (cards_of job)))) (or_from (nat_lt 16400000 (length job)) (nat_lt 200000 (length (cards_of job))) size count)
+    let size : nat_lt MAX_JOB_BYTES (length job) ≡ false = grind (arith, nat_tests) in
+    let fewer : length (cards_of job) ≤ MAX_JOB_CARDS = omega (arith, ap length all) in
+    let count : nat_lt MAX_JOB_CARDS (length (cards_of job)) ≡ false = grind (arith, nat_tests) in
+    ap (λ t. first_fault ((t ⟹ TooLong) ∷ map card_fault (numbered_cards (cards_of job)))) (or_from (nat_lt MAX_JOB_BYTES (length job)) (nat_lt MAX_JOB_CARDS (length (cards_of job))) size count)
     ∙ ap fault_of_cards (sym all)
 
 -- a card without a fault is printable, and short enough

@@ -2,7 +2,7 @@
 use Rattle.std.specs.Prelude.{ℕ, ◌≤◌, List, length, map, slice_range, All, IsTrue}
 use Rattle.std.specs.List.{list_all}
 use Rattle.card_definitions.specs.Cards.{is_printable}
-use Rattle.card_definitions.specs.declared.TheConstants.{MAX_JOB_CARDS}
+use Rattle.card_definitions.specs.declared.TheConstants.{MAX_JOB_CARDS, CARD_COLUMNS}
 use Rattle.card_reader.specs.declared.span.Span.{Span}
 
 -- the bytes of a span
@@ -21,7 +21,7 @@ pub record IsWithin (len : ℕ) (span : Span) : Type 0 where
 -- a card without a fault has printable bytes alone, and at most 80
 pub record IsFaultless (card : List ℕ) : Type 0 where
   pub printable : IsTrue (list_all is_printable card)
-  pub short : length card ≤ 80
+  pub short : length card ≤ CARD_COLUMNS
 
 -- the spans lie within the bytes, are no more than a job may have cards, and mark cards without a fault
 pub record AreSpans (bytes : List ℕ) (spans : List Span) : Type 0 where

@@ -2,6 +2,7 @@
 ghost use Rattle.std.specs.Prelude.{◌≤◌, length, IsTrue};
 ghost use Rattle.std.specs.List.{list_all};
 ghost use Rattle.card_definitions.specs.Cards.{is_printable};
+ghost use Rattle.card_definitions.specs.declared.TheConstants.{CARD_COLUMNS};
 
 use crate::blanks::without_blanks;
 
@@ -10,7 +11,7 @@ use crate::blanks::without_blanks;
 pub struct Card<'a> {
     bytes: &'a [u8],
     ghost printable: { IsTrue (list_all is_printable bytes.now) },
-    ghost short: { length bytes.now ≤ 80 },
+    ghost short: { length bytes.now ≤ CARD_COLUMNS },
 }
 
 impl<'a> Card<'a> {
@@ -21,7 +22,7 @@ impl<'a> Card<'a> {
 
     pub(crate) fn new(bytes: &'a [u8]) -> Card<'a>
         requires printable { IsTrue (list_all is_printable bytes.now) }
-        requires short { length bytes.now ≤ 80 }
+        requires short { length bytes.now ≤ CARD_COLUMNS }
         ensures { card_bytes result ≡ bytes.now }
     {
         Card { bytes }
@@ -31,7 +32,7 @@ impl<'a> Card<'a> {
     pub fn bytes(&self) -> &'a [u8]
         ensures bytes { result.now ≡ card_bytes self.now }
         ensures printable { IsTrue (list_all is_printable result.now) }
-        ensures short { length result.now ≤ 80 }
+        ensures short { length result.now ≤ CARD_COLUMNS }
     {
         self.bytes
     }
@@ -40,7 +41,7 @@ impl<'a> Card<'a> {
     pub fn field(&self, from: u8, to: u8) -> &'a [u8]
         requires first { 1 ≤ from }
         requires ordered { from ≤ to }
-        requires last { to ≤ 80 }
+        requires last { to ≤ CARD_COLUMNS }
         ensures { result.now ≡ columns from to (card_bytes self.now) }
     {
         let end = self.bytes.len().min(usize::from(to));

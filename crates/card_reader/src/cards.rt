@@ -2,6 +2,7 @@
 ghost use Rattle.std.specs.Prelude.{◌≡◌, ◌≤◌, ◌-◌, List, ℕ, length, slice_get, Some, All};
 ghost use Rattle.card_reader.specs.Card.{card_bytes};
 ghost use Rattle.card_reader.specs.Spans.{cards_at, IsWithin, AreSpans, IsFaultless};
+ghost use Rattle.card_definitions.specs.declared.TheConstants.{MAX_JOB_CARDS};
 
 use crate::card::Card;
 use crate::span::Span;
@@ -26,7 +27,7 @@ impl Model for Cards {
 impl Cards {
     pub(crate) fn new(bytes: Vec<u8>, spans: Vec<Span>) -> Cards
         requires within { All (IsWithin (length bytes.items)) spans.items }
-        requires few { length spans.items ≤ 200000 }
+        requires few { length spans.items ≤ MAX_JOB_CARDS }
         requires faultless { All IsFaultless (cards_at bytes.items spans.items) }
         ensures { result ≡ cards_at bytes.items spans.items }
     {
@@ -36,7 +37,7 @@ impl Cards {
     /// How many cards there are.
     pub fn count(&self) -> u32
         ensures count { result ≡ length self.now }
-        ensures few { result ≤ 200000 }
+        ensures few { result ≤ MAX_JOB_CARDS }
     {
         self.spans.len() as u32
     }

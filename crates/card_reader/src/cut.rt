@@ -4,6 +4,7 @@ ghost use Rattle.std.specs.List.{list_all, position, position_or_len, suffix_len
 ghost use Rattle.card_definitions.specs.Cards.{is_line_feed, is_trailing, is_printable, cards_of, card_fault};
 ghost use Rattle.card_reader.specs.Reading.{Judges};
 ghost use Rattle.card_reader.specs.Spans.{span_bytes, cards_at, IsWithin, IsFaultless};
+ghost use Rattle.card_definitions.specs.declared.TheConstants.{MAX_JOB_BYTES};
 
 use crate::span::Span;
 use crate::stop::{CardStop, ReadingFault};
@@ -74,10 +75,10 @@ fn fault_of(number: u32, card: &[u8]) -> Option<CardFault>
 
 /// Where the cards of the job stand.
 pub fn cut_cards(alloc: Global, bytes: &[u8]) -> Result<Vec<Span>, CardStop<ReadingFault>>
-    requires { length bytes.now ≤ 16400000 }
+    requires { length bytes.now ≤ MAX_JOB_BYTES }
     ensures cards { IfOk result (λ spans. cards_at bytes.now spans.items ≡ cards_of bytes.now) }
     ensures within { IfOk result (λ spans. All (IsWithin (length bytes.now)) spans.items) }
-    ensures few { IfOk result (λ spans. length spans.items ≤ 200000) }
+    ensures few { IfOk result (λ spans. length spans.items ≤ MAX_JOB_CARDS) }
     ensures faultless { IfOk result (λ spans. All IsFaultless (cards_at bytes.now spans.items)) }
     ensures fault { Judges result (Some bytes.now) }
     ensures no_read { IsErrOf result (CardStop.Fault ReadingFault.Source) → ⊥ }

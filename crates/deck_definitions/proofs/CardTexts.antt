@@ -19,6 +19,7 @@ use Rattle.deck_definitions.specs.declared.Style.{Style}
 use Rattle.deck_definitions.specs.declared.Style.TheVariants.{FixedFields, FreeFields}
 use Rattle.deck_definitions.specs.DataCards.{Pair, pair_if, pairs_of, part_pairs_of, form_on, words_on}
 use Rattle.deck_definitions.specs.Conversion.{is_longer, type_fault, words_fault, form_fault}
+use Rattle.deck_definitions.specs.Readings.{IsReading}
 
 -- columns of a card are no more than so many
 short_columns : (from to n : ℕ) (card : List ℕ) → to + 1 - from ≤ n → length (columns from to card) ≤ n
@@ -36,14 +37,6 @@ columns-name from to card few printable = record {
   where
     part : List ℕ
     part = take (to + 1 - from) (drop (from - 1) card)
-
--- names and fields of numbers, as a card has them
-pub record IsReading (card : Reading) : Type 0 where
-  pub name1 : IsName card.name1
-  pub name2 : IsName card.name2
-  pub name3 : IsName card.name3
-  pub value1 : length card.value1 ≤ 12
-  pub value2 : length card.value2 ≤ 12
 
 -- fixed columns are few enough, whatever stands in the gaps
 pub fixed-lawful : (card : List ℕ) → list_all is_printable card ≡ true → IsReading (reading_of Fixed card)

@@ -22,13 +22,11 @@ use Rattle.deck_definitions.specs.DataCards.{style_of, form_on, read_after}
 use Rattle.deck_definitions.specs.Described.{described}
 use Rattle.deck_definitions.specs.Conversion.{section_card_fault, form_fault, section_fault, data_card_fault, card_fault, first_faulty, deck_fault, deck_name, conversion}
 use Rattle.deck_definitions.specs.Sections.{may_follow}
-use Rattle.deck_definitions.proofs.Steps.{with_card, described-data, described-section}
+use Rattle.deck_definitions.proofs.Steps.{described-data, described-section}
+use Rattle.deck_definitions.specs.Steps.{with_card}
 use Rattle.deck_definitions.proofs.CardTexts.{columns-name, reading-lawful}
 use Rattle.deck_definitions.proofs.Validity.{card-step}
-
--- cards of printable bytes
-abbrev pub ArePrintable : List Card → Type 0
-ArePrintable cards = AllByRecursion (λ (card : Card). list_all is_printable card.bytes ≡ true) cards
+use Rattle.deck_definitions.specs.Readings.{ArePrintableCards}
 
 -- a data card in which no fault was found stands in a section, has its form, and passes its tests
 record DataPasses (seen : Problem Name) (style : Style) (section : Option Section) (card : List ℕ) : Type 0 where
@@ -75,7 +73,7 @@ no_kind : {A B : Type 0} (f : A → B) (o : Option A) → option_map f o ≡ Non
 no_kind f None h = refl
 no_kind f (Some x) h = absurd (cc h)
 
-accepted-cards : (before after : List Card) → ArePrintable after → IsLawful (described [] before) → first_faulty card_fault before after ≡ None → IsLawful (described [] (before ++ after))
+accepted-cards : (before after : List Card) → ArePrintableCards after → IsLawful (described [] before) → first_faulty card_fault before after ≡ None → IsLawful (described [] (before ++ after))
 accepted-cards before [] printable lawful fine = subst (λ cards. IsLawful (described [] cards)) (sym (append-nil before)) lawful
 accepted-cards before (card ∷ after) printable lawful fine =
     let kind = no_first (option_map (λ kind. record { card = card.number; kind = kind }) (card_fault before card.bytes)) (first_faulty card_fault (before ++ card ∷ []) after) fine in
@@ -116,25 +114,25 @@ renamed name cards lawful = record {
 }
 
 -- The cards in which no fault was found describe a problem.
-pub described-problem : (name : Name) (cards : List Card) → IsName name → ArePrintable cards → first_faulty card_fault [] cards ≡ None → IsProblem (numbered (described name cards))
+pub described-problem : (name : Name) (cards : List Card) → IsName name → ArePrintableCards cards → first_faulty card_fault [] cards ≡ None → IsProblem (numbered (described name cards))
 unfolding described
 described-problem name cards named printable fine = lawful-numbered (described name cards) named (renamed name cards (accepted-cards [] cards printable nothing fine))
 
-pub printable_live : (cards : List Card) → ArePrintable cards → ArePrintable (live cards)
+pub printable_live : (cards : List Card) → ArePrintableCards cards → ArePrintableCards (live cards)
 printable_live [] printable = tt
 printable_live (card ∷ cards) printable = by (is_skipped card.bytes) (printable_live cards printable.1)
   where
-    by : (b : Bool) → ArePrintable (live cards) → ArePrintable (cond (not b) (card ∷ live cards) (live cards))
+    by : (b : Bool) → ArePrintableCards (live cards) → ArePrintableCards (cond (not b) (card ∷ live cards) (live cards))
     by true rest = rest
     by false rest = (printable.0, rest)
 
 -- the name of a deck is a name
-pub deck_name-name : (cards : List Card) → ArePrintable cards → IsName (deck_name cards)
+pub deck_name-name : (cards : List Card) → ArePrintableCards cards → IsName (deck_name cards)
 deck_name-name [] printable = record { short = lit≤ tt; printable = refl; trimmed = refl }
 deck_name-name (card ∷ cards) printable = columns-name 15 22 card.bytes (lit≤ tt) printable.0
 
 -- What a deck of printable cards converts to, under a name or its own, is a problem.
-pub conversion-problem : (deck : List Card) (name : Option Name) (problem : Problem ℕ) → ArePrintable deck → IfSome name IsName → conversion deck name ≡ Ok problem → IsProblem problem
+pub conversion-problem : (deck : List Card) (name : Option Name) (problem : Problem ℕ) → ArePrintableCards deck → IfSome name IsName → conversion deck name ≡ Ok problem → IsProblem problem
 unfolding conversion deck_fault
 conversion-problem deck name problem printable named converted = by (first_faulty card_fault [] (live deck)) refl converted
   where

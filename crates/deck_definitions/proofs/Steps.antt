@@ -22,6 +22,7 @@ use Rattle.deck_definitions.specs.declared.Style.TheVariants.{FixedFields}
 use Rattle.deck_definitions.specs.DataCards.{style_begun, style_of, read_after, given_by, given, with_row, entry_group, entries_of, bound_group}
 use Rattle.deck_definitions.specs.Described.{described}
 use Rattle.deck_definitions.specs.Conversion.{first_faulty}
+use Rattle.deck_definitions.specs.Steps.{with_group, with_card}
 
 pub last_or-push : {A : Type 0} (o : Option A) (xs : List A) (p : Option A) → last_or o (xs ++ option_to_list p) ≡ option_or p (last_or o xs)
 last_or-push o [] None = refl
@@ -56,21 +57,6 @@ style_of-data cards card plain = style_of-push cards card ∙ rw plain refl
 pub given-push : {X : Type 0} (section : Section) (give : Reading → Option X) (cards : List Card) (card : Card)
     → given section give (cards ++ card ∷ []) ≡ given section give cards ++ option_to_list (given_by section give cards card)
 given-push section give cards card = gathered-push (given_by section give) cards card
-
--- the columns or sets with what one more card adds to the one of its name
-abbrev pub with_group : {X : Type 0} → Option (Group X) → List (Group X) → List (Group X)
-with_group None groups = groups
-with_group (Some group) groups = in_set group.name (λ items. items ++ group.items) groups
-
--- the problem with one more data card in a section
-abbrev pub with_card : Section → Reading → Problem Name → Problem Name
-with_card Rows card problem = record problem { rows = with_row problem.rows card }
-with_card Columns card problem = record problem { columns = with_group (entry_group card) problem.columns }
-with_card Rhs card problem = record problem { rhs = with_group (entry_group card) problem.rhs }
-with_card Ranges card problem = record problem { ranges = with_group (entry_group card) problem.ranges }
-with_card Bounds card problem = record problem { bounds = with_group (bound_group card) problem.bounds }
-with_card Header card problem = problem
-with_card Endata card problem = problem
 
 -- what a data card gives to a section, where it stands in this place
 abbrev pub given_in : {X : Type 0} → Section → (Reading → Option X) → Section → Reading → Option X

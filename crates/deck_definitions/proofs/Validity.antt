@@ -31,8 +31,9 @@ use Rattle.deck_definitions.specs.declared.Section.TheVariants.{Header, Rows, Co
 use Rattle.deck_definitions.specs.DataCards.{pairs_of, part_pairs_of, entries_of, parts_on, row_kinds, combination_kinds, combination_text, kind_on, is_card_of, goes_on_last, with_row, bound_kinds, row_of, bound_of, bound_group}
 use Rattle.deck_definitions.specs.Tests.{kind_filled, filled_from_3, filled_from_5, marks, all_but_last, pairs_fault, row_fields_fault, row_fault, columns_fault, set_fault, bounds_fault, bound_fault, value_fault, bound_value_fault, is_bound_already}
 use Rattle.deck_definitions.specs.Conversion.{section_fault}
-use Rattle.deck_definitions.proofs.Steps.{with_card, with_group}
-use Rattle.deck_definitions.proofs.CardTexts.{IsReading, pairs-short, part_pairs-short, text_is_decimal}
+use Rattle.deck_definitions.specs.Steps.{with_card, with_group}
+use Rattle.deck_definitions.proofs.CardTexts.{pairs-short, part_pairs-short, text_is_decimal}
+use Rattle.deck_definitions.specs.Readings.{IsReading}
 use Rattle.deck_definitions.proofs.Accepted.{pairs-lawful, pairs-limited, pairs-plain, pairs-few, pairs-unmarked, added_some, not_full, no_value_fault}
 
 -- ---- ROWS

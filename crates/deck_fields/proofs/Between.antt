@@ -6,7 +6,7 @@ use Rattle.std.proofs.lemmas.List.{map-append}
 use Rattle.std.proofs.lemmas.Option.{slice_get-get_or}
 use Rattle.card_definitions.specs.Cards.{Card, numbered_from, numbered_cards, cards_between, is_printable, last_number}
 use Rattle.problem_definitions.proofs.Each.{each-push}
-use Rattle.deck_definitions.proofs.Converted.{ArePrintable}
+use Rattle.deck_definitions.specs.Readings.{ArePrintableCards}
 use Rattle.deck_definitions.proofs.Steps.{last_or-push}
 
 -- the card of a number
@@ -69,9 +69,9 @@ nothing_yet first cards = let none : first - first ≡ 0 = omega arith in rw non
 
 -- one more printable card
 pub next_printable : (first number : ℕ) (cards : List (List ℕ)) (card : List ℕ) → 1 ≤ first → first ≤ number → slice_get cards (number - 1) ≡ Some card
-    → ArePrintable (cards_up_to first number cards) → list_all is_printable card ≡ true → ArePrintable (cards_up_to first (number + 1) cards)
+    → ArePrintableCards (cards_up_to first number cards) → list_all is_printable card ≡ true → ArePrintableCards (cards_up_to first (number + 1) cards)
 next_printable first number cards card from_one from at printable also =
-    subst ArePrintable (sym (cards_more first number cards card from_one from at))
+    subst ArePrintableCards (sym (cards_more first number cards card from_one from at))
     (each-push (λ (c : Card). list_all is_printable c.bytes ≡ true) (cards_up_to first number cards) (record { number = number; bytes = card }) printable also)
 
 -- the last card

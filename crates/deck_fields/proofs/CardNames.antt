@@ -1,7 +1,7 @@
 -- Fields that show what a card reads as, which is a reading.
 use Rattle.std.proofs.Common.{◌≡◌, ℕ, List, sym, subst, arith}
 use Rattle.card_definitions.specs.Fields.{Fixed, Reading, reading_of}
-use Rattle.deck_definitions.proofs.CardTexts.{IsReading}
+use Rattle.deck_definitions.specs.Readings.{IsReading}
 use Rattle.deck_fields.specs.declared.texts.Fields.{Fields}
 use Rattle.deck_fields.specs.Readings.{ShowsFields, fields_view}
 use Rattle.deck_fields.specs.WordsViewed.{IsColumn}

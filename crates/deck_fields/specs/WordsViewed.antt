@@ -5,6 +5,7 @@ use Rattle.card_definitions.specs.Cards.{is_blank}
 use Rattle.card_definitions.specs.Fields.{Word as Read, words, words_from}
 use Rattle.deck_fields.specs.declared.card_words.Word.{Word}
 use Rattle.deck_fields.specs.declared.card_words.Words.{Words}
+use Rattle.card_definitions.specs.declared.TheConstants.{CARD_COLUMNS}
 
 abbrev pub word_view : Word → Read
 word_view word = record { column = word.column; text = word.text.now }
@@ -15,7 +16,7 @@ absent = record { column = 0; text = [] }
 
 -- a number of a card's columns
 abbrev pub IsColumn : ℕ → Type 0
-IsColumn column = (1 ≤ column) × (column ≤ 80)
+IsColumn column = (1 ≤ column) × (column ≤ CARD_COLUMNS)
 
 -- The view of a card's words is their count, and the first seven of them; one that isn't there has column 0 and no byte.
 pub record ShowsWords (found : Words) (card : List ℕ) : Type 0 where

@@ -7,7 +7,7 @@ ghost use Rattle.problem_definitions.specs.Valid.{IsName};
 ghost use Rattle.deck_definitions.specs.declared.Style.TheVariants.{FreeFields};
 ghost use Rattle.deck_definitions.specs.Conversion.{gaps_fault, form_fault};
 ghost use Rattle.deck_definitions.specs.DataCards.{form_on, is_card_of, pair_if};
-ghost use Rattle.deck_definitions.proofs.CardTexts.{IsReading};
+ghost use Rattle.deck_definitions.specs.Readings.{IsReading};
 ghost use Rattle.deck_fields.specs.Readings.{fields_view};
 ghost use Rattle.deck_fields.specs.WordsViewed.{IsColumn};
 ghost use Rattle.deck_fields.specs.Views.{viewed, pair_view};

@@ -4,6 +4,7 @@ ghost use Rattle.card_reader.specs.Card.{card_bytes};
 ghost use Rattle.card_definitions.specs.Fields.{word_text, word_of, words, read_words, no_word};
 ghost use Rattle.deck_fields.specs.Readings.{ShowsFields};
 ghost use Rattle.deck_fields.specs.WordsViewed.{word_view, IsColumn, ShowsWords, AreWordsBefore};
+ghost use Rattle.card_definitions.specs.declared.TheConstants.{CARD_COLUMNS};
 
 use crate::blanks::first_blank;
 use crate::texts::Fields;
@@ -41,7 +42,7 @@ fn add_word<'a>(words: &mut Words<'a>, word: Word<'a>)
 
 // Adds the word that begins at a place, if one does, and gives the place where the next may begin.
 fn next_word<'a>(found: &mut Words<'a>, card: &'a [u8], start: usize) -> usize
-    requires short { length card.now ≤ 80 }
+    requires short { length card.now ≤ CARD_COLUMNS }
     requires inside { start < length card.now }
     requires before { AreWordsBefore found.old card.now start }
     ensures before { AreWordsBefore found.new card.now result }

@@ -1,5 +1,6 @@
 // What is read of data cards.
 ghost use Rattle.std.specs.Prelude.{◌≤◌, length};
+ghost use Rattle.card_definitions.specs.declared.TheConstants.{CARD_COLUMNS};
 
 use name_table::Name;
 
@@ -18,9 +19,9 @@ pub struct DataCard<'a> {
     pub ghost short1: { length value1.now ≤ 12 },
     pub ghost short2: { length value2.now ≤ 12 },
     pub ghost from_one1: { 1 ≤ value1_column },
-    pub ghost in_card1: { value1_column ≤ 80 },
+    pub ghost in_card1: { value1_column ≤ CARD_COLUMNS },
     pub ghost from_one2: { 1 ≤ value2_column },
-    pub ghost in_card2: { value2_column ≤ 80 },
+    pub ghost in_card2: { value2_column ≤ CARD_COLUMNS },
 }
 
 /// A row's name with the text of a number, and the column where that field begins.
@@ -31,5 +32,5 @@ pub struct PairText<'a> {
     pub column: u8,
     pub ghost short: { length value.now ≤ 12 },
     pub ghost from_one: { 1 ≤ column },
-    pub ghost in_card: { column ≤ 80 },
+    pub ghost in_card: { column ≤ CARD_COLUMNS },
 }

@@ -6,7 +6,7 @@ ghost use Rattle.deck_definitions.specs.declared.DeckFaultKind.{DeckFaultKind as
 ghost use Rattle.deck_definitions.specs.declared.Section.TheVariants.{Endata};
 ghost use Rattle.deck_definitions.specs.Sections.{section_after, is_section_after};
 ghost use Rattle.deck_definitions.specs.Conversion.{fault_by, first_faulty};
-ghost use Rattle.deck_definitions.proofs.Converted.{ArePrintable};
+ghost use Rattle.deck_definitions.specs.Readings.{ArePrintableCards};
 ghost use Rattle.deck_fields.specs.Reported.{ReportsDeckFault};
 ghost use Rattle.deck_fields.specs.Stops.{Stops, StopsAt};
 
@@ -91,7 +91,7 @@ pub fn read_cards<D: Draft>(
         (live (cards_between first last cards.now))) }
     ensures no_fault { OnOk result (fault_by (D.test draft.old)
         (cards_between first last cards.now) ≡ None) }
-    ensures printable { OnOk result (ArePrintable (cards_between first last cards.now)) }
+    ensures printable { OnOk result (ArePrintableCards (cards_between first last cards.now)) }
     ensures stop { IfErr result (Stops (D.test draft.old) (cards_between first last cards.now)) }
 {
     let end = last.min(cards.count()) + 1;

@@ -26,7 +26,7 @@ use Rattle.determinism_laws.proofs.Stops.{statement_evidence}
 use Rattle.determinism_laws.proofs.OneRange.{ranged_once}
 use Rattle.determinism_laws.proofs.RanThrough.{run_through_once}
 use Rattle.determinism_laws.proofs.OneAnswer.{path_once, dual_path_once, installed_once, reported_once}
-use Rattle.determinism_laws.proofs.Steps.{Comes, two_outcomes, steps, GoesOn, same_so_far, goes_on, continues}
+use Rattle.determinism_laws.proofs.Steps.{RunReaches, two_outcomes, steps, GoesOn, same_so_far, goes_on, continues}
 
 -- two outcomes that end a run are the same
 record SameEnding (gain other : Gain) (ending another : Ending) : Type 0 where
@@ -92,10 +92,10 @@ module _ (S : Solving) (program : Program) where
     ended : {gain : Gain} {ending : Ending} → Step S program state (Ends gain ending) → Last state gain ending
 
 module _ (S : Solving) (solving : KnowsSolving S) (answers : AnswersOnce S) (bytes : List ℕ) (program : Program) (is_program : IsProgramOf bytes program) where
-  abbrev Came : List Report → List (List ℕ) → State → Type 0
-  Came = Comes S solving answers bytes program is_program
+  abbrev RunHasReached : List Report → List (List ℕ) → State → Type 0
+  RunHasReached = RunReaches S solving answers bytes program is_program
 
-  one_last : (reports : List Report) (cards : List (List ℕ)) (state : State) (gain other : Gain) (ending another : Ending) → Came reports cards state → (IsOverflow ending → ⊥) → (IsOverflow another → ⊥) →
+  one_last : (reports : List Report) (cards : List (List ℕ)) (state : State) (gain other : Gain) (ending another : Ending) → RunHasReached reports cards state → (IsOverflow ending → ⊥) → (IsOverflow another → ⊥) →
       Last S program state gain ending → Last S program state other another → SameEnding gain other ending another
   one_last reports cards state _ _ ending another came none nor (over first) (over second) = record { gains = refl; endings = one_over S program state ending another first second }
   one_last reports cards state _ other ending another came none nor (over first) (ended second) = absurd (over_or_step S program state ending (Ends other another) first second)
@@ -103,7 +103,7 @@ module _ (S : Solving) (solving : KnowsSolving S) (answers : AnswersOnce S) (byt
   one_last reports cards state gain other ending another came none nor (ended first) (ended second) =
       ending_same gain other ending another none nor (two_outcomes S solving answers bytes program is_program reports cards state (Ends gain ending) (Ends other another) came first second)
 
-  last_or_more : (reports : List Report) (cards : List (List ℕ)) (state : State) (gain : Gain) (ending : Ending) → Came reports cards state → (IsOverflow ending → ⊥) → Last S program state gain ending →
+  last_or_more : (reports : List Report) (cards : List (List ℕ)) (state : State) (gain : Gain) (ending : Ending) → RunHasReached reports cards state → (IsOverflow ending → ⊥) → Last S program state gain ending →
       GoesOn S solving answers bytes program is_program state → ⊥
   last_or_more reports cards state _ ending came none (over first) more = over_or_step S program state ending (Goes more.gain more.after) first more.step
   last_or_more reports cards state gain ending came none (ended first) more =
@@ -114,7 +114,7 @@ module _ (S : Solving) (solving : KnowsSolving S) (answers : AnswersOnce S) (byt
     before : List Report
     before_cards : List (List ℕ)
     state : State
-    came : Came before before_cards state
+    came : RunHasReached before before_cards state
     gain : Gain
     last : Last S program state gain ending
     are_reports : reports ≡ before ++ printed_by gain
@@ -174,13 +174,13 @@ module _ (S : Solving) (solving : KnowsSolving S) (answers : AnswersOnce S) (byt
       by (inr more) = not_fewer (eq-or-lt_of_le {n = n} {m = m} more)
 
   -- a statement that stops with an overflow, where it may go on or end otherwise, reports nothing
-  stops_where_it_goes : (reports : List Report) (cards : List (List ℕ)) (state : State) (gain : Gain) (ending : Ending) → Came reports cards state → IsOverflow ending → Last S program state gain ending →
+  stops_where_it_goes : (reports : List Report) (cards : List (List ℕ)) (state : State) (gain : Gain) (ending : Ending) → RunHasReached reports cards state → IsOverflow ending → Last S program state gain ending →
       GoesOn S solving answers bytes program is_program state → gain ≡ Nothing
   stops_where_it_goes reports cards state _ ending came stop (over first) more = refl
   stops_where_it_goes reports cards state gain ending came stop (ended first) more =
       stopped_going more.gain gain more.after ending (two_outcomes S solving answers bytes program is_program reports cards state (Goes more.gain more.after) (Ends gain ending) came more.step first)
 
-  stops_where_it_ends : (reports : List Report) (cards : List (List ℕ)) (state : State) (gain other : Gain) (ending another : Ending) → Came reports cards state → (IsOverflow another → ⊥) → IsOverflow ending →
+  stops_where_it_ends : (reports : List Report) (cards : List (List ℕ)) (state : State) (gain other : Gain) (ending another : Ending) → RunHasReached reports cards state → (IsOverflow another → ⊥) → IsOverflow ending →
       Last S program state gain ending → Last S program state other another → gain ≡ Nothing
   stops_where_it_ends reports cards state _ other ending another came nor stop (over first) second = refl
   stops_where_it_ends reports cards state gain _ ending another came nor stop (ended first) (over second) = absurd (over_or_step S program state another (Ends gain ending) second first)
@@ -237,7 +237,7 @@ module _ (S : Solving) (solving : KnowsSolving S) (answers : AnswersOnce S) (byt
       by (inr fewer) = stopped_early reports others cards other_cards ending other first second (silent (eq-or-lt_of_le {n = m} {m = n} fewer))
           (continues S solving answers bytes program is_program first.before second.before first.before_cards second.before_cards first.state second.state first.came second.came fewer)
 
-  two_so_far : (reports others : List Report) (cards other_cards : List (List ℕ)) (state other : State) → Came reports cards state → Came others other_cards other →
+  two_so_far : (reports others : List Report) (cards other_cards : List (List ℕ)) (state other : State) → RunHasReached reports cards state → RunHasReached others other_cards other →
       Continues reports others cards other_cards ⊎ Continues others reports other_cards cards
   two_so_far reports others cards other_cards state other first second = by (cases_lt m n)
     where

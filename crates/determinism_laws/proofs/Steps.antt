@@ -39,11 +39,11 @@ pub record SameSoFar (reports others : List Report) (cards other_cards : List (L
   pub states_same : state ≡ other
 
 module _ (S : Solving) (solving : KnowsSolving S) (answers : AnswersOnce S) (bytes : List ℕ) (program : Program) (is_program : IsProgramOf bytes program) where
-  abbrev pub Comes : List Report → List (List ℕ) → State → Type 0
-  Comes reports cards state = Reaches S program (job_decks program bytes) reports cards state
+  abbrev pub RunReaches : List Report → List (List ℕ) → State → Type 0
+  RunReaches reports cards state = Reaches S program (job_decks program bytes) reports cards state
 
   -- two outcomes of one statement
-  pub two_outcomes : (reports : List Report) (cards : List (List ℕ)) (state : State) (a b : StatementOutcome) → Comes reports cards state → Step S program state a → Step S program state b → IsSameOrStop a b
+  pub two_outcomes : (reports : List Report) (cards : List (List ℕ)) (state : State) (a b : StatementOutcome) → RunReaches reports cards state → Step S program state a → Step S program state b → IsSameOrStop a b
   two_outcomes reports cards state a b reaches first second =
       outcomes S first.statement.card (verb_move first.statement.verb first.statement.card (counted state)) a b
       (verb_once S answers first.statement.verb first.statement.card (counted state) (has_problem S solving bytes program is_program reports cards state reaches) (counted_known state (known S solving bytes program is_program reports cards state reaches))).once
@@ -56,7 +56,7 @@ module _ (S : Solving) (solving : KnowsSolving S) (answers : AnswersOnce S) (byt
       moved = subst (λ (x : Statement ℕ). Gives S x.card (verb_move x.verb x.card (counted state)) b) same second.gives
 
   -- how many statements a run has executed so far
-  abbrev pub steps : {reports : List Report} {cards : List (List ℕ)} {state : State} → Comes reports cards state → ℕ
+  abbrev pub steps : {reports : List Report} {cards : List (List ℕ)} {state : State} → RunReaches reports cards state → ℕ
   steps begun = 0
   steps (stepped gain after before step) = suc (steps before)
 
@@ -66,7 +66,7 @@ module _ (S : Solving) (solving : KnowsSolving S) (answers : AnswersOnce S) (byt
     pub after : State
     pub step : Step S program state (Goes gain after)
 
-  one_more : (reports others : List Report) (cards other_cards : List (List ℕ)) (state other : State) (gain another : Gain) (after later : State) → Comes reports cards state →
+  one_more : (reports others : List Report) (cards other_cards : List (List ℕ)) (state other : State) (gain another : Gain) (after later : State) → RunReaches reports cards state →
       SameSoFar reports others cards other_cards state other → Step S program state (Goes gain after) → Step S program other (Goes another later) →
       SameSoFar (reports ++ printed_by gain) (others ++ printed_by another) (cards ++ punched_by gain) (other_cards ++ punched_by another) after later
   one_more reports others cards other_cards state other gain another after later reaches same step second =
@@ -79,7 +79,7 @@ module _ (S : Solving) (solving : KnowsSolving S) (answers : AnswersOnce S) (byt
       }
 
   -- after as many statements two runs are the same
-  pub same_so_far : (reports others : List Report) (cards other_cards : List (List ℕ)) (state other : State) (first : Comes reports cards state) (second : Comes others other_cards other) →
+  pub same_so_far : (reports others : List Report) (cards other_cards : List (List ℕ)) (state other : State) (first : RunReaches reports cards state) (second : RunReaches others other_cards other) →
       steps first ≡ steps second → SameSoFar reports others cards other_cards state other
   same_so_far _ _ _ _ _ _ begun begun e = record { reports_same = refl; cards_same = refl; states_same = refl }
   same_so_far _ _ _ _ _ _ begun (stepped gain after before step) e = absurd (omega arith)
@@ -88,7 +88,7 @@ module _ (S : Solving) (solving : KnowsSolving S) (answers : AnswersOnce S) (byt
       one_more reports others cards other_cards state other gain another after later before (same_so_far reports others cards other_cards state other before earlier (omega (arith, e))) step second
 
   -- a run that has executed fewer statements than another goes on
-  pub goes_on : (reports others : List Report) (cards other_cards : List (List ℕ)) (state other : State) (first : Comes reports cards state) (second : Comes others other_cards other) →
+  pub goes_on : (reports others : List Report) (cards other_cards : List (List ℕ)) (state other : State) (first : RunReaches reports cards state) (second : RunReaches others other_cards other) →
       steps first < steps second → GoesOn state
   goes_on _ _ _ _ _ _ first begun e = absurd (omega (arith, e))
   goes_on reports _ cards _ state _ first (stepped {reports = others} {cards = other_cards} {state = other} gain after before step) e =
@@ -103,7 +103,7 @@ module _ (S : Solving) (solving : KnowsSolving S) (answers : AnswersOnce S) (byt
       by (inr fewer) earlier = earlier fewer
 
   -- and the other continues it
-  pub continues : (reports others : List Report) (cards other_cards : List (List ℕ)) (state other : State) (first : Comes reports cards state) (second : Comes others other_cards other) →
+  pub continues : (reports others : List Report) (cards other_cards : List (List ℕ)) (state other : State) (first : RunReaches reports cards state) (second : RunReaches others other_cards other) →
       steps first ≤ steps second → Continues reports others cards other_cards
   continues _ _ _ _ _ _ begun begun e = record { more_reports = []; more_cards = []; are_reports = refl; are_cards = refl }
   continues _ _ _ _ _ _ (stepped gain after before step) begun e = absurd (omega (arith, e))

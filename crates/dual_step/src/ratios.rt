@@ -90,8 +90,8 @@ fn keeps(best: &Candidate, other: &Candidate, r: u32) -> Result<bool, Evidence>
     ensures keeps { IfOk result (λ keeps. keeps ≡ le_ℚ (ratio_at best.now) (ratio_at other.now)) }
     ensures refused { IfErr result (KeptRefused r best.now other.now) }
 {
-    if let Some(reported) = by_products(best, other) {
-        return Ok(reported);
+    if let Some(keeps) = by_products(best, other) {
+        return Ok(keeps);
     }
     match formula(r, best.q).quotient(best.price, best.rate) {
         Err(evidence) => Err(evidence),

@@ -6,6 +6,7 @@ ghost use Rattle.deck_definitions.specs.Decks.{decks_of, deck_taken};
 ghost use Rattle.deck_definitions.specs.Sections.{begins};
 ghost use Rattle.deck_definitions.specs.declared.Section.TheVariants.{Endata};
 ghost use Rattle.job_decks.specs.Positions.{cards_from, IsLiveAt};
+ghost use Rattle.card_definitions.specs.declared.TheConstants.{MAX_JOB_CARDS};
 
 use crate::deck::Deck;
 use crate::headings::{ends_deck, is_wanted};
@@ -36,7 +37,7 @@ fn deck_end(cards: &Cards, first: u32) -> u32
     requires within { first ≤ length cards.now }
     ensures end { result ≡ min (first + position_or_len (begins Endata)
         (cards_from first cards.now)) (length cards.now) }
-    ensures few { result ≤ 200000 }
+    ensures few { result ≤ MAX_JOB_CARDS }
 {
     for number in first..cards.count() {
         if ends_deck(cards.card(number)) {
@@ -56,7 +57,7 @@ fn next_deck(cards: &Cards, from: u32) -> Option<Deck>
     ensures live { IfSome result (λ deck. IsLiveAt deck.first cards.now) }
     ensures within { IfSome result (λ deck. (from ≤ deck.first) × (deck.first ≤ deck.last) ×
         (deck.last ≤ length cards.now)) }
-    ensures few { IfSome result (λ deck. deck.last ≤ 200000) }
+    ensures few { IfSome result (λ deck. deck.last ≤ MAX_JOB_CARDS) }
 {
     let first = first_live(cards, from)?;
     let last = deck_end(cards, first);

@@ -1,26 +1,26 @@
 -- What is found of the bytes that are read, which are those of the listing unless it is too long.
-use Rattle.std.proofs.Common.{◌≡◌, ℕ, ◌<◌, ◌≤◌, List, ◌++◌, Option, None, Some, IfSome, length, take, refl, sym, ap, subst, ◌∙◌, arith}
+use Rattle.std.proofs.Common.{◌≡◌, ℕ, ◌<◌, ◌≤◌, List, ◌++◌, Option, None, Some, IfSome, length, take, refl, sym, ap, subst, ◌∙◌, arith, ◌+◌}
 use Rattle.std.specs.Prelude.{codes}
 use Rattle.std.proofs.lemmas.List.{take-append-drop, length-take, append-nil}
 use Rattle.std.proofs.Math.ListN.{drop_of_length-le}
 use Rattle.walk_definitions.specs.Checkers.{Checker}
 use Rattle.walk_definitions.specs.Walker.{Found}
-use Rattle.walk_definitions.specs.Found.{EndsIn, Answers, too_long, is_found, answer_text}
+use Rattle.walk_definitions.specs.Found.{EndsIn, Answers, too_long, is_found, answer_text, max_listing}
 
 -- all of a list that isn't longer
 whole : (n : ℕ) (lines : List ℕ) → length lines ≤ n → take n lines ≡ lines
 whole n lines within = sym (append-nil (take n lines)) ∙ ap (λ rest. take n lines ++ rest) (sym (drop_of_length-le lines within)) ∙ take-append-drop n lines
 
-length_read : (listing lines : List ℕ) → listing ≡ take 64000001 lines → length listing ≤ 64000000 → length lines ≤ 64000000
-length_read listing lines e within = omega (arith, within, ap length e, length-take 64000001 lines)
+length_read : (listing lines : List ℕ) → listing ≡ take (max_listing + 1) lines → length listing ≤ max_listing → length lines ≤ max_listing
+length_read listing lines e within = omega (arith, within, ap length e, length-take (max_listing + 1) lines)
 
-pub same_bytes : (listing lines : List ℕ) → listing ≡ take 64000001 lines → length listing ≤ 64000000 → listing ≡ lines
-same_bytes listing lines e within = e ∙ whole 64000001 lines (omega (arith, length_read listing lines e within))
+pub same_bytes : (listing lines : List ℕ) → listing ≡ take (max_listing + 1) lines → length listing ≤ max_listing → listing ≡ lines
+same_bytes listing lines e within = e ∙ whole (max_listing + 1) lines (omega (arith, length_read listing lines e within))
 
-pub long_answer : (C : Checker) (bytes listing lines : List ℕ) → listing ≡ take 64000001 lines → 64000000 < length listing → Answers C bytes lines None × (codes "LONG LISTING\n" ≡ answer_text lines None)
-long_answer C bytes listing lines e more = (too_long (omega (arith, more, ap length e, length-take 64000001 lines)), refl)
+pub long_answer : (C : Checker) (bytes listing lines : List ℕ) → listing ≡ take (max_listing + 1) lines → max_listing < length listing → Answers C bytes lines None × (codes "LONG LISTING\n" ≡ answer_text lines None)
+long_answer C bytes listing lines e more = (too_long (omega (arith, more, ap length e, length-take (max_listing + 1) lines)), refl)
 
-pub found_answer : (C : Checker) (bytes listing lines : List ℕ) (found : Found) → listing ≡ take 64000001 lines → length listing ≤ 64000000 → EndsIn C bytes listing found →
+pub found_answer : (C : Checker) (bytes listing lines : List ℕ) (found : Found) → listing ≡ take (max_listing + 1) lines → length listing ≤ max_listing → EndsIn C bytes listing found →
     Answers C bytes lines (Some found) × (answer_text listing (Some found) ≡ answer_text lines (Some found))
 found_answer C bytes listing lines found e within comes =
     let same = same_bytes listing lines e within in

@@ -1,9 +1,9 @@
 // The top call.
-ghost use Rattle.std.specs.Prelude.{◌≡◌, ◌≢◌, ◌<◌, List, ℕ, Some, length, take};
+ghost use Rattle.std.specs.Prelude.{◌≡◌, ◌≢◌, ◌<◌, List, ℕ, Some, length, take, ◌+◌};
 ghost use Rattle.std.specs.Io.KnownBytes.{Appends};
 ghost use Rattle.job_devices.specs.Causes.{Rose};
 ghost use Rattle.job_devices.specs.Reading.{ReadsUpTo, ReadsWhole};
-ghost use Rattle.card_reader.specs.Reading.{ReadsJob, ReadsPrefix};
+ghost use Rattle.card_reader.specs.Reading.{ReadsJob, ReadsPrefix, read_limit};
 ghost use Rattle.job_program.specs.Stops.{ReportsEarlyStop};
 ghost use Rattle.walk_laws.specs.Proved.{IsTrueListing};
 ghost use Rattle.listing_check.specs.Statuses.{code_of};
@@ -12,6 +12,7 @@ ghost use Rattle.listing_check.specs.Starting.{IsStartOf, IsWhole};
 ghost use Rattle.listing_check.specs.Answer.{IsCheckAnswer, words_text};
 ghost use Rattle.listing_check.specs.Reads.{Tells};
 ghost use Rattle.listing_check.specs.Causes.{HasCheckCause};
+ghost use Rattle.walk_definitions.specs.Found.{max_listing};
 
 use crate::line::{end_found, end_with};
 use crate::start::{Start, find};
@@ -41,7 +42,7 @@ fn check_bytes<T: Checks, P: Sink>(
       listing_read = Unit {0};
       listing_same = ⊥;
       is_job = λ bytes. IsStartOf bytes start.now;
-      is_listing = λ lines. listing.now ≡ take 64000001 lines;
+      is_listing = λ lines. listing.now ≡ take (max_listing + 1) lines;
     }) (P.taken print.old) (P.taken print.new) result }
 {
     if listing.len() > MAX_LISTING {
@@ -66,12 +67,12 @@ fn check_read<T: Checks, L: Source, P: Sink>(
       job_read = Unit {0};
       listing_fails = Rose (L.given listing.old).faults (L.given listing.new).faults;
       listing_quiet = (L.given listing.new).faults ≡ (L.given listing.old).faults;
-      listing_read = ReadsWhole 64000001 (L.given listing.old).left (L.given listing.new).left;
+      listing_read = ReadsWhole (max_listing + 1) (L.given listing.old).left (L.given listing.new).left;
       listing_same = ⊥;
       is_job = λ bytes. IsStartOf bytes start.now;
       is_listing = λ lines. (L.given listing.old).left ≡ Some lines;
     }) (P.taken print.old) (P.taken print.new) result }
-    ensures no_further { ReadsUpTo 64000001 (L.given listing.old).left (L.given listing.new).left }
+    ensures no_further { ReadsUpTo (max_listing + 1) (L.given listing.old).left (L.given listing.new).left }
 {
     match read_up_to(alloc, listing, MAX_LISTING + 1) {
         Ok(bytes) => check_bytes::<T, P>(alloc, start, &bytes, print),
@@ -98,12 +99,12 @@ fn check_stopped<T: Checks, L: Source, P: Sink>(
       job_read = IsWhole stop;
       listing_fails = Rose (L.given listing.old).faults (L.given listing.new).faults;
       listing_quiet = (L.given listing.new).faults ≡ (L.given listing.old).faults;
-      listing_read = ReadsWhole 64000001 (L.given listing.old).left (L.given listing.new).left;
+      listing_read = ReadsWhole (max_listing + 1) (L.given listing.old).left (L.given listing.new).left;
       listing_same = listing.new ≡ listing.old;
       is_job = λ bytes. ReportsEarlyStop (Some bytes) stop;
       is_listing = λ lines. (L.given listing.old).left ≡ Some lines;
     }) (P.taken print.old) (P.taken print.new) result }
-    ensures no_further { ReadsUpTo 64000001 (L.given listing.old).left (L.given listing.new).left }
+    ensures no_further { ReadsUpTo (max_listing + 1) (L.given listing.old).left (L.given listing.new).left }
 {
     match stop {
         EarlyStop::ReadFault => end_with(print, b"STOP 24 READ FAULT\n", CheckStatus::ReadFault),
@@ -130,13 +131,13 @@ fn check_job<T: Checks, S: Source, L: Source, P: Sink>(
       job_read = ReadsJob (S.given job.old).left (S.given job.new).left;
       listing_fails = Rose (L.given listing.old).faults (L.given listing.new).faults;
       listing_quiet = (L.given listing.new).faults ≡ (L.given listing.old).faults;
-      listing_read = ReadsWhole 64000001 (L.given listing.old).left (L.given listing.new).left;
+      listing_read = ReadsWhole (max_listing + 1) (L.given listing.old).left (L.given listing.new).left;
       listing_same = listing.new ≡ listing.old;
       is_job = λ bytes. (S.given job.old).left ≡ Some bytes;
       is_listing = λ lines. (L.given listing.old).left ≡ Some lines;
     }) (P.taken print.old) (P.taken print.new) result }
     ensures job { ReadsPrefix (S.given job.old).left (S.given job.new).left }
-    ensures listing { ReadsUpTo 64000001 (L.given listing.old).left (L.given listing.new).left }
+    ensures listing { ReadsUpTo (max_listing + 1) (L.given listing.old).left (L.given listing.new).left }
 {
     match prepare(alloc, job) {
         Ok(prepared) => { check_read::<T, L, P>(alloc, &Start::Program(prepared), listing, print) }
@@ -191,7 +192,7 @@ pub fn check_listing<T: Checks, S: Source, L: Source, P: Sink>(
           job_fails = Rose (S.given job.old).faults (S.given job.new).faults;
           job_read = ReadsJob (S.given job.old).left (S.given job.new).left;
           listing_fails = Rose (L.given listing.old).faults (L.given listing.new).faults;
-          listing_read = ReadsWhole 64000001 (L.given listing.old).left (L.given listing.new).left;
+          listing_read = ReadsWhole (max_listing + 1) (L.given listing.old).left (L.given listing.new).left;
           print_fails = Rose (P.taken print.old).faults (P.taken print.new).faults;
         })
         result }
@@ -217,8 +218,8 @@ pub fn check_listing<T: Checks, S: Source, L: Source, P: Sink>(
     ensures still { IsStill (P.taken print.old) (P.taken print.new) }
 
     // How far the job and the listing are read, and what stays the same.
-    ensures no_further { ReadsUpTo 16400001 (S.given job.old).left (S.given job.new).left ×
-        ReadsUpTo 64000001 (L.given listing.old).left (L.given listing.new).left }
+    ensures no_further { ReadsUpTo read_limit (S.given job.old).left (S.given job.new).left ×
+        ReadsUpTo (max_listing + 1) (L.given listing.old).left (L.given listing.new).left }
     ensures unread { result ≡ CheckStatus.ReadFault → listing.new ≡ listing.old }
 {
     attested_law();

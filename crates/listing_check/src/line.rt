@@ -3,7 +3,7 @@ ghost use Rattle.std.specs.Prelude.{◌≡◌, ◌+◌, ◌-◌, ◌≤◌, ◌�
 ghost use Rattle.std.specs.List.{concat};
 ghost use Rattle.listing_definitions.specs.Numbers.{digits};
 ghost use Rattle.job_devices.specs.Text.{Writes};
-ghost use Rattle.walk_definitions.specs.Found.{line_feeds, line_of, line_text, answer_text};
+ghost use Rattle.walk_definitions.specs.Found.{line_feeds, line_number, line_text, answer_text};
 ghost use Rattle.listing_walk.specs.Ended.{found_view};
 ghost use Rattle.listing_check.specs.Statuses.{cut_status, status_of};
 ghost use Rattle.listing_check.specs.Devices.{EndsWith};
@@ -30,8 +30,8 @@ fn line_feeds(bytes: &[u8]) -> usize
 }
 
 // The line that begins where so much is left.
-fn line_of(listing: &[u8], rest: &[u8]) -> usize
-    ensures { result ≡ line_of listing.now rest.now }
+fn line_number(listing: &[u8], rest: &[u8]) -> usize
+    ensures { result ≡ line_number listing.now rest.now }
 {
     line_feeds(listing).saturating_sub(line_feeds(rest)) + 1
 }
@@ -52,7 +52,7 @@ fn put_place<P: Sink>(
         &[
             word,
             b" LINE ",
-            decimal(&mut digits, line_of(listing, rest)).as_bytes(),
+            decimal(&mut digits, line_number(listing, rest)).as_bytes(),
             b"\n",
         ],
     )

@@ -23,8 +23,8 @@ use Rattle.listing_walk.specs.declared.place.ListingPlace.{ListingPlace}
 use Rattle.listing_walk.specs.declared.place.Pending.{Pending}
 use Rattle.listing_walk.specs.declared.found.Found.{Found}
 use Rattle.listing_walk.specs.declared.found.Found.TheVariants as founds
-use Rattle.listing_walk.specs.declared.went.Went.{Went}
-use Rattle.listing_walk.specs.declared.went.Went.TheVariants as went
+use Rattle.listing_walk.specs.declared.walk_step.WalkStep.{WalkStep}
+use Rattle.listing_walk.specs.declared.walk_step.WalkStep.TheVariants as walk_step
 use Rattle.listing_walk.specs.Ended.{found_view}
 use Rattle.listing_walk.specs.Standing.{IsView, ShowsPending, Faces}
 use Rattle.listing_walk.specs.Walking.{open_by, has_text, one_if, ends_run, TurnsTo, IsOutcome, Finishes, Passes}
@@ -49,14 +49,14 @@ placed to by s e = record {
 pub faces_still : {place : ListingPlace} {w : walks.Walker} (state : State) → Faces place w → Faces place (record w { state = state })
 faces_still state f = record { rest = f.rest; pending = f.pending; reports = f.reports }
 
-pub finished_next : (place : ListingPlace) → Finishes place place acts.Next went.Next
+pub finished_next : (place : ListingPlace) → Finishes place place acts.Next walk_step.Next
 finished_next place = λ v outcome cards machine position executed gain f is. (
   record v { state = record (is.0) { position = is.0.position + 1 } },
   ap (walks.follows v) (sym is.1),
   record { state = placed (position + 1) (is.0.position + 1) is.2 (ap (λ n. n + 1) is.2.is_position); faces = faces_still (record (is.0) { position = is.0.position + 1 }) f },
 )
 
-pub finished_jump : (place : ListingPlace) (to : ℕ) → Finishes place place (acts.Jump to) (went.Jump to)
+pub finished_jump : (place : ListingPlace) (to : ℕ) → Finishes place place (acts.Jump to) (walk_step.Jump to)
 finished_jump place to = λ v outcome cards machine position executed gain f is. (
   record v { state = record (is.0) { position = to } },
   ap (walks.follows v) (sym is.1),
@@ -65,7 +65,7 @@ finished_jump place to = λ v outcome cards machine position executed gain f is.
 )
 
 pub finished_ends : (old new : ListingPlace) (end : End) (ending : Ending) (found : Found) → ending ≡ end_view end → ((w : walks.Walker) → Faces old w → walks.closes w ending ≡ walks.Finds (found_view found)) →
-    Finishes old new (acts.Ends end) (went.Finds found)
+    Finishes old new (acts.Ends end) (walk_step.Finds found)
 finished_ends old new end ending found same closes = λ v outcome cards machine position executed gain f is.
     ap (walks.follows v) (sym is) ∙ ap (walks.closes v) (sym same) ∙ closes v f
 
@@ -117,7 +117,7 @@ outcome_of machine (acts.Ends end) text w card move cards position executed gain
 module _ (machine : Machine Chosen) (old new : ListingPlace) (act : Act) (text : List ℕ) where
   -- what is open is found
   pub passes_open : (found : Found) → ((w : walks.Walker) → Faces old w → option_map found_view (Some found) ≡ open_by (ends_run act || has_text text) (ends_run act || is_none machine.mark) w) →
-      Passes machine old new act text (went.Finds found)
+      Passes machine old new act text (walk_step.Finds found)
   passes_open found there_is = λ C w card move cards position executed gain f plain follows same.
       let o = outcome_of machine act text w card move cards position executed gain follows same in
       settled C w card move o.outcome o.settles plain ∙
@@ -135,14 +135,14 @@ module _ (machine : Machine Chosen) (old new : ListingPlace) (act : Act) (text :
         ap (λ (rest : List ℕ). walks.taken w o.outcome (left_after text rest)) f.rest
 
     -- the text doesn't stand here
-    pub passes_wrong : (found : Found) → left_after text old.cursor ≡ None → found_view found ≡ walks.Wrong old.cursor → Passes machine old new act text (went.Finds found)
+    pub passes_wrong : (found : Found) → left_after text old.cursor ≡ None → found_view found ≡ walks.Wrong old.cursor → Passes machine old new act text (walk_step.Finds found)
     passes_wrong found gone wrong = λ C w card move cards position executed gain f plain follows same.
         let o = outcome_of machine act text w card move cards position executed gain follows same in
         turn_taken C w card move cards position executed gain f plain o same ∙ ap (walks.taken w o.outcome) gone ∙
         ap (λ (rest : List ℕ). walks.Finds (walks.Wrong rest)) f.rest ∙ ap (λ (x : walks.Found). walks.Finds x) (sym wrong)
 
     -- it does
-    pub passes_on : (mid : ListingPlace) (w' : Went) → left_after text old.cursor ≡ Some mid.cursor → mid.pending ≡ old.pending → mid.reports ≡ old.reports + one_if (has_text text) → Finishes mid new act w' →
+    pub passes_on : (mid : ListingPlace) (w' : WalkStep) → left_after text old.cursor ≡ Some mid.cursor → mid.pending ≡ old.pending → mid.reports ≡ old.reports + one_if (has_text text) → Finishes mid new act w' →
         Passes machine old new act text w'
     passes_on mid w' there kept counted finishes = λ C w card move cards position executed gain f plain follows same.
         let o = outcome_of machine act text w card move cards position executed gain follows same in
@@ -163,17 +163,17 @@ module _ (machine : Machine Chosen) (old : ListingPlace) (act : Act) (text : Lis
   open_so : (x : Option walks.Found) → ((w : walks.Walker) → Faces old w → x ≡ open_by looks clears w) → (w : walks.Walker) → Faces old w → x ≡ open_by (ends_run act || has_text text) (ends_run act || is_none machine.mark) w
   open_so x there_is w f = there_is w f ∙ (λ i. open_by (is_looks i) (is_clears i) w)
 
-  pub passes_open_by : (new : ListingPlace) (found : Found) → ((w : walks.Walker) → Faces old w → option_map found_view (Some found) ≡ open_by looks clears w) → Passes machine old new act text (went.Finds found)
+  pub passes_open_by : (new : ListingPlace) (found : Found) → ((w : walks.Walker) → Faces old w → option_map found_view (Some found) ≡ open_by looks clears w) → Passes machine old new act text (walk_step.Finds found)
   passes_open_by new found there_is = passes_open machine old new act text found (open_so (Some (found_view found)) there_is)
 
   module _ (none : (w : walks.Walker) → Faces old w → None ≡ open_by looks clears w) where
     pub passes_wrong_by : (mid : ListingPlace) (rest : Bor (List ℕ)) → rest.now ≡ old.cursor → (passes : Bool) → passes ≡ false → left_after text old.cursor ≡ taken passes mid.cursor → (new : ListingPlace) →
-        Passes machine old new act text (went.Finds (founds.Wrong rest))
+        Passes machine old new act text (walk_step.Finds (founds.Wrong rest))
     passes_wrong_by mid rest here passes gone there new =
         passes_wrong machine old new act text (open_so None none) (founds.Wrong rest) (there ∙ ap (λ (b : Bool). taken b mid.cursor) gone) (ap (λ (left : List ℕ). walks.Wrong left) here)
 
     pub passes_on_by : (mid new : ListingPlace) (passes : Bool) → passes ≡ true → left_after text old.cursor ≡ taken passes mid.cursor → mid.pending ≡ old.pending → (passes ≡ true → mid.reports ≡ old.reports + one_if (has_text text)) →
-        (result : Result Went NoMemory) → IfOk result (Finishes mid new act) → IfOk result (Passes machine old new act text)
+        (result : Result WalkStep NoMemory) → IfOk result (Finishes mid new act) → IfOk result (Passes machine old new act text)
     passes_on_by mid new passes there_is there kept counted (Ok w') finishes =
         passes_on machine old new act text (open_so None none) mid w' (there ∙ ap (λ (b : Bool). taken b mid.cursor) there_is) kept (counted there_is) finishes
     passes_on_by mid new passes there_is there kept counted (Err stop) finishes = tt

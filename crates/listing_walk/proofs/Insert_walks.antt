@@ -34,8 +34,8 @@ use Rattle.listing_walk.specs.declared.found.Found.{Found}
 use Rattle.listing_walk.specs.declared.place.ListingPlace.{ListingPlace}
 use Rattle.listing_walk.specs.declared.selecting.Unselected.{Unselected}
 use Rattle.listing_walk.specs.declared.selecting.Unselected.TheVariants as unselected
-use Rattle.listing_walk.specs.declared.went.Went.{Went}
-use Rattle.listing_walk.specs.declared.went.Went.TheVariants as went
+use Rattle.listing_walk.specs.declared.walk_step.WalkStep.{WalkStep}
+use Rattle.listing_walk.specs.declared.walk_step.WalkStep.TheVariants as walk_step
 use Rattle.listing_walk.specs.Choosing.{IsMade, IsRefused, IsNotMade}
 use Rattle.listing_walk.specs.Standing.{IsView, IsReady, Faces}
 use Rattle.listing_walk.specs.Walking.{TurnsTo, Passes, Walks}
@@ -60,7 +60,7 @@ unfolding verb_move
 inserting_move card state = refl
 
 -- the end by a fault of a deck
-deck_faulted : (C : Checker) (cards : List (List ℕ)) (machine : Machine Chosen) (old new : ListingPlace) (fault : DeckFault) (card : ℕ) (w' : Went) → Passes machine old new (acts.Ends (ends.Deck fault)) [] w' →
+deck_faulted : (C : Checker) (cards : List (List ℕ)) (machine : Machine Chosen) (old new : ListingPlace) (fault : DeckFault) (card : ℕ) (w' : WalkStep) → Passes machine old new (acts.Ends (ends.Deck fault)) [] w' →
     (w : walks.Walker) (move : StatementMove) (position executed : ℕ) → Faces old w → move ≡ Does (stops (deck_stop fault)) → TurnsTo (walks.walk_move C w move) cards machine position executed new w'
 deck_faulted C cards machine old new fault card w' passes w move position executed f is =
     subst (λ (m : StatementMove). TurnsTo (walks.walk_move C w m) cards machine position executed new w') (sym is)
@@ -122,7 +122,7 @@ pub due_by : (problem : Problem ℕ) (lp : LinearProgram) (cards : List (List �
 due_by problem lp cards place deck rest same due is = is ∙ ap (is_line_due problem lp cards deck) same
 
 module _ (C : Checker) (card : ℕ) (cards : List (List ℕ)) (machine : Machine Chosen) (old new : ListingPlace) where
-  pub insert_no_setup : machine.setup ≡ None → (result : Result Went NoMemory) → IfOk result (Passes machine old new (acts.Ends (ends.Verb NoSetup card)) []) → IfOk result (Walks C Insert card cards machine machine old new)
+  pub insert_no_setup : machine.setup ≡ None → (result : Result WalkStep NoMemory) → IfOk result (Passes machine old new (acts.Ends (ends.Verb NoSetup card)) []) → IfOk result (Walks C Insert card cards machine machine old new)
   insert_no_setup = no_setup_walks C Insert card (insert_move card) (inserting_move card) cards machine old new
 
   module _ (chosen : Chosen) (is_setup : machine.setup ≡ Some chosen) (problem : Problem ℕ) (on_file : filed_under chosen.name machine.file ≡ Some problem) (deck : Option Deck)
@@ -134,7 +134,7 @@ module _ (C : Checker) (card : ℕ) (cards : List (List ℕ)) (machine : Machine
     -- ---- a selection is refused
 
     unmade_walks : IsRefused problem (choice_of machine.cells chosen.options) → IsKept problem chosen → (due : Bool) → due ≡ is_line_due problem chosen.lp cards deck old.cursor → (found : Found) → IsInstallRefused old due found →
-        Walks C Insert card cards machine machine old new (went.Finds found)
+        Walks C Insert card cards machine machine old new (walk_step.Finds found)
     unmade_walks refused kept due is found u = λ position executed state w s f.
         let p = present_at s chosen is_setup problem on_file in
         let present = present_with problem chosen.options p.opening p.steps in
@@ -146,12 +146,12 @@ module _ (C : Checker) (card : ℕ) (cards : List (List ℕ)) (machine : Machine
         ap (λ (o : Option walks.Found). walks.unless_found o (walks.Finds (walks.Unchecked w.rest))) (opened_so card state present q.0 w cards deck ∙ ap (λ (b : Bool). open_install b w) same) ∙ u w f
 
     pub insert_refused : IsKept problem chosen → (due : Bool) → due ≡ is_line_due problem chosen.lp cards deck old.cursor → (refusal : Unselected) → IsNotMade problem (choice_of machine.cells chosen.options) refusal →
-        (result : Result Went NoMemory) → IfOk result (RefusesInstall machine old new card due refusal) → IfOk result (Walks C Insert card cards machine machine old new)
+        (result : Result WalkStep NoMemory) → IfOk result (RefusesInstall machine old new card due refusal) → IfOk result (Walks C Insert card cards machine machine old new)
     insert_refused kept due is (unselected.Fault fault) h result passes = unselected_walks C Insert card (insert_move card) (inserting_move card) cards machine old new chosen is_setup problem on_file fault h result passes
-    insert_refused kept due is unselected.Unchecked h (Ok (went.Finds found)) u = unmade_walks h kept due is found u
-    insert_refused kept due is unselected.Unchecked h (Ok went.Next) u = absurd u
-    insert_refused kept due is unselected.Unchecked h (Ok (went.Leaves last)) u = absurd u
-    insert_refused kept due is unselected.Unchecked h (Ok (went.Jump to)) u = absurd u
+    insert_refused kept due is unselected.Unchecked h (Ok (walk_step.Finds found)) u = unmade_walks h kept due is found u
+    insert_refused kept due is unselected.Unchecked h (Ok walk_step.Next) u = absurd u
+    insert_refused kept due is unselected.Unchecked h (Ok (walk_step.Leaves last)) u = absurd u
+    insert_refused kept due is unselected.Unchecked h (Ok (walk_step.Jump to)) u = absurd u
     insert_refused kept due is unselected.Unchecked h (Err stop) u = tt
     insert_refused kept due is unselected.NoMemory h (Ok w') u = absurd u
     insert_refused kept due is unselected.NoMemory h (Err stop) u = tt
@@ -159,7 +159,7 @@ module _ (C : Checker) (card : ℕ) (cards : List (List ℕ)) (machine : Machine
     -- ---- with a linear program
 
     module _ (lp : LinearProgram) (made : IsMade problem (choice_of machine.cells chosen.options) lp) where
-      pub insert_no_deck : deck ≡ None → (result : Result Went NoMemory) → IfOk result (Passes machine old new (acts.Ends (ends.Verb DeckNotFound card)) []) → IfOk result (Walks C Insert card cards machine machine old new)
+      pub insert_no_deck : deck ≡ None → (result : Result WalkStep NoMemory) → IfOk result (Passes machine old new (acts.Ends (ends.Verb DeckNotFound card)) []) → IfOk result (Walks C Insert card cards machine machine old new)
       insert_no_deck none (Ok w') passes =
           made_walks C Insert card (insert_move card) (inserting_move card) cards machine old new chosen is_setup problem on_file lp made machine w' (λ position executed state w opening steps s f is_viewed.
           let present = present_with problem chosen.options opening steps in
@@ -181,7 +181,7 @@ module _ (C : Checker) (card : ℕ) (cards : List (List ℕ)) (machine : Machine
             let present = present_with problem chosen.options opening steps in
             ap (insert_by card state present lp) (deck_at s ∙ ap (taken_of cards) is_one) ∙ ap (λ (r : Result Basis DeckFault). or_deck_fault r (asks_install card state present lp taken)) is
 
-        pub insert_bad_deck : (fault : DeckFault) → basis_reading problem lp deck_fields ≡ Err fault → (result : Result Went NoMemory) → IfOk result (Passes machine old new (acts.Ends (ends.Deck fault)) []) →
+        pub insert_bad_deck : (fault : DeckFault) → basis_reading problem lp deck_fields ≡ Err fault → (result : Result WalkStep NoMemory) → IfOk result (Passes machine old new (acts.Ends (ends.Deck fault)) []) →
             IfOk result (Walks C Insert card cards machine machine old new)
         insert_bad_deck fault is (Ok w') passes =
             made_walks C Insert card (insert_move card) (inserting_move card) cards machine old new chosen is_setup problem on_file lp made machine w' (λ position executed state w opening steps s f is_viewed.
@@ -189,9 +189,9 @@ module _ (C : Checker) (card : ℕ) (cards : List (List ℕ)) (machine : Machine
         insert_bad_deck fault is (Err stop) passes = tt
 
         pub insert_due : (stands : Bool) → stands ≡ is_line_of cards deck old.cursor → (basis : Basis) → basis_reading problem lp deck_fields ≡ Ok basis → (found : Found) → IsInstallDue old stands found →
-            Walks C Insert card cards machine machine old new (went.Finds found)
+            Walks C Insert card cards machine machine old new (walk_step.Finds found)
         insert_due stands stands_is basis is found due =
-            made_walks C Insert card (insert_move card) (inserting_move card) cards machine old new chosen is_setup problem on_file lp made machine (went.Finds found) (λ position executed state w opening steps s f is_viewed.
+            made_walks C Insert card (insert_move card) (inserting_move card) cards machine old new chosen is_setup problem on_file lp made machine (walk_step.Finds found) (λ position executed state w opening steps s f is_viewed.
             ap (walks.walk_move C w) (read_move (Ok basis) is s opening steps) ∙
             ap (λ (b : Bool). walks.unless_found (open_install b w) (walks.Finds (walks.Wrong w.rest))) (ap (is_inserted (deck_name (live deck_fields))) f.rest ∙ ap (λ (o : Option Deck). is_line_of cards o old.cursor) (sym is_one) ∙ sym stands_is) ∙
             due w f)

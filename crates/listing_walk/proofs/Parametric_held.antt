@@ -33,13 +33,13 @@ use Rattle.listing_walk.specs.declared.answering.Stopped.{Stopped}
 use Rattle.listing_walk.specs.declared.chosen.Chosen.{Chosen}
 use Rattle.listing_walk.specs.declared.place.ListingPlace.{ListingPlace}
 use Rattle.listing_walk.specs.declared.selecting.Unselected.{Unselected}
-use Rattle.listing_walk.specs.declared.went.Went.{Went}
-use Rattle.listing_walk.specs.declared.went.Went.TheVariants as went
+use Rattle.listing_walk.specs.declared.walk_step.WalkStep.{WalkStep}
+use Rattle.listing_walk.specs.declared.walk_step.WalkStep.TheVariants as walk_step
 use Rattle.listing_walk.specs.Choosing.{IsMade, IsNotMade}
 use Rattle.listing_walk.specs.Standing.{holding}
 use Rattle.listing_walk.specs.Walking.{Finishes, Passes, Walks, Refuses}
-use Rattle.listing_walk.specs.Asking.{Answered, WentBy}
-use Rattle.listing_walk.specs.Parametric_verbs.{beginning, IsNotLast, finding_of, left_by, IsUnasked}
+use Rattle.listing_walk.specs.Asking.{Answered, IsStopStep}
+use Rattle.listing_walk.specs.ParametricVerbs.{beginning, IsNotLast, finding_of, left_by, IsUnasked}
 use Rattle.listing_walk.proofs.Parametric_walks.{parametric_no_setup, parametric_refused, parametric_unasked, parametric_stopped, parametric_ended, parametric_long}
 
 -- ---- the machine with a value in XPARAM
@@ -83,24 +83,24 @@ unasked_by_last verb problem cells changing changes request_stops.NoMemory none 
 -- ---- the verb in the walk
 
 module _ (C : Checker) (verb : ParametricVerb) (card : ℕ) (cards : List (List ℕ)) (machine : Machine Chosen) (old new : ListingPlace) where
-  pub held_no_setup : (last : Option ℚ) → machine.setup ≡ None → (result : Result Went NoMemory) → IfOk result (Passes (holding last machine) old new (acts.Ends (ends.Verb NoSetup card)) []) →
+  pub held_no_setup : (last : Option ℚ) → machine.setup ≡ None → (result : Result WalkStep NoMemory) → IfOk result (Passes (holding last machine) old new (acts.Ends (ends.Verb NoSetup card)) []) →
       IfOk result (Walks C (verb_of verb) card cards (holding last machine) (holding last machine) old new)
   held_no_setup None none = parametric_no_setup C verb card cards machine old new none
   held_no_setup (Some value) none = parametric_no_setup C verb card cards (holding (Some value) machine) old new none
 
   module _ (chosen : Chosen) (is_setup : machine.setup ≡ Some chosen) (problem : Problem ℕ) (on_file : filed_under chosen.name machine.file ≡ Some problem) where
-    pub held_refused : (last : Option ℚ) (refusal : Unselected) → IsNotMade problem (choice_of machine.cells chosen.options) refusal → (result : Result Went NoMemory) → IfOk result (Refuses (holding last machine) old new card refusal) →
+    pub held_refused : (last : Option ℚ) (refusal : Unselected) → IsNotMade problem (choice_of machine.cells chosen.options) refusal → (result : Result WalkStep NoMemory) → IfOk result (Refuses (holding last machine) old new card refusal) →
         IfOk result (Walks C (verb_of verb) card cards (holding last machine) (holding last machine) old new)
     held_refused None = parametric_refused C verb card cards machine old new chosen is_setup problem on_file
     held_refused (Some value) = parametric_refused C verb card cards (holding (Some value) machine) old new chosen is_setup problem on_file
 
     module _ (lp : LinearProgram) (made : IsMade problem (choice_of machine.cells chosen.options) lp) (from : ℚ) where
-      unasked_at : (last : Option ℚ) (stop : RequestStop) → IsNotAsked verb problem (holding last machine).cells stop → (result : Result Went NoMemory) → IfOk result (IsUnasked (holding last machine) old new card stop) →
+      unasked_at : (last : Option ℚ) (stop : RequestStop) → IsNotAsked verb problem (holding last machine).cells stop → (result : Result WalkStep NoMemory) → IfOk result (IsUnasked (holding last machine) old new card stop) →
           IfOk result (Walks C (verb_of verb) card cards (holding last machine) (holding last machine) old new)
       unasked_at None = parametric_unasked C verb card cards machine old new chosen is_setup problem on_file lp made
       unasked_at (Some value) = parametric_unasked C verb card cards (holding (Some value) machine) old new chosen is_setup problem on_file lp made
 
-      pub held_unasked : (last : Option ℚ) → from ≡ unwrap_or last machine.cells.xparam → (stop : RequestStop) → IsNotAsked verb problem (beginning from machine.cells) stop → (result : Result Went NoMemory) → IfOk result (IsUnasked (holding last machine) old new card stop) →
+      pub held_unasked : (last : Option ℚ) → from ≡ unwrap_or last machine.cells.xparam → (stop : RequestStop) → IsNotAsked verb problem (beginning from machine.cells) stop → (result : Result WalkStep NoMemory) → IfOk result (IsUnasked (holding last machine) old new card stop) →
           IfOk result (Walks C (verb_of verb) card cards (holding last machine) (holding last machine) old new)
       held_unasked last is stop h = unasked_at last stop (subst (λ (c : Cells). IsNotAsked verb problem c stop) (cells_held last machine from is) h)
 
@@ -114,36 +114,36 @@ module _ (C : Checker) (verb : ParametricVerb) (card : ℕ) (cards : List (List 
         abbrev asked_held : (last : Option ℚ) → from ≡ unwrap_or last machine.cells.xparam → IsAskedAt (beginning from machine.cells) → IsAskedAt (holding last machine).cells
         asked_held last is asked = subst IsAskedAt (cells_held last machine from is) asked
 
-        stopped_at : (last : Option ℚ) → IsAskedAt (holding last machine).cells → (stopped : Stopped) → IsAnswered new (Err stopped) → (result : Result Went NoMemory) → IfOk result (WentBy stopped) →
+        stopped_at : (last : Option ℚ) → IsAskedAt (holding last machine).cells → (stopped : Stopped) → IsAnswered new (Err stopped) → (result : Result WalkStep NoMemory) → IfOk result (IsStopStep stopped) →
             IfOk result (Walks C (verb_of verb) card cards (holding last machine) (holding last machine) old new)
         stopped_at None asked = parametric_stopped C verb card cards machine old new chosen is_setup problem on_file lp made request asked machine
         stopped_at (Some value) asked = parametric_stopped C verb card cards (holding (Some value) machine) old new chosen is_setup problem on_file lp made request asked (holding (Some value) machine)
 
-        pub held_stopped : (last : Option ℚ) → from ≡ unwrap_or last machine.cells.xparam → IsAskedAt (beginning from machine.cells) → (stopped : Stopped) → IsAnswered new (Err stopped) → (result : Result Went NoMemory) → IfOk result (WentBy stopped) →
+        pub held_stopped : (last : Option ℚ) → from ≡ unwrap_or last machine.cells.xparam → IsAskedAt (beginning from machine.cells) → (stopped : Stopped) → IsAnswered new (Err stopped) → (result : Result WalkStep NoMemory) → IfOk result (IsStopStep stopped) →
             IfOk result (Walks C (verb_of verb) card cards (holding last machine) (holding last machine) old new)
         held_stopped last is asked = stopped_at last (asked_held last is asked)
 
         module _ (demands : AreDemands machine.cells) where
           ended_at : (last : Option ℚ) → IsAskedAt (holding last machine).cells → (mid : ListingPlace) (x : ParametricRunAnswer) → IsAnswered mid (Ok x) → (after : Machine Chosen) → after ≡ left_by (finding_of x) (holding last machine) →
-              (act : Act) → act ≡ act_of after.cells card (finding_of x) → (result : Result Went NoMemory) → IfOk result (Finishes mid new act) → IfOk result (Walks C (verb_of verb) card cards (holding last machine) after old new)
+              (act : Act) → act ≡ act_of after.cells card (finding_of x) → (result : Result WalkStep NoMemory) → IfOk result (Finishes mid new act) → IfOk result (Walks C (verb_of verb) card cards (holding last machine) after old new)
           ended_at None asked = parametric_ended C verb card cards machine old new chosen is_setup problem on_file lp made request asked demands
           ended_at (Some value) asked =
               parametric_ended C verb card cards (holding (Some value) machine) old new chosen is_setup problem on_file lp made request asked (demands_held (Some value) machine demands)
 
           -- what is left of the value before is with the machine after
           pub held_ended : (last : Option ℚ) → from ≡ unwrap_or last machine.cells.xparam → IsAskedAt (beginning from machine.cells) → (mid : ListingPlace) (x : ParametricRunAnswer) → IsAnswered mid (Ok x) →
-              (left : Option ℚ) (after : Machine Chosen) → holding left after ≡ left_by (finding_of x) (holding last machine) → (act : Act) → act ≡ act_of after.cells card (finding_of x) → (result : Result Went NoMemory) → IfOk result (Finishes mid new act) →
+              (left : Option ℚ) (after : Machine Chosen) → holding left after ≡ left_by (finding_of x) (holding last machine) → (act : Act) → act ≡ act_of after.cells card (finding_of x) → (result : Result WalkStep NoMemory) → IfOk result (Finishes mid new act) →
               IfOk result (Walks C (verb_of verb) card cards (holding last machine) (holding left after) old new)
           held_ended last is asked mid x answered left after stays act is_act =
               ended_at last (asked_held last is asked) mid x answered (holding left after) stays act (is_act ∙ act_held left after card (finding_of x))
 
           long_at : (last : Option ℚ) → IsAskedAt (holding last machine).cells → (x : ParametricRunAnswer) (value : ℚ) → x ≡ RanThrough value → IsAnswered new (Ok x) →
-              Walks C (verb_of verb) card cards (holding last machine) (record (holding last machine) { mark = None }) old new (went.Leaves value)
+              Walks C (verb_of verb) card cards (holding last machine) (record (holding last machine) { mark = None }) old new (walk_step.Leaves value)
           long_at None asked = parametric_long C verb card cards machine old new chosen is_setup problem on_file lp made request asked demands
           long_at (Some before) asked =
               parametric_long C verb card cards (holding (Some before) machine) old new chosen is_setup problem on_file lp made request asked (demands_held (Some before) machine demands)
 
           pub held_long : (last : Option ℚ) → from ≡ unwrap_or last machine.cells.xparam → IsAskedAt (beginning from machine.cells) → (x : ParametricRunAnswer) (value : ℚ) → x ≡ RanThrough value → IsAnswered new (Ok x) →
-              Walks C (verb_of verb) card cards (holding last machine) (holding last (record machine { mark = None })) old new (went.Leaves value)
+              Walks C (verb_of verb) card cards (holding last machine) (holding last (record machine { mark = None })) old new (walk_step.Leaves value)
           held_long last is asked x value ran answered =
-              subst (λ (m : Machine Chosen). Walks C (verb_of verb) card cards (holding last machine) m old new (went.Leaves value)) (unmarked_held last machine) (long_at last (asked_held last is asked) x value ran answered)
+              subst (λ (m : Machine Chosen). Walks C (verb_of verb) card cards (holding last machine) m old new (walk_step.Leaves value)) (unmarked_held last machine) (long_at last (asked_held last is asked) x value ran answered)

@@ -51,13 +51,13 @@ use Rattle.listing_walk.specs.declared.chosen.Chosen.{Chosen}
 use Rattle.listing_walk.specs.declared.found.Found.{Found}
 use Rattle.listing_walk.specs.declared.place.ListingPlace.{ListingPlace}
 use Rattle.listing_walk.specs.declared.selecting.Unselected.{Unselected}
-use Rattle.listing_walk.specs.declared.went.Went.{Went}
-use Rattle.listing_walk.specs.declared.went.Went.TheVariants as went
+use Rattle.listing_walk.specs.declared.walk_step.WalkStep.{WalkStep}
+use Rattle.listing_walk.specs.declared.walk_step.WalkStep.TheVariants as walk_step
 use Rattle.listing_walk.specs.Choosing.{IsMade, IsNotMade}
 use Rattle.listing_walk.specs.Standing.{IsView, IsSound, Faces}
 use Rattle.listing_walk.specs.Walking.{open_by, TurnsTo, IsOutcome, Finishes, Passes, Walks, Refuses}
-use Rattle.listing_walk.specs.Asking.{asked_turn, Answered, WentBy}
-use Rattle.listing_walk.specs.Parametric_verbs.{finding_of, left_by, IsUnasked}
+use Rattle.listing_walk.specs.Asking.{asked_turn, Answered, IsStopStep}
+use Rattle.listing_walk.specs.ParametricVerbs.{finding_of, left_by, IsUnasked}
 use Rattle.listing_walk.proofs.Follow_on.{finished_next}
 use Rattle.listing_walk.proofs.Selected.{fault_move, found_move, as_many_rows}
 use Rattle.listing_walk.proofs.Setting_up.{faulted}
@@ -133,27 +133,27 @@ parametric_move Pararhs card state = refl
 -- ---- the verb in the walk
 
 module _ (C : Checker) (verb : ParametricVerb) (card : ℕ) (cards : List (List ℕ)) (machine : Machine Chosen) (old new : ListingPlace) where
-  pub parametric_no_setup : machine.setup ≡ None → (result : Result Went NoMemory) → IfOk result (Passes machine old new (acts.Ends (ends.Verb NoSetup card)) []) → IfOk result (Walks C (verb_of verb) card cards machine machine old new)
+  pub parametric_no_setup : machine.setup ≡ None → (result : Result WalkStep NoMemory) → IfOk result (Passes machine old new (acts.Ends (ends.Verb NoSetup card)) []) → IfOk result (Walks C (verb_of verb) card cards machine machine old new)
   parametric_no_setup = no_setup_walks C (verb_of verb) card (tested_move verb card) (parametric_move verb card) cards machine old new
 
   module _ (chosen : Chosen) (is_setup : machine.setup ≡ Some chosen) (problem : Problem ℕ) (on_file : filed_under chosen.name machine.file ≡ Some problem) where
-    pub parametric_refused : (refusal : Unselected) → IsNotMade problem (choice_of machine.cells chosen.options) refusal → (result : Result Went NoMemory) → IfOk result (Refuses machine old new card refusal) →
+    pub parametric_refused : (refusal : Unselected) → IsNotMade problem (choice_of machine.cells chosen.options) refusal → (result : Result WalkStep NoMemory) → IfOk result (Refuses machine old new card refusal) →
         IfOk result (Walks C (verb_of verb) card cards machine machine old new)
     parametric_refused = refusal_walks C (verb_of verb) card (tested_move verb card) (parametric_move verb card) cards machine old new chosen is_setup problem on_file (λ state present w lp. opens_tested verb card state present w lp)
 
     module _ (lp : LinearProgram) (made : IsMade problem (choice_of machine.cells chosen.options) lp) where
-      abbrev through : (after : Machine Chosen) (w' : Went) →
+      abbrev through : (after : Machine Chosen) (w' : WalkStep) →
           ((position executed : ℕ) (state : State) (w : walks.Walker) (opening : Basis) (steps : List Basis) → machines.Represents IsView cards machine position executed state → Faces old w → state.setup ≡ Some (present_with problem chosen.options opening steps) →
           TurnsTo (walks.walk_move C w (tested_move verb card state (present_with problem chosen.options opening steps) lp)) cards after position executed new w') → Walks C (verb_of verb) card cards machine after old new w'
       through = made_walks C (verb_of verb) card (tested_move verb card) (parametric_move verb card) cards machine old new chosen is_setup problem on_file lp made
 
-      unasked_by : (fault : VerbFault) → IsAskFault verb problem machine.cells fault → (w' : Went) → Passes machine old new (acts.Ends (ends.Verb fault card)) [] w' → Walks C (verb_of verb) card cards machine machine old new w'
+      unasked_by : (fault : VerbFault) → IsAskFault verb problem machine.cells fault → (w' : WalkStep) → Passes machine old new (acts.Ends (ends.Verb fault card)) [] w' → Walks C (verb_of verb) card cards machine machine old new w'
       unasked_by fault h w' passes =
           through machine w' (λ position executed state w opening steps s f is_viewed.
           faulted C cards machine old new fault card w' passes w (tested_move verb card state (present_with problem chosen.options opening steps) lp) position executed f
           (refused_move verb card state (present_with problem chosen.options opening steps) lp fault (subst (λ (c : Cells). IsAskFault verb problem c fault) (sym s.cells) h)))
 
-      pub parametric_unasked : (stop : RequestStop) → IsNotAsked verb problem machine.cells stop → (result : Result Went NoMemory) → IfOk result (IsUnasked machine old new card stop) → IfOk result (Walks C (verb_of verb) card cards machine machine old new)
+      pub parametric_unasked : (stop : RequestStop) → IsNotAsked verb problem machine.cells stop → (result : Result WalkStep NoMemory) → IfOk result (IsUnasked machine old new card stop) → IfOk result (Walks C (verb_of verb) card cards machine machine old new)
       parametric_unasked (request_stops.Fault fault) h (Ok w') passes = unasked_by fault h w' passes
       parametric_unasked (request_stops.Fault fault) h (Err stop) passes = tt
       parametric_unasked request_stops.NoMemory h (Ok w') passes = absurd passes
@@ -172,14 +172,14 @@ module _ (C : Checker) (verb : ParametricVerb) (card : ℕ) (cards : List (List 
             (asked_move verb card state (present_with problem chosen.options opening steps) lp parametric_run (subst (λ (c : Cells). IsAsked verb problem c parametric_run) (sym s.cells) asked))
 
         found_walks : (after : Machine Chosen) (found : Found) → ((limit : ℕ) → Answered C {X = ParametricRunAnswer} (OfParametricRun (parametric_run_of limit request)) (record { problem = problem; lp = lp }) old new IsParametricRunAnswer (Err (stops.Finds found))) →
-            Walks C (verb_of verb) card cards machine after old new (went.Finds found)
+            Walks C (verb_of verb) card cards machine after old new (walk_step.Finds found)
         found_walks after found answered =
-            through after (went.Finds found) (λ position executed state w opening steps s f is_viewed.
+            through after (walk_step.Finds found) (λ position executed state w opening steps s f is_viewed.
             turn_asked w opening steps s ∙ answered (steps_allowed machine.cells) w (after_parametric_run card parametric_run (present_with problem chosen.options opening steps) state) f)
 
         pub parametric_stopped : (after : Machine Chosen) (stopped : Stopped) → ((limit : ℕ) → Answered C {X = ParametricRunAnswer} (OfParametricRun (parametric_run_of limit request)) (record { problem = problem; lp = lp }) old new IsParametricRunAnswer (Err stopped)) →
-            (result : Result Went NoMemory) → IfOk result (WentBy stopped) → IfOk result (Walks C (verb_of verb) card cards machine after old new)
-        parametric_stopped after (stops.Finds found) answered (Ok w') is = subst (λ (x : Went). Walks C (verb_of verb) card cards machine after old new x) (sym is) (found_walks after found answered)
+            (result : Result WalkStep NoMemory) → IfOk result (IsStopStep stopped) → IfOk result (Walks C (verb_of verb) card cards machine after old new)
+        parametric_stopped after (stops.Finds found) answered (Ok w') is = subst (λ (x : WalkStep). Walks C (verb_of verb) card cards machine after old new x) (sym is) (found_walks after found answered)
         parametric_stopped after (stops.Finds found) answered (Err stop) is = tt
         parametric_stopped after stops.NoMemory answered (Ok w') is = absurd is
         parametric_stopped after stops.NoMemory answered (Err stop) is = tt
@@ -218,7 +218,7 @@ module _ (C : Checker) (verb : ParametricVerb) (card : ℕ) (cards : List (List 
           }
 
           -- by the answer
-          ends_by : (x : ParametricRunAnswer) (act : Act) → act ≡ act_of (left_by (finding_of x) machine).cells card (finding_of x) → (w' : Went) → Finishes mid new act w' → (position executed : ℕ) (state : State) (opening : Basis) (steps : List Basis) →
+          ends_by : (x : ParametricRunAnswer) (act : Act) → act ≡ act_of (left_by (finding_of x) machine).cells card (finding_of x) → (w' : WalkStep) → Finishes mid new act w' → (position executed : ℕ) (state : State) (opening : Basis) (steps : List Basis) →
               machines.Represents IsView cards machine position executed state → (turn : walks.WalkTurn) (v : walks.Walker) (answer : ParametricRunEnd) →
               turn ≡ walks.follows v (after_parametric_run card parametric_run (present_with problem chosen.options opening steps) state answer) → Faces mid v → IsParametricRunAnswer x answer → TurnsTo turn cards (left_by (finding_of x) machine) position executed new w'
           ends_by (Opened mark) act is_act w' finishes position executed state opening steps s turn v (Opening bases verdict check) is faces e =
@@ -243,7 +243,7 @@ module _ (C : Checker) (verb : ParametricVerb) (card : ℕ) (cards : List (List 
           ends_by (RanThrough last) act is_act w' finishes position executed state opening steps s turn v ParametricRunLimit is faces e = absurd e
 
           pub parametric_ended : (x : ParametricRunAnswer) → ((limit : ℕ) → Answered C (OfParametricRun (parametric_run_of limit request)) (record { problem = problem; lp = lp }) old mid IsParametricRunAnswer (Ok x)) → (after : Machine Chosen) → after ≡ left_by (finding_of x) machine →
-              (act : Act) → act ≡ act_of after.cells card (finding_of x) → (result : Result Went NoMemory) → IfOk result (Finishes mid new act) → IfOk result (Walks C (verb_of verb) card cards machine after old new)
+              (act : Act) → act ≡ act_of after.cells card (finding_of x) → (result : Result WalkStep NoMemory) → IfOk result (Finishes mid new act) → IfOk result (Walks C (verb_of verb) card cards machine after old new)
           parametric_ended x answered after is act is_act (Ok w') finishes =
               subst (λ (m : Machine Chosen). Walks C (verb_of verb) card cards machine m old new w') (sym is)
               (through (left_by (finding_of x) machine) w' (λ position executed state w opening steps s f is_viewed.
@@ -255,11 +255,11 @@ module _ (C : Checker) (verb : ParametricVerb) (card : ℕ) (cards : List (List 
         -- a last value that no cell holds is handed out
         pub parametric_long : AreDemands machine.cells → (x : ParametricRunAnswer) (last : ℚ) → x ≡ RanThrough last →
             ((limit : ℕ) → Answered C (OfParametricRun (parametric_run_of limit request)) (record { problem = problem; lp = lp }) old new IsParametricRunAnswer (Ok x)) →
-            Walks C (verb_of verb) card cards machine (record machine { mark = None }) old new (went.Leaves last)
+            Walks C (verb_of verb) card cards machine (record machine { mark = None }) old new (walk_step.Leaves last)
         parametric_long demands x last is answered =
             parametric_ended demands new (RanThrough last)
             (subst (λ (y : ParametricRunAnswer). (limit : ℕ) → Answered C (OfParametricRun (parametric_run_of limit request)) (record { problem = problem; lp = lp }) old new IsParametricRunAnswer (Ok y)) is answered)
-            (left_by (Reached last) machine) refl acts.Next refl (Ok went.Next) (finished_next new)
+            (left_by (Reached last) machine) refl acts.Next refl (Ok walk_step.Next) (finished_next new)
 
 -- the machine after what was found, by the answer
 pub left_so : (machine : Machine Chosen) (finding found : Finding) → finding ≡ found → (after : Machine Chosen) → after ≡ left_by finding machine → after ≡ left_by found machine

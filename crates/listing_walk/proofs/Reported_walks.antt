@@ -28,8 +28,8 @@ use Rattle.listing_walk.specs.declared.found.Found.{Found}
 use Rattle.listing_walk.specs.declared.place.ListingPlace.{ListingPlace}
 use Rattle.listing_walk.specs.declared.selecting.Unselected.{Unselected}
 use Rattle.listing_walk.specs.declared.selecting.Unselected.TheVariants as unselected
-use Rattle.listing_walk.specs.declared.went.Went.{Went}
-use Rattle.listing_walk.specs.declared.went.Went.TheVariants as went
+use Rattle.listing_walk.specs.declared.walk_step.WalkStep.{WalkStep}
+use Rattle.listing_walk.specs.declared.walk_step.WalkStep.TheVariants as walk_step
 use Rattle.listing_walk.specs.Ended.{found_view}
 use Rattle.listing_walk.specs.Choosing.{IsMade, IsRefused, IsNotMade}
 use Rattle.listing_walk.specs.Standing.{IsReady, IsSolved, Faces}
@@ -65,16 +65,16 @@ optimal_so marks.Infeasible is = absurd (cc is)
 optimal_so marks.Unbounded is = absurd (cc is)
 
 module _ (C : Checker) (card : ℕ) (cards : List (List ℕ)) (machine : Machine Chosen) (old new : ListingPlace) where
-  pub ranges_no_setup : machine.setup ≡ None → (result : Result Went NoMemory) → IfOk result (Passes machine old new (acts.Ends (ends.Verb NoSetup card)) []) → IfOk result (Walks C Ranging card cards machine machine old new)
+  pub ranges_no_setup : machine.setup ≡ None → (result : Result WalkStep NoMemory) → IfOk result (Passes machine old new (acts.Ends (ends.Verb NoSetup card)) []) → IfOk result (Walks C Ranging card cards machine machine old new)
   ranges_no_setup none = fault_walks C Ranging card cards machine old new NoSetup (λ position executed state s. ranging_move card state ∙ showing_none card cards machine s (range_move card state) none)
 
   module _ (chosen : Chosen) (is_setup : machine.setup ≡ Some chosen) where
-    pub ranges_not_solved : machine.mark ≡ None → (result : Result Went NoMemory) → IfOk result (Passes machine old new (acts.Ends (ends.Verb NotSolved card)) []) → IfOk result (Walks C Ranging card cards machine machine old new)
+    pub ranges_not_solved : machine.mark ≡ None → (result : Result WalkStep NoMemory) → IfOk result (Passes machine old new (acts.Ends (ends.Verb NotSolved card)) []) → IfOk result (Walks C Ranging card cards machine machine old new)
     ranges_not_solved none =
         fault_walks C Ranging card cards machine old new NotSolved (λ position executed state s. ranging_move card state ∙ showing_unsolved card cards machine s (range_move card state) chosen is_setup none)
 
     module _ (mark : Mark) (is_mark : machine.mark ≡ Some mark) where
-      pub ranges_not_optimal : is_optimal mark ≡ false → (result : Result Went NoMemory) → IfOk result (Passes machine old new (acts.Ends (ends.Verb NotOptimal card)) []) → IfOk result (Walks C Ranging card cards machine machine old new)
+      pub ranges_not_optimal : is_optimal mark ≡ false → (result : Result WalkStep NoMemory) → IfOk result (Passes machine old new (acts.Ends (ends.Verb NotOptimal card)) []) → IfOk result (Walks C Ranging card cards machine machine old new)
       ranges_not_optimal other =
           fault_walks C Ranging card cards machine old new NotOptimal (λ position executed state s.
           let p = some_at s chosen is_setup in
@@ -82,7 +82,7 @@ module _ (C : Checker) (card : ℕ) (cards : List (List ℕ)) (machine : Machine
           fault_move card NotOptimal (if_optimal mark) (λ (optimal : Mark). shows_present card state p.0 OfRanges Ranges) (not_optimal mark other))
 
       pub ranges_found : is_optimal mark ≡ true → IfSome machine.setup (IsReady machine.file) → IfSome machine.mark (λ mark. IfSome machine.setup (IsSolved mark machine.cells.xobj machine.cells.xrhs machine.file)) →
-          (stands : Bool) → stands ≡ is_ranges old.cursor → (found : Found) → IsReported old stands true found → Walks C Ranging card cards machine machine old new (went.Finds found)
+          (stands : Bool) → stands ≡ is_ranges old.cursor → (found : Found) → IsReported old stands true found → Walks C Ranging card cards machine machine old new (walk_step.Finds found)
       ranges_found is ready solved stands stands_is found h = λ position executed state w s f.
           let r = ready_of machine.file machine.setup chosen is_setup ready in
           let p = present_at s chosen is_setup r.problem r.on_file in
@@ -107,27 +107,27 @@ unfolding verb_move
 punching_move card state = refl
 
 module _ (C : Checker) (card : ℕ) (cards : List (List ℕ)) (machine : Machine Chosen) (old new : ListingPlace) where
-  pub punch_no_setup : machine.setup ≡ None → (result : Result Went NoMemory) → IfOk result (Passes machine old new (acts.Ends (ends.Verb NoSetup card)) []) → IfOk result (Walks C Punch card cards machine machine old new)
+  pub punch_no_setup : machine.setup ≡ None → (result : Result WalkStep NoMemory) → IfOk result (Passes machine old new (acts.Ends (ends.Verb NoSetup card)) []) → IfOk result (Walks C Punch card cards machine machine old new)
   punch_no_setup = no_setup_walks C Punch card (punch_move card) (punching_move card) cards machine old new
 
   module _ (chosen : Chosen) (is_setup : machine.setup ≡ Some chosen) (problem : Problem ℕ) (on_file : filed_under chosen.name machine.file ≡ Some problem) (stands : Bool) (stands_is : stands ≡ is_punched problem.name old.cursor) where
-    pub punch_found : (lp : LinearProgram) → IsMade problem (choice_of machine.cells chosen.options) lp → (found : Found) → IsReported old stands true found → Walks C Punch card cards machine machine old new (went.Finds found)
+    pub punch_found : (lp : LinearProgram) → IsMade problem (choice_of machine.cells chosen.options) lp → (found : Found) → IsReported old stands true found → Walks C Punch card cards machine machine old new (walk_step.Finds found)
     punch_found lp made found h =
-        made_walks C Punch card (punch_move card) (punching_move card) cards machine old new chosen is_setup problem on_file lp made machine (went.Finds found)
+        made_walks C Punch card (punch_move card) (punching_move card) cards machine old new chosen is_setup problem on_file lp made machine (walk_step.Finds found)
         (λ position executed state w opening steps s f is_viewed. at_line old stands true found h (is_punched problem.name) stands_is w f)
 
-    unmade_walks : IsRefused problem (choice_of machine.cells chosen.options) → (found : Found) → IsReported old stands false found → Walks C Punch card cards machine machine old new (went.Finds found)
+    unmade_walks : IsRefused problem (choice_of machine.cells chosen.options) → (found : Found) → IsReported old stands false found → Walks C Punch card cards machine machine old new (walk_step.Finds found)
     unmade_walks refused found h = λ position executed state w s f.
         let p = present_at s chosen is_setup problem on_file in
         ap (walks.walk_move C w) (punching_move card state) ∙ (unmade_here C card cards machine s (punch_move card state) chosen problem p w refused).1 ∙ at_line old stands false found h (is_punched problem.name) stands_is w f
 
-    pub punch_refused : (refusal : Unselected) → IsNotMade problem (choice_of machine.cells chosen.options) refusal → (result : Result Went NoMemory) → IfOk result (RefusesReport machine old new card stands refusal) →
+    pub punch_refused : (refusal : Unselected) → IsNotMade problem (choice_of machine.cells chosen.options) refusal → (result : Result WalkStep NoMemory) → IfOk result (RefusesReport machine old new card stands refusal) →
         IfOk result (Walks C Punch card cards machine machine old new)
     punch_refused (unselected.Fault fault) h result passes = unselected_walks C Punch card (punch_move card) (punching_move card) cards machine old new chosen is_setup problem on_file fault h result passes
-    punch_refused unselected.Unchecked h (Ok (went.Finds found)) reported = unmade_walks h found reported
-    punch_refused unselected.Unchecked h (Ok went.Next) reported = absurd reported
-    punch_refused unselected.Unchecked h (Ok (went.Leaves last)) reported = absurd reported
-    punch_refused unselected.Unchecked h (Ok (went.Jump to)) reported = absurd reported
+    punch_refused unselected.Unchecked h (Ok (walk_step.Finds found)) reported = unmade_walks h found reported
+    punch_refused unselected.Unchecked h (Ok walk_step.Next) reported = absurd reported
+    punch_refused unselected.Unchecked h (Ok (walk_step.Leaves last)) reported = absurd reported
+    punch_refused unselected.Unchecked h (Ok (walk_step.Jump to)) reported = absurd reported
     punch_refused unselected.Unchecked h (Err stop) reported = tt
     punch_refused unselected.NoMemory h (Ok w') reported = absurd reported
     punch_refused unselected.NoMemory h (Err stop) reported = tt

@@ -32,8 +32,8 @@ use Rattle.listing_walk.specs.declared.place.ListingPlace.{ListingPlace}
 use Rattle.listing_walk.specs.declared.selecting.Unselected.{Unselected}
 use Rattle.listing_walk.specs.declared.selecting.Unselected.TheVariants.{Fault, Unchecked}
 use Rattle.job_devices.specs.declared.device.NoMemory.{NoMemory}
-use Rattle.listing_walk.specs.declared.went.Went.{Went}
-use Rattle.listing_walk.specs.declared.went.Went.TheVariants as went
+use Rattle.listing_walk.specs.declared.walk_step.WalkStep.{WalkStep}
+use Rattle.listing_walk.specs.declared.walk_step.WalkStep.TheVariants as walk_step
 use Rattle.listing_walk.specs.Ended.{found_view}
 use Rattle.listing_walk.specs.Choosing.{IsMade, IsRefused, IsNotMade, IsOpened, IsNotOpened, no_problem, not_selected}
 use Rattle.listing_walk.specs.Standing.{IsView, Faces}
@@ -51,10 +51,10 @@ filed_none wanted file none = rw none refl
 -- ---- a fault
 
 -- a move that is a verb fault
-pub faulted : (C : Checker) (cards : List (List ℕ)) (machine : Machine Chosen) (old new : ListingPlace) (fault : VerbFault) (card : ℕ) (went : Went) → Passes machine old new (acts.Ends (ends.Verb fault card)) [] went →
-    (w : walks.Walker) (move : StatementMove) (position executed : ℕ) → Faces old w → move ≡ Does (stops (VerbStop (record { fault = fault; card = card }))) → TurnsTo (walks.walk_move C w move) cards machine position executed new went
-faulted C cards machine old new fault card went passes w move position executed f is =
-    subst (λ (m : StatementMove). TurnsTo (walks.walk_move C w m) cards machine position executed new went) (sym is)
+pub faulted : (C : Checker) (cards : List (List ℕ)) (machine : Machine Chosen) (old new : ListingPlace) (fault : VerbFault) (card : ℕ) (next_step : WalkStep) → Passes machine old new (acts.Ends (ends.Verb fault card)) [] next_step →
+    (w : walks.Walker) (move : StatementMove) (position executed : ℕ) → Faces old w → move ≡ Does (stops (VerbStop (record { fault = fault; card = card }))) → TurnsTo (walks.walk_move C w move) cards machine position executed new next_step
+faulted C cards machine old new fault card next_step passes w move position executed f is =
+    subst (λ (m : StatementMove). TurnsTo (walks.walk_move C w m) cards machine position executed new next_step) (sym is)
     (passes C w card (Does (stops (VerbStop (record { fault = fault; card = card })))) cards position executed Nothing f refl refl refl)
 
 -- ---- what SETUP comes to
@@ -103,10 +103,10 @@ module _ (C : Checker) (card : ℕ) (cards : List (List ℕ)) (machine : Machine
       refused_move card options state problem fault (problem_view s (λ (c : Cells). c.xpbname) (Some problem) some)
       (subst (λ (c : Cells). HasSelectionFault problem (choice_of c options) fault) (sym s.cells) (subst (IsNotMade problem (choice_of machine.cells options)) is h))
 
-  pub setup_faulted : (old new : ListingPlace) (fault : VerbFault) (went : Went) → IsNotOpened machine.cells machine.file options (Fault fault) → Passes machine old new (acts.Ends (ends.Verb fault card)) [] went →
-      Walks C (SetupVerb options) card cards machine machine old new went
-  setup_faulted old new fault went h passes = λ position executed state w s f.
-      faulted C cards machine old new fault card went passes w (verb_move (SetupVerb options) card state) position executed f (fault_by fault (Fault fault) refl h s)
+  pub setup_faulted : (old new : ListingPlace) (fault : VerbFault) (next_step : WalkStep) → IsNotOpened machine.cells machine.file options (Fault fault) → Passes machine old new (acts.Ends (ends.Verb fault card)) [] next_step →
+      Walks C (SetupVerb options) card cards machine machine old new next_step
+  setup_faulted old new fault next_step h passes = λ position executed state w s f.
+      faulted C cards machine old new fault card next_step passes w (verb_move (SetupVerb options) card state) position executed f (fault_by fault (Fault fault) refl h s)
 
   unchecked_by : (refusal : Unselected) → refusal ≡ Unchecked → IsNotOpened machine.cells machine.file options refusal → (found : Found) (place : ListingPlace) → IsUnchecked place found →
       {position executed : ℕ} (state : State) (w : walks.Walker) → machines.Represents IsView cards machine position executed state → Faces place w →
@@ -118,7 +118,7 @@ module _ (C : Checker) (card : ℕ) (cards : List (List ℕ)) (machine : Machine
       refused_turn C w problem (choice_of state.cells options) (Does (outcome_of problem options r.lp state)) r.is_refused ∙ u w f
 
   pub setup_unchecked : IsNotOpened machine.cells machine.file options Unchecked → (found : Found) (old new : ListingPlace) → IsUnchecked old found →
-      Walks C (SetupVerb options) card cards machine machine old new (went.Finds found)
+      Walks C (SetupVerb options) card cards machine machine old new (walk_step.Finds found)
   setup_unchecked h found old new u = λ position executed state w s f. unchecked_by Unchecked refl h found old u state w s f
 
   module _ (opened : Named) (o : IsOpened machine.cells machine.file options opened) where
@@ -137,14 +137,14 @@ module _ (C : Checker) (card : ℕ) (cards : List (List ℕ)) (machine : Machine
       mark = refl;
     }
 
-    pub setup_done : (old new : ListingPlace) (text : List ℕ) (went : Went) → text ≡ report_text (SetUp opened.name options.sense) → Passes machine_after old new acts.Next text went →
-        Walks C (SetupVerb options) card cards machine machine_after old new went
-    setup_done old new text went is passes = λ position executed state w s f.
+    pub setup_done : (old new : ListingPlace) (text : List ℕ) (next_step : WalkStep) → text ≡ report_text (SetUp opened.name options.sense) → Passes machine_after old new acts.Next text next_step →
+        Walks C (SetupVerb options) card cards machine machine_after old new next_step
+    setup_done old new text next_step is passes = λ position executed state w s f.
         let made : IsMade o.problem (choice_of state.cells options) opened.chosen.lp = subst (λ (c : Cells). IsMade o.problem (choice_of c options) opened.chosen.lp) (sym s.cells) o.made in
         let is_problem : problem_of state.cells.xpbname state.file ≡ Some o.problem =
         problem_view s (λ (c : Cells). c.xpbname) (Some o.problem) (filed_by machine.cells.xpbname machine.file opened.chosen.name (Some o.problem) o.is_named o.is_filed) in
         let outcome : StatementOutcome = outcome_of o.problem options opened.chosen.lp state in
-        subst (λ (t : walks.WalkTurn). TurnsTo t cards machine_after position executed new went)
+        subst (λ (t : walks.WalkTurn). TurnsTo t cards machine_after position executed new next_step)
         (sym (ap (walks.walk_move C w) (set_up_move card options state o.problem opened.chosen.lp is_problem made.is_selected) ∙ made_turn C w o.problem (choice_of state.cells options) (Does outcome) made.is_made))
         (passes C w card (Does outcome) cards position executed (Prints (SetUp o.problem.name options.sense)) f refl
         (after_setup o.problem options opened.chosen.lp state, refl, stands_set_up s)
@@ -152,21 +152,21 @@ module _ (C : Checker) (card : ℕ) (cards : List (List ℕ)) (machine : Machine
 
 -- ---- by the result
 
-module _ (C : Checker) (card : ℕ) (cards : List (List ℕ)) (machine : Machine Chosen) (options : SetupOptions) (old new : ListingPlace) (result : Result Went NoMemory) where
+module _ (C : Checker) (card : ℕ) (cards : List (List ℕ)) (machine : Machine Chosen) (options : SetupOptions) (old new : ListingPlace) (result : Result WalkStep NoMemory) where
   pub setup_done_by : (opened : Named) (o : IsOpened machine.cells machine.file options opened) (text : List ℕ) → text ≡ report_text (SetUp opened.name options.sense) →
       IfOk result (Passes (record machine { setup = Some opened.chosen; mark = None }) old new acts.Next text) →
       IfOk result (Walks C (SetupVerb options) card cards machine (record machine { setup = Some opened.chosen; mark = None }) old new)
   setup_done_by opened o text is passes = done result passes
     where
-      done : (r : Result Went NoMemory) → IfOk r (Passes (record machine { setup = Some opened.chosen; mark = None }) old new acts.Next text) →
+      done : (r : Result WalkStep NoMemory) → IfOk r (Passes (record machine { setup = Some opened.chosen; mark = None }) old new acts.Next text) →
           IfOk r (Walks C (SetupVerb options) card cards machine (record machine { setup = Some opened.chosen; mark = None }) old new)
-      done (Ok went) h = setup_done C card cards machine options opened o old new text went is h
+      done (Ok next_step) h = setup_done C card cards machine options opened o old new text next_step is h
       done (Err stop) h = tt
 
   pub setup_faulted_by : (fault : VerbFault) → IsNotOpened machine.cells machine.file options (Fault fault) → IfOk result (Passes machine old new (acts.Ends (ends.Verb fault card)) []) →
       IfOk result (Walks C (SetupVerb options) card cards machine machine old new)
   setup_faulted_by fault not passes = faults result passes
     where
-      faults : (r : Result Went NoMemory) → IfOk r (Passes machine old new (acts.Ends (ends.Verb fault card)) []) → IfOk r (Walks C (SetupVerb options) card cards machine machine old new)
-      faults (Ok went) h = setup_faulted C card cards machine options old new fault went not h
+      faults : (r : Result WalkStep NoMemory) → IfOk r (Passes machine old new (acts.Ends (ends.Verb fault card)) []) → IfOk r (Walks C (SetupVerb options) card cards machine machine old new)
+      faults (Ok next_step) h = setup_faulted C card cards machine options old new fault next_step not h
       faults (Err stop) h = tt

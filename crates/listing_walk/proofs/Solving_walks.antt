@@ -36,8 +36,8 @@ use Rattle.listing_walk.specs.declared.found.Found.{Found}
 use Rattle.listing_walk.specs.declared.place.ListingPlace.{ListingPlace}
 use Rattle.listing_walk.specs.declared.selecting.Unselected.{Unselected}
 use Rattle.listing_walk.specs.declared.selecting.Unselected.TheVariants as unselected
-use Rattle.listing_walk.specs.declared.went.Went.{Went}
-use Rattle.listing_walk.specs.declared.went.Went.TheVariants as went
+use Rattle.listing_walk.specs.declared.walk_step.WalkStep.{WalkStep}
+use Rattle.listing_walk.specs.declared.walk_step.WalkStep.TheVariants as walk_step
 use Rattle.listing_walk.specs.Ended.{found_view}
 use Rattle.listing_walk.specs.Choosing.{IsMade, IsRefused, IsNotMade}
 use Rattle.listing_walk.specs.Standing.{IsView, IsReady, Faces}
@@ -145,21 +145,21 @@ module _ (card : ℕ) (cards : List (List ℕ)) (machine : Machine Chosen) (posi
 -- ---- a verb that selects again, in the walk
 
 module _ (C : Checker) (verb : Verb ℕ) (card : ℕ) (go : State → Present → LinearProgram → StatementMove) (is_move : (state : State) → verb_move verb card state ≡ selecting card state (go state)) (cards : List (List ℕ)) (machine : Machine Chosen) (old new : ListingPlace) where
-  fault_walks : (fault : VerbFault) → ((position executed : ℕ) (state : State) → machines.Represents IsView cards machine position executed state → verb_move verb card state ≡ fault_stop fault card) → (result : Result Went NoMemory) →
+  fault_walks : (fault : VerbFault) → ((position executed : ℕ) (state : State) → machines.Represents IsView cards machine position executed state → verb_move verb card state ≡ fault_stop fault card) → (result : Result WalkStep NoMemory) →
       IfOk result (Passes machine old new (acts.Ends (ends.Verb fault card)) []) → IfOk result (Walks C verb card cards machine machine old new)
   fault_walks fault is (Ok w') passes = λ position executed state w s f. faulted C cards machine old new fault card w' passes w (verb_move verb card state) position executed f (is position executed state s)
   fault_walks fault is (Err stop) passes = tt
 
-  pub no_setup_walks : machine.setup ≡ None → (result : Result Went NoMemory) → IfOk result (Passes machine old new (acts.Ends (ends.Verb NoSetup card)) []) → IfOk result (Walks C verb card cards machine machine old new)
+  pub no_setup_walks : machine.setup ≡ None → (result : Result WalkStep NoMemory) → IfOk result (Passes machine old new (acts.Ends (ends.Verb NoSetup card)) []) → IfOk result (Walks C verb card cards machine machine old new)
   no_setup_walks none = fault_walks NoSetup (λ position executed state s. is_move state ∙ no_setup_move C card cards machine s (go state) none)
 
   module _ (chosen : Chosen) (is_setup : machine.setup ≡ Some chosen) (problem : Problem ℕ) (on_file : filed_under chosen.name machine.file ≡ Some problem) where
-    pub unselected_walks : (fault : VerbFault) → HasSelectionFault problem (choice_of machine.cells chosen.options) fault → (result : Result Went NoMemory) → IfOk result (Passes machine old new (acts.Ends (ends.Verb fault card)) []) →
+    pub unselected_walks : (fault : VerbFault) → HasSelectionFault problem (choice_of machine.cells chosen.options) fault → (result : Result WalkStep NoMemory) → IfOk result (Passes machine old new (acts.Ends (ends.Verb fault card)) []) →
         IfOk result (Walks C verb card cards machine machine old new)
     unselected_walks fault h = fault_walks fault (λ position executed state s. is_move state ∙ fault_here C card cards machine s (go state) chosen problem (present_at s chosen is_setup problem on_file) fault h)
 
     pub refused_walks : ((state : State) (present : Present) (w : walks.Walker) (lp : LinearProgram) → walks.opened w (go state present lp) ≡ open_by true true w) → IsRefused problem (choice_of machine.cells chosen.options) →
-        (found : Found) → IsUnchecked old found → Walks C verb card cards machine machine old new (went.Finds found)
+        (found : Found) → IsUnchecked old found → Walks C verb card cards machine machine old new (walk_step.Finds found)
     refused_walks opens refused found u = λ position executed state w s f.
         let p = present_at s chosen is_setup problem on_file in
         ap (walks.walk_move C w) (is_move state) ∙
@@ -167,18 +167,18 @@ module _ (C : Checker) (verb : Verb ℕ) (card : ℕ) (go : State → Present �
 
     -- nothing is selected
     pub refusal_walks : ((state : State) (present : Present) (w : walks.Walker) (lp : LinearProgram) → walks.opened w (go state present lp) ≡ open_by true true w) → (refusal : Unselected) →
-        IsNotMade problem (choice_of machine.cells chosen.options) refusal → (result : Result Went NoMemory) → IfOk result (Refuses machine old new card refusal) → IfOk result (Walks C verb card cards machine machine old new)
+        IsNotMade problem (choice_of machine.cells chosen.options) refusal → (result : Result WalkStep NoMemory) → IfOk result (Refuses machine old new card refusal) → IfOk result (Walks C verb card cards machine machine old new)
     refusal_walks opens (unselected.Fault fault) h result refuses = unselected_walks fault h result refuses
-    refusal_walks opens unselected.Unchecked h (Ok (went.Finds found)) refuses = refused_walks opens h found refuses
-    refusal_walks opens unselected.Unchecked h (Ok went.Next) refuses = absurd refuses
-    refusal_walks opens unselected.Unchecked h (Ok (went.Leaves last)) refuses = absurd refuses
-    refusal_walks opens unselected.Unchecked h (Ok (went.Jump to)) refuses = absurd refuses
+    refusal_walks opens unselected.Unchecked h (Ok (walk_step.Finds found)) refuses = refused_walks opens h found refuses
+    refusal_walks opens unselected.Unchecked h (Ok walk_step.Next) refuses = absurd refuses
+    refusal_walks opens unselected.Unchecked h (Ok (walk_step.Leaves last)) refuses = absurd refuses
+    refusal_walks opens unselected.Unchecked h (Ok (walk_step.Jump to)) refuses = absurd refuses
     refusal_walks opens unselected.Unchecked h (Err stop) refuses = tt
     refusal_walks opens unselected.NoMemory h (Ok w') refuses = absurd refuses
     refusal_walks opens unselected.NoMemory h (Err stop) refuses = tt
 
     -- with a linear program
-    pub made_walks : (lp : LinearProgram) → IsMade problem (choice_of machine.cells chosen.options) lp → (after : Machine Chosen) (w' : Went) →
+    pub made_walks : (lp : LinearProgram) → IsMade problem (choice_of machine.cells chosen.options) lp → (after : Machine Chosen) (w' : WalkStep) →
         ((position executed : ℕ) (state : State) (w : walks.Walker) (opening : Basis) (steps : List Basis) → machines.Represents IsView cards machine position executed state → Faces old w → state.setup ≡ Some (present_with problem chosen.options opening steps) →
         TurnsTo (walks.walk_move C w (go state (present_with problem chosen.options opening steps) lp)) cards after position executed new w') → Walks C verb card cards machine after old new w'
     made_walks lp made after w' comes = λ position executed state w s f.

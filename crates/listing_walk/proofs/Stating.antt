@@ -27,7 +27,7 @@ use Rattle.walk_definitions.specs.Checkers.{Checker}
 use Rattle.walk_definitions.specs.Walker.{refuses_selection}
 use Rattle.listing_walk.specs.declared.chosen.Chosen.{Chosen}
 use Rattle.listing_walk.specs.declared.place.ListingPlace.{ListingPlace}
-use Rattle.listing_walk.specs.declared.went.Went.{Went}
+use Rattle.listing_walk.specs.declared.walk_step.WalkStep.{WalkStep}
 use Rattle.listing_walk.specs.Standing.{IsView}
 use Rattle.listing_walk.specs.Walking.{Passes, Walks}
 use Rattle.listing_walk.proofs.Settled.{plain_fault, plain_deck}
@@ -98,22 +98,22 @@ module _ (C : Checker) (verb : Verb ℕ) (card : ℕ) (cards : List (List ℕ)) 
     comes : statements.LeadsTo IsView DecidesAlone verb card cards position executed state new gain act
     is_text : gain_text gain ≡ text
 
-  walks_by : ((position executed : ℕ) (state : State) → machines.Represents IsView cards old position executed state → Gains position executed state) → (result : Result Went NoMemory) →
+  walks_by : ((position executed : ℕ) (state : State) → machines.Represents IsView cards old position executed state → Gains position executed state) → (result : Result WalkStep NoMemory) →
       IfOk result (Passes new place_old place_new act text) → IfOk result (Walks C verb card cards old new place_old place_new)
-  walks_by gains (Ok went) passes = λ position executed state w s f.
+  walks_by gains (Ok next_step) passes = λ position executed state w s f.
       let g = gains position executed state s in
       passes C w card (verb_move verb card state) cards position executed g.gain f (plain state) g.comes g.is_text
   walks_by gains (Err stop) passes = tt
 
   module _ (print_old print_new : SinkState) (none : print_old.written ≡ Some []) (all : print_new.written ≡ Some text) where
-    pub walks_printed : Executes IsView DecidesAlone verb card print_old print_new cards old new (Ok act) → (result : Result Went NoMemory) →
+    pub walks_printed : Executes IsView DecidesAlone verb card print_old print_new cards old new (Ok act) → (result : Result WalkStep NoMemory) →
         IfOk result (Passes new place_old place_new act text) → IfOk result (Walks C verb card cards old new place_old place_new)
     walks_printed executes = walks_by (λ position executed state s.
         let a = executes position executed state s in
         record { gain = a.gain; comes = a.comes; is_text = appended print_old.written print_new.written (gain_text a.gain) text a.writes.bytes none all })
 
     pub walks_punched : (punch_old punch_new : SinkState) →
-        Performs IsView DecidesAlone verb card print_old print_new punch_old punch_new cards old new (Ok act) → (result : Result Went NoMemory) →
+        Performs IsView DecidesAlone verb card print_old print_new punch_old punch_new cards old new (Ok act) → (result : Result WalkStep NoMemory) →
         IfOk result (Passes new place_old place_new act text) → IfOk result (Walks C verb card cards old new place_old place_new)
     walks_punched punch_old punch_new performs = walks_by (λ position executed state s.
         let a = performs position executed state s in
@@ -121,14 +121,14 @@ module _ (C : Checker) (verb : Verb ℕ) (card : ℕ) (cards : List (List ℕ)) 
 
 -- a statement that prints nothing
 pub walks_quietly : (C : Checker) (verb : Verb ℕ) (card : ℕ) (cards : List (List ℕ)) (old new : Machine Chosen) (place_old place_new : ListingPlace) (act : Act) → IsPlain verb card → Decides IsView DecidesAlone verb card old new act →
-    (result : Result Went NoMemory) → IfOk result (Passes new place_old place_new act []) → IfOk result (Walks C verb card cards old new place_old place_new)
+    (result : Result WalkStep NoMemory) → IfOk result (Passes new place_old place_new act []) → IfOk result (Walks C verb card cards old new place_old place_new)
 walks_quietly C verb card cards old new place_old place_new act plain decides =
     walks_by C verb card cards old new place_old place_new act [] plain (λ position executed state s. record { gain = Nothing; comes = decides cards position executed state s; is_text = refl })
 
 -- ---- with a sink in memory
 
 module _ (C : Checker) (verb : Verb ℕ) (card : ℕ) (cards : List (List ℕ)) (old new : Machine Chosen) (place_old place_new : ListingPlace) (act : Act) (text : List ℕ) (plain : IsPlain verb card) (from to : SureSink) (none : sure_bytes from ≡ []) (all : text ≡ sure_bytes to)
-    (result : Result Went NoMemory) (passes : IfOk result (Passes new place_old place_new act text)) where
+    (result : Result WalkStep NoMemory) (passes : IfOk result (Passes new place_old place_new act text)) where
   pub walks_loudly : Executes IsView DecidesAlone verb card (sure_sink_state from) (sure_sink_state to) cards old new (Ok act) →
       IfOk result (Walks C verb card cards old new place_old place_new)
   walks_loudly executes =

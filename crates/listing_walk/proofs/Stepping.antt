@@ -17,8 +17,8 @@ use Rattle.walk_definitions.specs.Found.{first_walker, Reaches, begun, walked}
 use Rattle.listing_walk.specs.declared.chosen.Chosen.{Chosen}
 use Rattle.listing_walk.specs.declared.found.Found.{Found}
 use Rattle.listing_walk.specs.declared.place.ListingPlace.{ListingPlace}
-use Rattle.listing_walk.specs.declared.went.Went.TheVariants as went
-use Rattle.listing_walk.specs.declared.went.Onward.TheVariants as onward
+use Rattle.listing_walk.specs.declared.walk_step.WalkStep.TheVariants as walk_step
+use Rattle.listing_walk.specs.declared.walk_step.AfterStep.TheVariants as after_step
 use Rattle.listing_walk.specs.Ended.{found_view, decks_after, IsFoundBy}
 use Rattle.listing_walk.specs.Standing.{IsView, IsSound, Faces, holding, Represents}
 use Rattle.listing_walk.specs.Walking.{Walks, Steps}
@@ -80,24 +80,24 @@ module _ (C : Checker) (program : Program) (cards : List (List ℕ)) (position :
   turn_here executed w more s =
       turn_at C program w statement (rw s.state.is_position within) (rw s.state.is_executed more) (rw s.state.is_position there)
 
-  pub steps_next : Walks C statement.verb statement.card cards old new place_old place_new went.Next → Steps C program cards position old new place_old place_new (onward.Goes (position + 1))
+  pub steps_next : Walks C statement.verb statement.card cards old new place_old place_new walk_step.Next → Steps C program cards position old new place_old place_new (after_step.Goes (position + 1))
   steps_next h = λ executed w more s.
       let c = h position (executed + 1) (counted w.state) w (counted_stands s.state) s.faces in
       (c.0, turn_here executed w more s ∙ c.1, c.2, omega arith)
 
   -- a value that is left stands in place of the one before it
-  pub steps_leaves : (before : Option ℚ) (machine : Machine Chosen) → new ≡ holding before machine → (last : ℚ) → Walks C statement.verb statement.card cards old new place_old place_new (went.Leaves last) →
-      Steps C program cards position old (holding (Some last) machine) place_old place_new (onward.Goes (position + 1))
+  pub steps_leaves : (before : Option ℚ) (machine : Machine Chosen) → new ≡ holding before machine → (last : ℚ) → Walks C statement.verb statement.card cards old new place_old place_new (walk_step.Leaves last) →
+      Steps C program cards position old (holding (Some last) machine) place_old place_new (after_step.Goes (position + 1))
   steps_leaves before machine is last h = λ executed w more s.
       let c = h position (executed + 1) (counted w.state) w (counted_stands s.state) s.faces in
       (c.0, turn_here executed w more s ∙ c.1, subst (λ (m : Machine Chosen). Represents cards m (position + 1) (executed + 1) place_new c.0) (ap (holding (Some last)) is ∙ held_last before machine last) c.2, omega arith)
 
-  pub steps_jump : (to : ℕ) → Walks C statement.verb statement.card cards old new place_old place_new (went.Jump to) → Steps C program cards position old new place_old place_new (onward.Goes to)
+  pub steps_jump : (to : ℕ) → Walks C statement.verb statement.card cards old new place_old place_new (walk_step.Jump to) → Steps C program cards position old new place_old place_new (after_step.Goes to)
   steps_jump to h = λ executed w more s.
       let c = h position (executed + 1) (counted w.state) w (counted_stands s.state) s.faces in
       (c.0, turn_here executed w more s ∙ c.1, c.2, c.3)
 
-  pub steps_found : (found : Found) → Walks C statement.verb statement.card cards old new place_old place_new (went.Finds found) → Steps C program cards position old new place_old place_new (onward.Finds found)
+  pub steps_found : (found : Found) → Walks C statement.verb statement.card cards old new place_old place_new (walk_step.Finds found) → Steps C program cards position old new place_old place_new (after_step.Finds found)
   steps_found found h = λ executed w more s.
       turn_here executed w more s ∙ h position (executed + 1) (counted w.state) w (counted_stands s.state) s.faces
 
@@ -132,7 +132,7 @@ module _ (C : Checker) (program : Program) (cards : List (List ℕ)) (listing : 
 
   module _ {last : Option ℚ} {machine : Machine Chosen} {place : ListingPlace} {position executed : ℕ} (u : IsUnderway last machine place position executed) where
     pub underway_more : (left : Option ℚ) (new : Machine Chosen) (later : ListingPlace) (to : ℕ) → executed < 100000 → IsSound cards new → later.reports ≤ place.reports + 1 →
-        Steps C program cards position (holding last machine) (holding left new) place later (onward.Goes to) → IsUnderway left new later to (executed + 1)
+        Steps C program cards position (holding last machine) (holding left new) place later (after_step.Goes to) → IsUnderway left new later to (executed + 1)
     underway_more left new later to more sound few steps =
         let c = steps executed u.walker more u.stands in
         let before : place.reports ≤ executed = u.few in
@@ -146,7 +146,7 @@ module _ (C : Checker) (program : Program) (cards : List (List ℕ)) (listing : 
           stands = c.2;
         }
 
-    pub underway_found : (new : Machine Chosen) (later : ListingPlace) (found : Found) → executed < 100000 → Steps C program cards position (holding last machine) new place later (onward.Finds found) → IsFoundBy C program cards listing found
+    pub underway_found : (new : Machine Chosen) (later : ListingPlace) (found : Found) → executed < 100000 → Steps C program cards position (holding last machine) new place later (after_step.Finds found) → IsFoundBy C program cards listing found
     underway_found new later found more steps = record { walker = u.walker; reaches = u.reaches; finds = steps executed u.walker more u.stands }
 
     pub underway_over : (found : Found) → length program.statements < position → ((w : walks.Walker) → Faces place w → walks.closes w (Ended 0) ≡ walks.Finds (found_view found)) → IsFoundBy C program cards listing found

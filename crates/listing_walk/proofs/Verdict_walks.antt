@@ -34,13 +34,13 @@ use Rattle.listing_walk.specs.declared.found.Found.{Found}
 use Rattle.listing_walk.specs.declared.place.ListingPlace.{ListingPlace}
 use Rattle.listing_walk.specs.declared.solving.SolvingVerb.{SolvingVerb}
 use Rattle.listing_walk.specs.declared.solving.SolvingVerb.TheVariants.{Primal, Dual}
-use Rattle.listing_walk.specs.declared.went.Went.{Went}
-use Rattle.listing_walk.specs.declared.went.Went.TheVariants as went
+use Rattle.listing_walk.specs.declared.walk_step.WalkStep.{WalkStep}
+use Rattle.listing_walk.specs.declared.walk_step.WalkStep.TheVariants as walk_step
 use Rattle.listing_walk.specs.Choosing.{IsMade, IsNotMade}
 use Rattle.listing_walk.specs.Standing.{IsView, IsSound, Faces}
 use Rattle.listing_walk.specs.Walking.{TurnsTo, IsOutcome, Finishes, Passes, Walks, Refuses}
-use Rattle.listing_walk.specs.Asking.{Answered, IsMarked, WentBy}
-use Rattle.listing_walk.specs.Solving_verbs.{verb_of, solver_of}
+use Rattle.listing_walk.specs.Asking.{Answered, IsMarked, IsStopStep}
+use Rattle.listing_walk.specs.SolvingVerbs.{verb_of, solver_of}
 use Rattle.listing_walk.proofs.Solving_walks.{present_with, selecting, no_setup_walks, refusal_walks, made_walks, verdict_comes}
 
 abbrev limit_of : SolvingVerb → Cells → Option ℕ
@@ -60,31 +60,31 @@ solving_move Primal card state = refl
 solving_move Dual card state = refl
 
 module _ (C : Checker) (verb : SolvingVerb) (card : ℕ) (cards : List (List ℕ)) (machine : Machine Chosen) (old new : ListingPlace) where
-  pub solving_no_setup : machine.setup ≡ None → (result : Result Went NoMemory) → IfOk result (Passes machine old new (acts.Ends (ends.Verb NoSetup card)) []) → IfOk result (Walks C (verb_of verb) card cards machine machine old new)
+  pub solving_no_setup : machine.setup ≡ None → (result : Result WalkStep NoMemory) → IfOk result (Passes machine old new (acts.Ends (ends.Verb NoSetup card)) []) → IfOk result (Walks C (verb_of verb) card cards machine machine old new)
   solving_no_setup = no_setup_walks C (verb_of verb) card (path_move verb card) (solving_move verb card) cards machine old new
 
   module _ (chosen : Chosen) (is_setup : machine.setup ≡ Some chosen) (problem : Problem ℕ) (on_file : filed_under chosen.name machine.file ≡ Some problem) where
-    pub solving_refused : (refusal : Unselected) → IsNotMade problem (choice_of machine.cells chosen.options) refusal → (result : Result Went NoMemory) → IfOk result (Refuses machine old new card refusal) →
+    pub solving_refused : (refusal : Unselected) → IsNotMade problem (choice_of machine.cells chosen.options) refusal → (result : Result WalkStep NoMemory) → IfOk result (Refuses machine old new card refusal) →
         IfOk result (Walks C (verb_of verb) card cards machine machine old new)
     solving_refused = refusal_walks C (verb_of verb) card (path_move verb card) (solving_move verb card) cards machine old new chosen is_setup problem on_file (λ state present w lp. refl)
 
     module _ (lp : LinearProgram) (made : IsMade problem (choice_of machine.cells chosen.options) lp) where
       found_walks : (after : Machine Chosen) (found : Found) → ((limit : Option ℕ) → Answered C {X = Mark} (OfPath (solver_of verb) limit) (record { problem = problem; lp = lp }) old new IsMarked (Err (Finds found))) →
-          Walks C (verb_of verb) card cards machine after old new (went.Finds found)
+          Walks C (verb_of verb) card cards machine after old new (walk_step.Finds found)
       found_walks after found answered =
-          made_walks C (verb_of verb) card (path_move verb card) (solving_move verb card) cards machine old new chosen is_setup problem on_file lp made after (went.Finds found)
+          made_walks C (verb_of verb) card (path_move verb card) (solving_move verb card) cards machine old new chosen is_setup problem on_file lp made after (walk_step.Finds found)
           (λ position executed state w opening steps s f is_viewed. answered (limit_of verb state.cells) w (after_path (solver_of verb) card (present_with problem chosen.options opening steps) state) f)
 
       -- the walk ends
       pub solving_stopped : (after : Machine Chosen) (stopped : Stopped) → ((limit : Option ℕ) → Answered C {X = Mark} (OfPath (solver_of verb) limit) (record { problem = problem; lp = lp }) old new IsMarked (Err stopped)) →
-          (result : Result Went NoMemory) → IfOk result (WentBy stopped) → IfOk result (Walks C (verb_of verb) card cards machine after old new)
-      solving_stopped after (Finds found) answered (Ok w') is = subst (λ (x : Went). Walks C (verb_of verb) card cards machine after old new x) (sym is) (found_walks after found answered)
+          (result : Result WalkStep NoMemory) → IfOk result (IsStopStep stopped) → IfOk result (Walks C (verb_of verb) card cards machine after old new)
+      solving_stopped after (Finds found) answered (Ok w') is = subst (λ (x : WalkStep). Walks C (verb_of verb) card cards machine after old new x) (sym is) (found_walks after found answered)
       solving_stopped after (Finds found) answered (Err stop) is = tt
       solving_stopped after stops.NoMemory answered (Ok w') is = absurd is
       solving_stopped after stops.NoMemory answered (Err stop) is = tt
 
       pub solving_stopped_by : (by : Solver) → by ≡ solver_of verb → (after : Machine Chosen) (stopped : Stopped) → ((limit : Option ℕ) → Answered C {X = Mark} (OfPath by limit) (record { problem = problem; lp = lp }) old new IsMarked (Err stopped)) →
-          (result : Result Went NoMemory) → IfOk result (WentBy stopped) → IfOk result (Walks C (verb_of verb) card cards machine after old new)
+          (result : Result WalkStep NoMemory) → IfOk result (IsStopStep stopped) → IfOk result (Walks C (verb_of verb) card cards machine after old new)
       solving_stopped_by by is after stopped answered =
           solving_stopped after stopped (λ limit. subst (λ (s : Solver). Answered C {X = Mark} (OfPath s limit) (record { problem = problem; lp = lp }) old new IsMarked (Err stopped)) is (answered limit))
 
@@ -110,7 +110,7 @@ module _ (C : Checker) (verb : SolvingVerb) (card : ℕ) (cards : List (List ℕ
           mark = ap Some (sym e);
         }
 
-        ends_by : (w' : Went) → Finishes mid new act w' → (position executed : ℕ) (state : State) (present : Present) → present.problem ≡ problem → present.options ≡ chosen.options → machines.Represents IsView cards machine position executed state →
+        ends_by : (w' : WalkStep) → Finishes mid new act w' → (position executed : ℕ) (state : State) (present : Present) → present.problem ≡ problem → present.options ≡ chosen.options → machines.Represents IsView cards machine position executed state →
             (turn : walks.WalkTurn) (v : walks.Walker) (answer : PathEnd) → turn ≡ walks.follows v (after_path (solver_of verb) card present state answer) → Faces mid v → IsMarked mark answer → TurnsTo turn cards (machine_with mark) position executed new w'
         ends_by w' finishes position executed state present same options s turn v (Reached bases verdict check) is faces e =
             let then : State = record state { setup = Some (gone_through bases present); mark = Some (mark_of verdict) } in
@@ -123,7 +123,7 @@ module _ (C : Checker) (verb : SolvingVerb) (card : ℕ) (cards : List (List ℕ
         ends_by w' finishes position executed state present same options s turn v PathLimit is faces e = absurd e
         ends_by w' finishes position executed state present same options s turn v (PricesWrong j) is faces e = absurd e
 
-        ended_walks : (w' : Went) → Finishes mid new act w' → Walks C (verb_of verb) card cards machine (machine_with mark) old new w'
+        ended_walks : (w' : WalkStep) → Finishes mid new act w' → Walks C (verb_of verb) card cards machine (machine_with mark) old new w'
         ended_walks w' finishes =
             made_walks C (verb_of verb) card (path_move verb card) (solving_move verb card) cards machine old new chosen is_setup problem on_file lp made (machine_with mark) w'
             (λ position executed state w opening steps s f is_viewed.
@@ -131,7 +131,7 @@ module _ (C : Checker) (verb : SolvingVerb) (card : ℕ) (cards : List (List ℕ
             let a = answered (limit_of verb state.cells) w (after_path (solver_of verb) card present state) f in
             ends_by w' finishes position executed state present refl refl s (walks.walk_move C w (path_move verb card state present lp)) a.walker a.answer a.is_turn a.faces a.holds)
 
-        pub solving_ended : (after : Machine Chosen) → after ≡ machine_with mark → (result : Result Went NoMemory) → IfOk result (Finishes mid new act) → IfOk result (Walks C (verb_of verb) card cards machine after old new)
+        pub solving_ended : (after : Machine Chosen) → after ≡ machine_with mark → (result : Result WalkStep NoMemory) → IfOk result (Finishes mid new act) → IfOk result (Walks C (verb_of verb) card cards machine after old new)
         solving_ended after is (Ok w') finishes = subst (λ (m : Machine Chosen). Walks C (verb_of verb) card cards machine m old new w') (sym is) (ended_walks w' finishes)
         solving_ended after is (Err stop) finishes = tt
 

@@ -26,11 +26,11 @@ use Rattle.listing_walk.specs.declared.answering.Stopped.TheVariants as stops
 use Rattle.listing_walk.specs.declared.chosen.Chosen.{Chosen}
 use Rattle.listing_walk.specs.declared.found.Found.{Found}
 use Rattle.listing_walk.specs.declared.place.ListingPlace.{ListingPlace}
-use Rattle.listing_walk.specs.declared.went.Went.{Went}
-use Rattle.listing_walk.specs.declared.went.Went.TheVariants as went
+use Rattle.listing_walk.specs.declared.walk_step.WalkStep.{WalkStep}
+use Rattle.listing_walk.specs.declared.walk_step.WalkStep.TheVariants as walk_step
 use Rattle.listing_walk.specs.Standing.{IsView, IsSolved}
 use Rattle.listing_walk.specs.Walking.{Passes, Walks}
-use Rattle.listing_walk.specs.Asking.{asked_turn, Answered, IsAny, WentBy}
+use Rattle.listing_walk.specs.Asking.{asked_turn, Answered, IsAny, IsStopStep}
 use Rattle.listing_walk.proofs.Follow_on.{placed, faces_still}
 use Rattle.listing_walk.proofs.Selected.{fault_move, found_move, selected_move}
 use Rattle.listing_walk.proofs.Setting_up.{faulted}
@@ -40,7 +40,7 @@ use Rattle.listing_walk.proofs.Solving_walks.{present_with, present_at, none_at,
 
 -- a statement that is a verb fault
 pub fault_walks : (C : Checker) (verb : Verb ℕ) (card : ℕ) (cards : List (List ℕ)) (machine : Machine Chosen) (old new : ListingPlace) (fault : VerbFault) →
-    ((position executed : ℕ) (state : State) → machines.Represents IsView cards machine position executed state → verb_move verb card state ≡ fault_stop fault card) → (result : Result Went NoMemory) →
+    ((position executed : ℕ) (state : State) → machines.Represents IsView cards machine position executed state → verb_move verb card state ≡ fault_stop fault card) → (result : Result WalkStep NoMemory) →
     IfOk result (Passes machine old new (acts.Ends (ends.Verb fault card)) []) → IfOk result (Walks C verb card cards machine machine old new)
 fault_walks C verb card cards machine old new fault is (Ok w') passes = λ position executed state w s f.
     faulted C cards machine old new fault card w' passes w (verb_move verb card state) position executed f (is position executed state s)
@@ -94,11 +94,11 @@ unfolding verb_move
 solution_move card state = refl
 
 module _ (C : Checker) (card : ℕ) (cards : List (List ℕ)) (machine : Machine Chosen) (old new : ListingPlace) where
-  pub solution_no_setup : machine.setup ≡ None → (result : Result Went NoMemory) → IfOk result (Passes machine old new (acts.Ends (ends.Verb NoSetup card)) []) → IfOk result (Walks C SolutionVerb card cards machine machine old new)
+  pub solution_no_setup : machine.setup ≡ None → (result : Result WalkStep NoMemory) → IfOk result (Passes machine old new (acts.Ends (ends.Verb NoSetup card)) []) → IfOk result (Walks C SolutionVerb card cards machine machine old new)
   solution_no_setup none = fault_walks C SolutionVerb card cards machine old new NoSetup (λ position executed state s. solution_move card state ∙ showing_none card cards machine s (lines_move card state) none)
 
   module _ (chosen : Chosen) (is_setup : machine.setup ≡ Some chosen) where
-    pub solution_not_solved : machine.mark ≡ None → (result : Result Went NoMemory) → IfOk result (Passes machine old new (acts.Ends (ends.Verb NotSolved card)) []) → IfOk result (Walks C SolutionVerb card cards machine machine old new)
+    pub solution_not_solved : machine.mark ≡ None → (result : Result WalkStep NoMemory) → IfOk result (Passes machine old new (acts.Ends (ends.Verb NotSolved card)) []) → IfOk result (Walks C SolutionVerb card cards machine machine old new)
     solution_not_solved none =
         fault_walks C SolutionVerb card cards machine old new NotSolved (λ position executed state s. solution_move card state ∙ showing_unsolved card cards machine s (lines_move card state) chosen is_setup none)
 
@@ -116,7 +116,7 @@ module _ (C : Checker) (card : ℕ) (cards : List (List ℕ)) (machine : Machine
           ap (walks.walk_move C w) (solution_move card state ∙ showing_mark card cards machine s (lines_move card state) present p.is_viewed mark is_mark ∙
           selected_move card (selected problem (choice_of state.cells chosen.options)) (λ (lp : LinearProgram). asks (OfSolution mark) (sheet_of present lp) present (go_on state)) chosen.lp ok)
 
-      pub solution_view : Answered C (OfSolution mark) (record { problem = problem; lp = chosen.lp }) old new (IsAny (OfSolution mark)) (Ok tt) → Walks C SolutionVerb card cards machine machine old new went.Next
+      pub solution_view : Answered C (OfSolution mark) (record { problem = problem; lp = chosen.lp }) old new (IsAny (OfSolution mark)) (Ok tt) → Walks C SolutionVerb card cards machine machine old new walk_step.Next
       solution_view answered = λ position executed state w s f.
           let a = answered w (go_on state) f in (
             record (a.walker) { state = record state { position = state.position + 1 } },
@@ -125,12 +125,12 @@ module _ (C : Checker) (card : ℕ) (cards : List (List ℕ)) (machine : Machine
           )
 
       found_walks : (found : Found) → Answered C {X = Unit {0}} (OfSolution mark) (record { problem = problem; lp = chosen.lp }) old new (IsAny (OfSolution mark)) (Err (stops.Finds found)) →
-          Walks C SolutionVerb card cards machine machine old new (went.Finds found)
+          Walks C SolutionVerb card cards machine machine old new (walk_step.Finds found)
       found_walks found answered = λ position executed state w s f. turn_view w s ∙ answered w (go_on state) f
 
-      pub solution_stopped : (stopped : Stopped) → Answered C {X = Unit {0}} (OfSolution mark) (record { problem = problem; lp = chosen.lp }) old new (IsAny (OfSolution mark)) (Err stopped) → (result : Result Went NoMemory) →
-          IfOk result (WentBy stopped) → IfOk result (Walks C SolutionVerb card cards machine machine old new)
-      solution_stopped (stops.Finds found) answered (Ok w') is = subst (λ (x : Went). Walks C SolutionVerb card cards machine machine old new x) (sym is) (found_walks found answered)
+      pub solution_stopped : (stopped : Stopped) → Answered C {X = Unit {0}} (OfSolution mark) (record { problem = problem; lp = chosen.lp }) old new (IsAny (OfSolution mark)) (Err stopped) → (result : Result WalkStep NoMemory) →
+          IfOk result (IsStopStep stopped) → IfOk result (Walks C SolutionVerb card cards machine machine old new)
+      solution_stopped (stops.Finds found) answered (Ok w') is = subst (λ (x : WalkStep). Walks C SolutionVerb card cards machine machine old new x) (sym is) (found_walks found answered)
       solution_stopped (stops.Finds found) answered (Err stop) is = tt
       solution_stopped stops.NoMemory answered (Ok w') is = absurd is
       solution_stopped stops.NoMemory answered (Err stop) is = tt

@@ -22,8 +22,8 @@ use Rattle.listing_walk.specs.declared.found.Found.{Found}
 use Rattle.listing_walk.specs.declared.found.Found.TheVariants.{Wrong, Unchecked}
 use Rattle.listing_walk.specs.declared.place.Pending.{Pending}
 use Rattle.listing_walk.specs.declared.place.ListingPlace.{ListingPlace}
-use Rattle.listing_walk.specs.declared.went.Went.{Went}
-use Rattle.listing_walk.specs.declared.went.Went.TheVariants as went
+use Rattle.listing_walk.specs.declared.walk_step.WalkStep.{WalkStep}
+use Rattle.listing_walk.specs.declared.walk_step.WalkStep.TheVariants as walk_step
 use Rattle.listing_walk.specs.Ended.{found_view}
 use Rattle.listing_walk.specs.Standing.{Faces}
 
@@ -34,9 +34,9 @@ stopped_by stops.Unchecked rest = Finds (Unchecked rest)
 stopped_by stops.NoMemory rest = NoMemory
 
 -- how the walk ends then
-abbrev pub WentBy : Stopped → Went → Type 0
-WentBy (Finds found) w = w ≡ went.Finds found
-WentBy NoMemory w = ⊥
+abbrev pub IsStopStep : Stopped → WalkStep → Type 0
+IsStopStep (Finds found) w = w ≡ walk_step.Finds found
+IsStopStep NoMemory w = ⊥
 
 abbrev pub is_optimal : Mark → Bool
 is_optimal Optimal = true

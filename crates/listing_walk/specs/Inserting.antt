@@ -4,7 +4,7 @@
 --     is_line_due .. deck rest     and the deck has no fault
 --     IsInstallDue place stands found   the line of INSERT is due here
 --     IsInstallRefused place due found  an operation of the selection is refused, where the line is due or isn't
---     RefusesInstall .. went       a selection is refused
+--     RefusesInstall .. next_step       a selection is refused
 use Rattle.std.specs.Prelude.{◌≡◌, ℕ, ◌≤◌, Bool, false, ◌&&◌, List, [], Option, Some, None, is_ok, length, drop, option_map}
 use Rattle.std.specs.Option.{option_or}
 use Rattle.card_definitions.specs.Cards.{Card, live, numbered_cards, cards_between}
@@ -24,8 +24,8 @@ use Rattle.listing_walk.specs.declared.found.Found.{Found}
 use Rattle.listing_walk.specs.declared.place.ListingPlace.{ListingPlace}
 use Rattle.listing_walk.specs.declared.selecting.Unselected.{Unselected}
 use Rattle.listing_walk.specs.declared.selecting.Unselected.TheVariants.{Fault, Unchecked, NoMemory}
-use Rattle.listing_walk.specs.declared.went.Went.{Went}
-use Rattle.listing_walk.specs.declared.went.Went.TheVariants.{Finds}
+use Rattle.listing_walk.specs.declared.walk_step.WalkStep.{WalkStep}
+use Rattle.listing_walk.specs.declared.walk_step.WalkStep.TheVariants.{Finds}
 use Rattle.listing_walk.specs.Ended.{found_view}
 use Rattle.listing_walk.specs.Standing.{Faces}
 use Rattle.listing_walk.specs.Walking.{Passes}
@@ -56,11 +56,11 @@ IsInstallDue place stands found = (w : walks.Walker) → Faces place w → walks
 abbrev pub IsInstallRefused : ListingPlace → Bool → Found → Type 0
 IsInstallRefused place due found = (w : walks.Walker) → Faces place w → walks.unless_found (open_install due w) (walks.Finds (walks.Unchecked w.rest)) ≡ walks.Finds (found_view found)
 
-abbrev pub FindsInstallRefused : ListingPlace → Bool → Went → Type 0
+abbrev pub FindsInstallRefused : ListingPlace → Bool → WalkStep → Type 0
 FindsInstallRefused place due (Finds found) = IsInstallRefused place due found
-FindsInstallRefused place due went = ⊥
+FindsInstallRefused place due next_step = ⊥
 
-abbrev pub RefusesInstall : Machine Chosen → ListingPlace → ListingPlace → ℕ → Bool → Unselected → Went → Type 0
-RefusesInstall machine old new card due (Fault fault) went = Passes machine old new (acts.Ends (ends.Verb fault card)) [] went
-RefusesInstall machine old new card due Unchecked went = FindsInstallRefused old due went
-RefusesInstall machine old new card due NoMemory went = ⊥
+abbrev pub RefusesInstall : Machine Chosen → ListingPlace → ListingPlace → ℕ → Bool → Unselected → WalkStep → Type 0
+RefusesInstall machine old new card due (Fault fault) next_step = Passes machine old new (acts.Ends (ends.Verb fault card)) [] next_step
+RefusesInstall machine old new card due Unchecked next_step = FindsInstallRefused old due next_step
+RefusesInstall machine old new card due NoMemory next_step = ⊥

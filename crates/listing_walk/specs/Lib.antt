@@ -4,6 +4,6 @@ pub mod Parameter
 pub mod Walking
 pub mod Choosing
 pub mod Asking
-pub mod Solving_verbs
-pub mod Parametric_verbs
+pub mod SolvingVerbs
+pub mod ParametricVerbs
 pub mod Inserting

@@ -1,7 +1,7 @@
 -- What a statement does with the value of the parameter in XPARAM.
 --     use_of verb                  it begins a run there, sets it whatever stood there, or does neither
 --     IsNoRun use                  it begins no run
---     as_next went                 where a statement leads that does neither
+--     as_next next_step                 where a statement leads that does neither
 use Rattle.std.specs.Prelude.{ℕ}
 use Rattle.control_definitions.specs.declared.NumberCell.{NumberCell}
 use Rattle.control_definitions.specs.declared.NumberCell.TheVariants.{Xparam, Xparmax}
@@ -9,8 +9,8 @@ use Rattle.control_definitions.specs.Program.{Verb, Initialz, MoveNumber, Paraob
 use Rattle.parametric_request.specs.declared.request.ParametricVerb.TheVariants as verbs
 use Rattle.listing_walk.specs.declared.parameter.ParameterUse.{ParameterUse}
 use Rattle.listing_walk.specs.declared.parameter.ParameterUse.TheVariants.{Reads, Sets, Neither}
-use Rattle.listing_walk.specs.declared.went.Went.{Went}
-use Rattle.listing_walk.specs.declared.went.Went.TheVariants as went
+use Rattle.listing_walk.specs.declared.walk_step.WalkStep.{WalkStep}
+use Rattle.listing_walk.specs.declared.walk_step.WalkStep.TheVariants as walk_step
 
 abbrev pub cell_use : NumberCell → ParameterUse
 cell_use Xparam = Sets
@@ -29,6 +29,6 @@ IsNoRun Sets = Unit {0}
 IsNoRun Neither = Unit {0}
 
 -- what stands in XPARAM stays there
-abbrev pub as_next : Went → Went
-as_next (went.Leaves last) = went.Next
+abbrev pub as_next : WalkStep → WalkStep
+as_next (walk_step.Leaves last) = walk_step.Next
 as_next other = other

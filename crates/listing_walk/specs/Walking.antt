@@ -1,6 +1,6 @@
 -- What a statement comes to in the walk.
 --     looks_by, clears_by          where a stop is looked for, and where what is pending has to be settled
---     TurnsTo turn .. went           the turn is this: the walk goes on, or it ends
+--     TurnsTo turn .. next_step           the turn is this: the walk goes on, or it ends
 --     Walks C verb card ..         from each walker that stands here, the statement comes to this
 use Rattle.std.specs.Prelude.{◌≡◌, ℕ, ◌+◌, ◌≤◌, ◌<◌, Bool, true, false, List, [], ◌∷◌, Option, None, Some, if◌then◌else◌}
 use Rattle.std.specs.Option.{option_or}
@@ -21,12 +21,13 @@ use Rattle.listing_walk.specs.declared.place.ListingPlace.{ListingPlace}
 use Rattle.listing_walk.specs.declared.found.Found.{Found}
 use Rattle.listing_walk.specs.declared.selecting.Unselected.{Unselected}
 use Rattle.listing_walk.specs.declared.selecting.Unselected.TheVariants.{Fault, Unchecked, NoMemory}
-use Rattle.listing_walk.specs.declared.went.Went.{Went}
-use Rattle.listing_walk.specs.declared.went.Went.TheVariants.{Next, Leaves, Jump, Finds}
-use Rattle.listing_walk.specs.declared.went.Onward.{Onward}
-use Rattle.listing_walk.specs.declared.went.Onward.TheVariants as onward
+use Rattle.listing_walk.specs.declared.walk_step.WalkStep.{WalkStep}
+use Rattle.listing_walk.specs.declared.walk_step.WalkStep.TheVariants.{Next, Leaves, Jump, Finds}
+use Rattle.listing_walk.specs.declared.walk_step.AfterStep.{AfterStep}
+use Rattle.listing_walk.specs.declared.walk_step.AfterStep.TheVariants as after_step
 use Rattle.listing_walk.specs.Ended.{found_view}
 use Rattle.listing_walk.specs.Standing.{IsView, Faces, holding, Represents}
+use Rattle.run_definitions.specs.Run.{max_executed}
 
 -- ---- what is open
 
@@ -52,7 +53,7 @@ ends_run (acts.Ends end) = true
 -- ---- what comes
 
 -- the walk goes on with a walker that stands here, or it ends
-abbrev pub TurnsTo : walks.WalkTurn → List (List ℕ) → Machine Chosen → ℕ → ℕ → ListingPlace → Went → Type 0
+abbrev pub TurnsTo : walks.WalkTurn → List (List ℕ) → Machine Chosen → ℕ → ℕ → ListingPlace → WalkStep → Type 0
 TurnsTo turn cards machine position executed place Next = (v : walks.Walker) × (turn ≡ walks.Walks v) × Represents cards machine (position + 1) executed place v
 TurnsTo turn cards machine position executed place (Leaves last) = (v : walks.Walker) × (turn ≡ walks.Walks v) × Represents cards (holding (Some last) machine) (position + 1) executed place v
 TurnsTo turn cards machine position executed place (Jump to) = (v : walks.Walker) × (turn ≡ walks.Walks v) × Represents cards machine to executed place v × (1 ≤ to)
@@ -63,16 +64,16 @@ abbrev pub IsOutcome : StatementOutcome → List (List ℕ) → Machine Chosen �
 IsOutcome outcome cards machine position executed gain act = Follows IsView DecidesAlone 0 (Does outcome) cards machine position executed gain act
 
 -- after a report was passed, or where none was due
-abbrev pub Finishes : ListingPlace → ListingPlace → Act → Went → Type 0
-Finishes old new act went =
+abbrev pub Finishes : ListingPlace → ListingPlace → Act → WalkStep → Type 0
+Finishes old new act next_step =
     (v : walks.Walker) (outcome : StatementOutcome) (cards : List (List ℕ)) (machine : Machine Chosen) (position executed : ℕ) (gain : Gain) → Faces old v →
-    IsOutcome outcome cards machine position executed gain act → TurnsTo (walks.follows v outcome) cards machine position executed new went
+    IsOutcome outcome cards machine position executed gain act → TurnsTo (walks.follows v outcome) cards machine position executed new next_step
 
 -- a move that asks nothing, and comes to an act with this text, whatever the checker is
-abbrev pub Passes : Machine Chosen → ListingPlace → ListingPlace → Act → List ℕ → Went → Type 0
-Passes machine old new act text went =
+abbrev pub Passes : Machine Chosen → ListingPlace → ListingPlace → Act → List ℕ → WalkStep → Type 0
+Passes machine old new act text next_step =
     (C : Checker) (w : walks.Walker) (card : ℕ) (move : StatementMove) (cards : List (List ℕ)) (position executed : ℕ) (gain : Gain) → Faces old w → walks.refuses_selection move ≡ false →
-    Follows IsView DecidesAlone card move cards machine position executed gain act → gain_text gain ≡ text → TurnsTo (walks.walk_move C w move) cards machine position executed new went
+    Follows IsView DecidesAlone card move cards machine position executed gain act → gain_text gain ≡ text → TurnsTo (walks.walk_move C w move) cards machine position executed new next_step
 
 -- an operation is refused here, where a stop and what is pending come first
 abbrev pub IsUnchecked : ListingPlace → Found → Type 0
@@ -84,37 +85,37 @@ IsReported place stands made found =
     (w : walks.Walker) → Faces place w → walks.unless_found (option_or (walks.open_stop w) (walks.open_if stands w)) (walks.Finds (if made then walks.Wrong w.rest else walks.Unchecked w.rest)) ≡ walks.Finds (found_view found)
 
 -- the walk ends so, where an operation is refused
-abbrev pub FindsUnchecked : ListingPlace → Went → Type 0
+abbrev pub FindsUnchecked : ListingPlace → WalkStep → Type 0
 FindsUnchecked place (Finds found) = IsUnchecked place found
-FindsUnchecked place went = ⊥
+FindsUnchecked place next_step = ⊥
 
 -- what is refused, and why
-abbrev pub Refuses : Machine Chosen → ListingPlace → ListingPlace → ℕ → Unselected → Went → Type 0
-Refuses machine old new card (Fault fault) went = Passes machine old new (acts.Ends (ends.Verb fault card)) [] went
-Refuses machine old new card Unchecked went = FindsUnchecked old went
-Refuses machine old new card NoMemory went = ⊥
+abbrev pub Refuses : Machine Chosen → ListingPlace → ListingPlace → ℕ → Unselected → WalkStep → Type 0
+Refuses machine old new card (Fault fault) next_step = Passes machine old new (acts.Ends (ends.Verb fault card)) [] next_step
+Refuses machine old new card Unchecked next_step = FindsUnchecked old next_step
+Refuses machine old new card NoMemory next_step = ⊥
 
-abbrev pub FindsReported : ListingPlace → Bool → Went → Type 0
+abbrev pub FindsReported : ListingPlace → Bool → WalkStep → Type 0
 FindsReported place stands (Finds found) = IsReported place stands false found
-FindsReported place stands went = ⊥
+FindsReported place stands next_step = ⊥
 
 -- the same, where a report that can't be attested is due
-abbrev pub RefusesReport : Machine Chosen → ListingPlace → ListingPlace → ℕ → Bool → Unselected → Went → Type 0
-RefusesReport machine old new card stands (Fault fault) went = Passes machine old new (acts.Ends (ends.Verb fault card)) [] went
-RefusesReport machine old new card stands Unchecked went = FindsReported old stands went
-RefusesReport machine old new card stands NoMemory went = ⊥
+abbrev pub RefusesReport : Machine Chosen → ListingPlace → ListingPlace → ℕ → Bool → Unselected → WalkStep → Type 0
+RefusesReport machine old new card stands (Fault fault) next_step = Passes machine old new (acts.Ends (ends.Verb fault card)) [] next_step
+RefusesReport machine old new card stands Unchecked next_step = FindsReported old stands next_step
+RefusesReport machine old new card stands NoMemory next_step = ⊥
 
 -- the statement of a verb
-abbrev pub Walks : Checker → Verb ℕ → ℕ → List (List ℕ) → Machine Chosen → Machine Chosen → ListingPlace → ListingPlace → Went → Type 0
-Walks C verb card cards old new place_old place_new went =
+abbrev pub Walks : Checker → Verb ℕ → ℕ → List (List ℕ) → Machine Chosen → Machine Chosen → ListingPlace → ListingPlace → WalkStep → Type 0
+Walks C verb card cards old new place_old place_new next_step =
     (position executed : ℕ) (state : State) (w : walks.Walker) → machines.Represents IsView cards old position executed state → Faces place_old w →
-    TurnsTo (walks.walk_move C w (verb_move verb card state)) cards new position executed place_new went
+    TurnsTo (walks.walk_move C w (verb_move verb card state)) cards new position executed place_new next_step
 
 -- the statement at a position
-abbrev pub ComesTo : walks.WalkTurn → List (List ℕ) → Machine Chosen → ℕ → ListingPlace → Onward → Type 0
-ComesTo turn cards machine executed place (onward.Goes to) = (v : walks.Walker) × (turn ≡ walks.Walks v) × Represents cards machine to executed place v × (1 ≤ to)
-ComesTo turn cards machine executed place (onward.Finds found) = turn ≡ walks.Finds (found_view found)
+abbrev pub ComesTo : walks.WalkTurn → List (List ℕ) → Machine Chosen → ℕ → ListingPlace → AfterStep → Type 0
+ComesTo turn cards machine executed place (after_step.Goes to) = (v : walks.Walker) × (turn ≡ walks.Walks v) × Represents cards machine to executed place v × (1 ≤ to)
+ComesTo turn cards machine executed place (after_step.Finds found) = turn ≡ walks.Finds (found_view found)
 
-abbrev pub Steps : Checker → Program → List (List ℕ) → ℕ → Machine Chosen → Machine Chosen → ListingPlace → ListingPlace → Onward → Type 0
-Steps C program cards position old new place_old place_new went =
-    (executed : ℕ) (w : walks.Walker) → executed < 100000 → Represents cards old position executed place_old w → ComesTo (walks.turn C program w) cards new (executed + 1) place_new went
+abbrev pub Steps : Checker → Program → List (List ℕ) → ℕ → Machine Chosen → Machine Chosen → ListingPlace → ListingPlace → AfterStep → Type 0
+Steps C program cards position old new place_old place_new next_step =
+    (executed : ℕ) (w : walks.Walker) → executed < max_executed → Represents cards old position executed place_old w → ComesTo (walks.turn C program w) cards new (executed + 1) place_new next_step

@@ -11,11 +11,12 @@ ghost use Rattle.parametric_request.specs.Asking.{ServesChange};
 ghost use Rattle.listing_claims.specs.Asked.{parametric_run_of};
 ghost use Rattle.listing_answers.specs.Taken.{conclusion_of, IsParametricRunAnswer};
 ghost use Rattle.listing_walk.specs.Standing.{ShowsPending};
-ghost use Rattle.listing_walk.specs.Asking.{WentBy, stopped_by, is_optimal, SettlesBy, Answered, IsMarked, IsAny, IsSettling};
+ghost use Rattle.listing_walk.specs.Asking.{IsStopStep, stopped_by, is_optimal, SettlesBy, Answered, IsMarked, IsAny, IsSettling};
+ghost use Rattle.walk_definitions.specs.Words.{max_count};
 
 use crate::found::Found;
 use crate::place::{ListingPlace, Pending};
-use crate::went::Went;
+use crate::walk_step::WalkStep;
 use job_devices::NoMemory;
 use listing_answers::{
     Conclusion, ParametricRunAnswer, answer_to_parametric_run, answer_to_path, answer_to_solution,
@@ -39,11 +40,11 @@ pub enum Stopped<'a> {
 }
 
 /// How the walk ends, where it doesn't go on with an answer.
-pub fn stop_walk<'a>(stopped: Stopped<'a>) -> Result<Went<'a>, NoMemory>
-    ensures { IfOk result (WentBy stopped.entry) }
+pub fn stop_walk<'a>(stopped: Stopped<'a>) -> Result<WalkStep<'a>, NoMemory>
+    ensures { IfOk result (IsStopStep stopped.entry) }
 {
     match stopped {
-        Stopped::Finds(found) => Ok(Went::Finds(found)),
+        Stopped::Finds(found) => Ok(WalkStep::Finds(found)),
         Stopped::NoMemory => Err(NoMemory),
     }
 }
@@ -98,7 +99,7 @@ pub fn answer_path<'a, T: Checks>(
     requires sheet { IsSheet sheet }
     requires lawful { IsLinearProgram sheet.lp.now }
     requires no_change { sheet.lp.now.change ≡ None }
-    requires few { place.old.reports < 4294967295 }
+    requires few { place.old.reports < max_count }
     ensures answered { (limit : Option ℕ) → Answered T.checker (OfPath solver limit) (sheet_view sheet.entry) place.old place.new IsMarked result }
     ensures few { place.new.reports ≤ place.old.reports + 1 }
 {
@@ -153,7 +154,7 @@ pub fn answer_solution<'a, T: Checks>(
     requires sheet { IsSheet sheet }
     requires lawful { IsLinearProgram sheet.lp.now }
     requires no_change { sheet.lp.now.change ≡ None }
-    requires few { place.old.reports < 4294967295 }
+    requires few { place.old.reports < max_count }
     ensures answered { Answered T.checker (OfSolution mark) (sheet_view sheet.entry) place.old place.new (IsAny (OfSolution mark)) result }
     ensures few { place.new.reports ≤ place.old.reports + 1 }
 {
@@ -199,7 +200,7 @@ pub fn answer_parametric_run<'a, T: Checks>(
     requires lawful { IsLinearProgram sheet.lp.now }
     requires no_change { sheet.lp.now.change ≡ None }
     requires serves { ServesChange sheet.problem.now sheet.lp.now request.now.name request.now.change }
-    requires few { place.old.reports < 4294967295 }
+    requires few { place.old.reports < max_count }
     ensures answered { (limit : ℕ) → Answered T.checker (OfParametricRun (parametric_run_of limit request.now)) (sheet_view sheet.entry) place.old place.new IsParametricRunAnswer result }
     ensures few { place.new.reports ≤ place.old.reports + 1 }
 {

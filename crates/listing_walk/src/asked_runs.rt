@@ -5,7 +5,7 @@ ghost use Rattle.listing_definitions.specs.Numbers.{rational_text};
 ghost use Rattle.control_definitions.specs.Cells.{steps_allowed};
 ghost use Rattle.parametric_request.specs.Asking.{IsAsked, IsNotAsked, IsLastValue, IsChangeOf};
 ghost use Rattle.listing_claims.specs.Asked.{parametric_run_of};
-ghost use Rattle.listing_walk.specs.Parametric_verbs.{beginning, IsNotLast};
+ghost use Rattle.listing_walk.specs.ParametricVerbs.{beginning, IsNotLast};
 
 use frac128::Frac;
 use listing_claims::{AskedRun, Checks};

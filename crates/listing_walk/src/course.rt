@@ -10,7 +10,7 @@ use crate::chosen::Chosen;
 use crate::execute::step;
 use crate::found::Found;
 use crate::place::ListingPlace;
-use crate::went::Onward;
+use crate::walk_step::AfterStep;
 use card_reader::Cards;
 use control_compiler::Program;
 use job_devices::NoMemory;
@@ -60,8 +60,8 @@ pub fn walk<'a, T: Checks>(
             &mut last,
             position,
         ) {
-            Ok(Onward::Goes(to)) => position = to,
-            Ok(Onward::Finds(found)) => return Ok(found),
+            Ok(AfterStep::Goes(to)) => position = to,
+            Ok(AfterStep::Finds(found)) => return Ok(found),
             Err(refused) => return Err(refused),
         }
     }

@@ -8,6 +8,7 @@ ghost use Rattle.listing_walk.specs.declared.parameter.ParameterUse.TheVariants.
 ghost use Rattle.listing_walk.specs.Parameter.{use_of, IsNoRun};
 ghost use Rattle.listing_walk.specs.Standing.{IsSound, holding};
 ghost use Rattle.listing_walk.specs.Walking.{Walks, Steps};
+ghost use Rattle.walk_definitions.specs.Words.{max_count};
 
 use crate::chosen::Chosen;
 use crate::follow::follow;
@@ -20,7 +21,7 @@ use crate::setup::set_up;
 use crate::solution::show_solution;
 use crate::solving::{SolvingVerb, solve};
 use crate::statements::{convert, punch_problem, revise, title};
-use crate::went::{Onward, Went};
+use crate::walk_step::{AfterStep, WalkStep};
 use card_reader::Cards;
 use control_compiler::{Program, Verb};
 use job_devices::NoMemory;
@@ -37,11 +38,11 @@ fn execute<'a, T: Checks>(
     place: &mut ListingPlace<'a>,
     card: u32,
     verb: &Verb<u32>,
-) -> Result<Went<'a>, NoMemory>
+) -> Result<WalkStep<'a>, NoMemory>
     requires sound { IsSound cards.now machine.old }
     requires verb { IsSoundVerb (viewed verb.now) }
     requires no_run { IsNoRun (use_of (viewed verb.now)) }
-    requires few { place.old.reports < 4294967295 }
+    requires few { place.old.reports < max_count }
     ensures walks { IfOk result (Walks T.checker (viewed verb.now) card cards.now machine.old machine.new place.old place.new) }
     ensures sound { IsSound cards.now machine.new }
     ensures few { place.new.reports ≤ place.old.reports + 1 }
@@ -98,17 +99,17 @@ fn execute_apart<'a, T: Checks>(
     place: &mut ListingPlace<'a>,
     card: u32,
     verb: &Verb<u32>,
-) -> Result<Went<'a>, NoMemory>
+) -> Result<WalkStep<'a>, NoMemory>
     requires sound { IsSound cards.now machine.old }
     requires verb { IsSoundVerb (viewed verb.now) }
     requires apart { use_of (viewed verb.now) ≡ Neither }
-    requires few { place.old.reports < 4294967295 }
+    requires few { place.old.reports < max_count }
     ensures walks { (last : ℚ) → IfOk result (Walks T.checker (viewed verb.now) card cards.now (holding (Some last) machine.old) (holding (Some last) machine.new) place.old place.new) }
     ensures sound { IsSound cards.now machine.new }
     ensures few { place.new.reports ≤ place.old.reports + 1 }
 {
     match execute::<T>(alloc, machine, cards, place, card, verb) {
-        Ok(went) => Ok(as_next(went)),
+        Ok(next_step) => Ok(as_next(next_step)),
         Err(refused) => Err(refused),
     }
 }
@@ -122,10 +123,10 @@ fn execute_with<'a, T: Checks>(
     last: &mut Option<Number<'a>>,
     card: u32,
     verb: &Verb<u32>,
-) -> Result<Went<'a>, NoMemory>
+) -> Result<WalkStep<'a>, NoMemory>
     requires sound { IsSound cards.now machine.old }
     requires verb { IsSoundVerb (viewed verb.now) }
-    requires few { place.old.reports < 4294967295 }
+    requires few { place.old.reports < max_count }
     ensures walks { IfOk result (Walks T.checker (viewed verb.now) card cards.now (holding last.old machine.old) (holding last.new machine.new) place.old place.new) }
     ensures sound { IsSound cards.now machine.new }
     ensures few { place.new.reports ≤ place.old.reports + 1 }
@@ -154,25 +155,25 @@ pub fn step<'a, T: Checks>(
     place: &mut ListingPlace<'a>,
     last: &mut Option<Number<'a>>,
     position: u32,
-) -> Result<Onward<'a>, NoMemory>
+) -> Result<AfterStep<'a>, NoMemory>
     requires valid { IsProgram program.now }
     requires first { 1 ≤ position }
     requires within { position ≤ length program.now.statements }
     requires sound { IsSound cards.now machine.old }
-    requires few { place.old.reports < 4294967295 }
+    requires few { place.old.reports < max_count }
     ensures steps { IfOk result (Steps T.checker program.now cards.now position (holding last.old machine.old) (holding last.new machine.new) place.old place.new) }
     ensures sound { IsSound cards.now machine.new }
     ensures few { place.new.reports ≤ place.old.reports + 1 }
 {
     let next = program.statement(position);
     match execute_with::<T>(alloc, machine, cards, place, last, next.card, &next.verb) {
-        Ok(Went::Next) => Ok(Onward::Goes(position + 1)),
-        Ok(Went::Leaves(value)) => {
+        Ok(WalkStep::Next) => Ok(AfterStep::Goes(position + 1)),
+        Ok(WalkStep::Leaves(value)) => {
             *last = Some(value);
-            Ok(Onward::Goes(position + 1))
+            Ok(AfterStep::Goes(position + 1))
         }
-        Ok(Went::Jump(to)) => Ok(Onward::Goes(to)),
-        Ok(Went::Finds(found)) => Ok(Onward::Finds(found)),
+        Ok(WalkStep::Jump(to)) => Ok(AfterStep::Goes(to)),
+        Ok(WalkStep::Finds(found)) => Ok(AfterStep::Finds(found)),
         Err(refused) => Err(refused),
     }
 }

@@ -5,12 +5,13 @@ ghost use Rattle.run_machine.specs.declared.act.Act.TheVariants as acts;
 ghost use Rattle.run_machine.specs.declared.end.End.TheVariants as ends;
 ghost use Rattle.listing_walk.specs.Standing.{holding};
 ghost use Rattle.listing_walk.specs.Walking.{ends_run, Finishes, Passes, Refuses};
+ghost use Rattle.walk_definitions.specs.Words.{max_count};
 
 use crate::chosen::Chosen;
 use crate::found::Found;
 use crate::place::{ListingPlace, has_text};
 use crate::selecting::Unselected;
-use crate::went::Went;
+use crate::walk_step::WalkStep;
 use job_devices::NoMemory;
 use listing_definitions::VerbFault;
 use run_machine::{Act, End, Machine, ending_of};
@@ -31,16 +32,16 @@ pub fn finish<'a>(
     alloc: Global,
     place: &mut ListingPlace<'a>,
     act: &Act,
-) -> Result<Went<'a>, NoMemory>
+) -> Result<WalkStep<'a>, NoMemory>
     ensures finishes { IfOk result (Finishes place.old place.new act.now) }
     ensures reports { place.new.reports ≡ place.old.reports }
 {
     match act {
-        Act::Next => Ok(Went::Next),
-        Act::Jump(to) => Ok(Went::Jump(*to)),
+        Act::Next => Ok(WalkStep::Next),
+        Act::Jump(to) => Ok(WalkStep::Jump(*to)),
         Act::Ends(end) => {
             let found = place.close(alloc, &ending_of(end))?;
-            Ok(Went::Finds(found))
+            Ok(WalkStep::Finds(found))
         }
     }
 }
@@ -52,8 +53,8 @@ pub fn follow<'a>(
     place: &mut ListingPlace<'a>,
     act: &Act,
     text: &[u8],
-) -> Result<Went<'a>, NoMemory>
-    requires { place.old.reports < 4294967295 }
+) -> Result<WalkStep<'a>, NoMemory>
+    requires { place.old.reports < max_count }
     ensures passes { IfOk result (Passes machine.now place.old place.new act.now text.now) }
     ensures held { (last : Option ℚ) → IfOk result (Passes (holding last machine.now) place.old place.new act.now text.now) }
     ensures few { place.new.reports ≤ place.old.reports + 1 }
@@ -62,11 +63,11 @@ pub fn follow<'a>(
     let looks = ends || has_text(text);
     let clears = ends || machine.mark.is_none();
     if let Some(found) = place.open_here(looks, clears) {
-        return Ok(Went::Finds(found));
+        return Ok(WalkStep::Finds(found));
     }
     let rest = place.cursor.left();
     if !place.pass(text) {
-        return Ok(Went::Finds(Found::Wrong(rest)));
+        return Ok(WalkStep::Finds(Found::Wrong(rest)));
     }
     finish(alloc, place, act)
 }
@@ -78,8 +79,8 @@ pub fn fault<'a>(
     place: &mut ListingPlace<'a>,
     fault: VerbFault,
     card: u32,
-) -> Result<Went<'a>, NoMemory>
-    requires { place.old.reports < 4294967295 }
+) -> Result<WalkStep<'a>, NoMemory>
+    requires { place.old.reports < max_count }
     ensures passes { IfOk result (Passes machine.now place.old place.new (acts.Ends (ends.Verb fault card)) []) }
     ensures held { (last : Option ℚ) → IfOk result (Passes (holding last machine.now) place.old place.new (acts.Ends (ends.Verb fault card)) []) }
     ensures few { place.new.reports ≤ place.old.reports + 1 }
@@ -100,15 +101,15 @@ pub fn refuse<'a>(
     place: &mut ListingPlace<'a>,
     refusal: Unselected,
     card: u32,
-) -> Result<Went<'a>, NoMemory>
-    requires { place.old.reports < 4294967295 }
+) -> Result<WalkStep<'a>, NoMemory>
+    requires { place.old.reports < max_count }
     ensures refuses { IfOk result (Refuses machine.now place.old place.new card refusal) }
     ensures held { (last : Option ℚ) → IfOk result (Refuses (holding last machine.now) place.old place.new card refusal) }
     ensures few { place.new.reports ≤ place.old.reports + 1 }
 {
     match refusal {
         Unselected::Fault(why) => fault(alloc, machine, place, why, card),
-        Unselected::Unchecked => Ok(Went::Finds(place.unchecked())),
+        Unselected::Unchecked => Ok(WalkStep::Finds(place.unchecked())),
         Unselected::NoMemory => Err(NoMemory),
     }
 }

@@ -6,13 +6,14 @@ ghost use Rattle.listing_walk.specs.Standing.{IsSound};
 ghost use Rattle.listing_walk.specs.Walking.{Walks};
 ghost use Rattle.listing_walk.specs.Inserting.{is_line_of, is_line_due, LiesWithin, IsInstallDue, IsInstallRefused, RefusesInstall};
 ghost use Rattle.basis_deck_definitions.specs.Placings.{HasNames};
+ghost use Rattle.walk_definitions.specs.Words.{max_count};
 
 use crate::chosen::Chosen;
 use crate::follow::{fault, follow};
 use crate::found::Found;
 use crate::place::ListingPlace;
 use crate::selecting::{Unselected, select_present};
-use crate::went::Went;
+use crate::walk_step::WalkStep;
 use basis_deck::read_basis;
 use card_reader::Cards;
 use deck_fields::CardStop;
@@ -99,14 +100,14 @@ fn refuse_install<'a>(
     refusal: Unselected,
     due: bool,
     card: u32,
-) -> Result<Went<'a>, NoMemory>
-    requires { place.old.reports < 4294967295 }
+) -> Result<WalkStep<'a>, NoMemory>
+    requires { place.old.reports < max_count }
     ensures refuses { IfOk result (RefusesInstall machine.now place.old place.new card due refusal) }
     ensures few { place.new.reports ≤ place.old.reports + 1 }
 {
     match refusal {
         Unselected::Fault(why) => fault(alloc, machine, place, why, card),
-        Unselected::Unchecked => Ok(Went::Finds(install_refused(place, due))),
+        Unselected::Unchecked => Ok(WalkStep::Finds(install_refused(place, due))),
         Unselected::NoMemory => Err(NoMemory),
     }
 }
@@ -120,9 +121,9 @@ pub fn insert<'a>(
     cards: &Cards,
     place: &mut ListingPlace<'a>,
     card: u32,
-) -> Result<Went<'a>, NoMemory>
+) -> Result<WalkStep<'a>, NoMemory>
     requires sound { IsSound cards.now machine.now }
-    requires few { place.old.reports < 4294967295 }
+    requires few { place.old.reports < max_count }
     ensures walks { (C : Checker) → IfOk result (Walks C program.Insert card cards.now machine.now machine.now place.old place.new) }
     ensures few { place.new.reports ≤ place.old.reports + 1 }
 {
@@ -148,7 +149,7 @@ pub fn insert<'a>(
         return fault(alloc, machine, place, VerbFault::DeckNotFound, card);
     };
     match read_basis(alloc, problem, &lp, cards, deck.first, deck.last) {
-        Ok(_basis) => Ok(Went::Finds(install_due(place, stands))),
+        Ok(_basis) => Ok(WalkStep::Finds(install_due(place, stands))),
         Err(CardStop::Fault(why)) => {
             follow(alloc, machine, place, &Act::Ends(End::Deck(why)), &[])
         }

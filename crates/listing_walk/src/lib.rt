@@ -20,7 +20,7 @@ mod setup;
 mod solution;
 mod solving;
 mod statements;
-mod went;
+mod walk_step;
 
 pub use course::{closes, walk};
 pub use found::Found;

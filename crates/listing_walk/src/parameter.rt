@@ -3,7 +3,7 @@ ghost use Rattle.std.specs.Prelude.{◌≡◌};
 ghost use Rattle.control_verbs.specs.Views.{viewed};
 ghost use Rattle.listing_walk.specs.Parameter.{cell_use, use_of, as_next};
 
-use crate::went::Went;
+use crate::walk_step::WalkStep;
 use control_compiler::Verb;
 use parametric_request::ParametricVerb;
 use run_cells::NumberCell;
@@ -43,12 +43,12 @@ pub fn use_of(verb: &Verb<u32>) -> ParameterUse
 }
 
 /// Where a statement leads that leaves XPARAM alone.
-pub fn as_next(went: Went<'_>) -> Went<'_>
-    ensures { result ≡ as_next went.entry }
+pub fn as_next(next_step: WalkStep<'_>) -> WalkStep<'_>
+    ensures { result ≡ as_next next_step.entry }
 {
-    match went {
-        Went::Leaves(_) | Went::Next => Went::Next,
-        Went::Jump(to) => Went::Jump(to),
-        Went::Finds(found) => Went::Finds(found),
+    match next_step {
+        WalkStep::Leaves(_) | WalkStep::Next => WalkStep::Next,
+        WalkStep::Jump(to) => WalkStep::Jump(to),
+        WalkStep::Finds(found) => WalkStep::Finds(found),
     }
 }

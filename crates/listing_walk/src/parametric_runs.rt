@@ -4,9 +4,10 @@ ghost use Rattle.exact_values.specs.Rational.{ℚ};
 ghost use Rattle.run_machine.specs.Standing.{AreDemands};
 ghost use Rattle.parametric_request.specs.Asking.{verb_of};
 ghost use Rattle.listing_answers.specs.declared.answer.ParametricRunAnswer.TheVariants.{RanThrough};
-ghost use Rattle.listing_walk.specs.Parametric_verbs.{finding_of, left_by, IsUnasked};
+ghost use Rattle.listing_walk.specs.ParametricVerbs.{finding_of, left_by, IsUnasked};
 ghost use Rattle.listing_walk.specs.Standing.{IsReady, IsSound, holding};
 ghost use Rattle.listing_walk.specs.Walking.{Walks};
+ghost use Rattle.walk_definitions.specs.Words.{max_count};
 
 use crate::answering::{answer_parametric_run, stop_walk};
 use crate::asked_runs::{asked_run, first_value};
@@ -14,7 +15,7 @@ use crate::chosen::Chosen;
 use crate::follow::{fault, finish, refuse};
 use crate::place::ListingPlace;
 use crate::selecting::select_present;
-use crate::went::Went;
+use crate::walk_step::WalkStep;
 use job_devices::NoMemory;
 use listing_answers::ParametricRunAnswer;
 use listing_claims::Checks;
@@ -33,8 +34,8 @@ fn unasked<'a>(
     place: &mut ListingPlace<'a>,
     stop: RequestStop,
     card: u32,
-) -> Result<Went<'a>, NoMemory>
-    requires { place.old.reports < 4294967295 }
+) -> Result<WalkStep<'a>, NoMemory>
+    requires { place.old.reports < max_count }
     ensures unasked { (last : Option ℚ) → IfOk result (IsUnasked (holding last machine.now) place.old place.new card stop) }
     ensures few { place.new.reports ≤ place.old.reports + 1 }
 {
@@ -81,10 +82,10 @@ pub fn parametric_run<'a, T: Checks>(
     last: &mut Option<Number<'a>>,
     card: u32,
     verb: ParametricVerb,
-) -> Result<Went<'a>, NoMemory>
+) -> Result<WalkStep<'a>, NoMemory>
     requires demands { AreDemands machine.old.cells }
     requires ready { IfSome machine.old.setup (IsReady machine.old.file) }
-    requires few { place.old.reports < 4294967295 }
+    requires few { place.old.reports < max_count }
     ensures walks { (cards : List (List ℕ)) → IfOk result (Walks T.checker (verb_of verb) card cards (holding last.old machine.old) (holding last.new machine.new) place.old place.new) }
     ensures sound { (cards : List (List ℕ)) → IsSound cards machine.old → IsSound cards machine.new }
     ensures few { place.new.reports ≤ place.old.reports + 1 }
@@ -115,7 +116,7 @@ pub fn parametric_run<'a, T: Checks>(
         Ok(finding) => finding,
         Err(value) => {
             machine.mark = None;
-            return Ok(Went::Leaves(value));
+            return Ok(WalkStep::Leaves(value));
         }
     };
     leave(machine, last, &finding);

@@ -4,7 +4,7 @@ ghost use Rattle.job_devices.specs.Memory.{sure_bytes};
 ghost use Rattle.job_devices.specs.Text.{Writes};
 ghost use Rattle.report_text.specs.Views.{IsEnding, ending_view};
 ghost use Rattle.listing_definitions.specs.Listing.{ending_text};
-ghost use Rattle.walk_definitions.specs.Words.{left_after};
+ghost use Rattle.walk_definitions.specs.Words.{left_after, max_count};
 ghost use Rattle.walk_definitions.specs.Walker as walks;
 ghost use Rattle.listing_words.specs.Read.{taken};
 ghost use Rattle.listing_walk.specs.Ended.{found_view};
@@ -129,7 +129,7 @@ impl<'a> ListingPlace<'a> {
 
     /// Passes a text, if it stands here. One that isn't empty is a report.
     pub fn pass(&mut self, text: &[u8]) -> bool
-        requires { self.old.reports < 4294967295 }
+        requires { self.old.reports < max_count }
         ensures taken { left_after text.now self.old.cursor ≡ taken result self.new.cursor }
         ensures kept { result ≡ false → self.new ≡ self.old }
         ensures pending { self.new.pending ≡ self.old.pending }

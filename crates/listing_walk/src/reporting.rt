@@ -4,13 +4,14 @@ ghost use Rattle.control_definitions.specs.Program as program;
 ghost use Rattle.walk_definitions.specs.Checkers.{Checker};
 ghost use Rattle.listing_walk.specs.Standing.{IsReady, IsSolved};
 ghost use Rattle.listing_walk.specs.Walking.{RefusesReport, Walks};
+ghost use Rattle.walk_definitions.specs.Words.{max_count};
 
 use crate::answering::is_optimal;
 use crate::chosen::Chosen;
 use crate::follow::fault;
 use crate::place::ListingPlace;
 use crate::selecting::{Unselected, select_present};
-use crate::went::Went;
+use crate::walk_step::WalkStep;
 use job_devices::NoMemory;
 use listing_definitions::VerbFault;
 use listing_readers::{is_punched, is_ranges};
@@ -23,11 +24,11 @@ pub fn show_ranges<'a>(
     machine: &Machine<Chosen>,
     place: &mut ListingPlace<'a>,
     card: u32,
-) -> Result<Went<'a>, NoMemory>
+) -> Result<WalkStep<'a>, NoMemory>
     requires ready { IfSome machine.now.setup (IsReady machine.now.file) }
     requires solved { IfSome machine.now.mark
         (λ mark. IfSome machine.now.setup (IsSolved mark machine.now.cells.xobj machine.now.cells.xrhs machine.now.file)) }
-    requires few { place.old.reports < 4294967295 }
+    requires few { place.old.reports < max_count }
     ensures walks { (C : Checker) (cards : List (List ℕ)) → IfOk result (Walks C program.Ranging card cards machine.now machine.now place.old place.new) }
     ensures few { place.new.reports ≤ place.old.reports + 1 }
 {
@@ -41,7 +42,7 @@ pub fn show_ranges<'a>(
         return fault(alloc, machine, place, VerbFault::NotOptimal, card);
     }
     let stands = is_ranges(place.cursor.left());
-    Ok(Went::Finds(place.reported_here(stands, true)))
+    Ok(WalkStep::Finds(place.reported_here(stands, true)))
 }
 
 // What is refused, where a report that can't be attested is due.
@@ -52,14 +53,14 @@ fn refuse_report<'a>(
     refusal: Unselected,
     stands: bool,
     card: u32,
-) -> Result<Went<'a>, NoMemory>
-    requires { place.old.reports < 4294967295 }
+) -> Result<WalkStep<'a>, NoMemory>
+    requires { place.old.reports < max_count }
     ensures refuses { IfOk result (RefusesReport machine.now place.old place.new card stands refusal) }
     ensures few { place.new.reports ≤ place.old.reports + 1 }
 {
     match refusal {
         Unselected::Fault(why) => fault(alloc, machine, place, why, card),
-        Unselected::Unchecked => Ok(Went::Finds(place.reported_here(stands, false))),
+        Unselected::Unchecked => Ok(WalkStep::Finds(place.reported_here(stands, false))),
         Unselected::NoMemory => Err(NoMemory),
     }
 }
@@ -70,9 +71,9 @@ pub fn punch_basis<'a>(
     machine: &Machine<Chosen>,
     place: &mut ListingPlace<'a>,
     card: u32,
-) -> Result<Went<'a>, NoMemory>
+) -> Result<WalkStep<'a>, NoMemory>
     requires ready { IfSome machine.now.setup (IsReady machine.now.file) }
-    requires few { place.old.reports < 4294967295 }
+    requires few { place.old.reports < max_count }
     ensures walks { (C : Checker) (cards : List (List ℕ)) → IfOk result (Walks C program.Punch card cards machine.now machine.now place.old place.new) }
     ensures few { place.new.reports ≤ place.old.reports + 1 }
 {
@@ -85,7 +86,7 @@ pub fn punch_basis<'a>(
     };
     let stands = is_punched(place.cursor.left(), problem.name());
     match select_present(alloc, problem, &machine.cells, chosen.options) {
-        Ok(_lp) => Ok(Went::Finds(place.reported_here(stands, true))),
+        Ok(_lp) => Ok(WalkStep::Finds(place.reported_here(stands, true))),
         Err(refusal) => refuse_report(alloc, machine, place, refusal, stands, card),
     }
 }

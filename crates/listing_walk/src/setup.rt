@@ -10,12 +10,13 @@ ghost use Rattle.walk_definitions.specs.Checkers.{Checker};
 ghost use Rattle.listing_walk.specs.Choosing.{IsOpened, IsNotOpened};
 ghost use Rattle.listing_walk.specs.Standing.{IsSound};
 ghost use Rattle.listing_walk.specs.Walking.{Walks};
+ghost use Rattle.walk_definitions.specs.Words.{max_count};
 
 use crate::chosen::{Chosen, Named};
 use crate::follow::{fault, follow};
 use crate::place::ListingPlace;
 use crate::selecting::{Unselected, select_present};
-use crate::went::Went;
+use crate::walk_step::WalkStep;
 use control_verbs::SetupOptions;
 use job_devices::{NoMemory, Sink, SureSink, WriteStop};
 use listing_definitions::VerbFault;
@@ -80,8 +81,8 @@ pub fn set_up<'a>(
     place: &mut ListingPlace<'a>,
     card: u32,
     options: &SetupOptions,
-) -> Result<Went<'a>, NoMemory>
-    requires { place.old.reports < 4294967295 }
+) -> Result<WalkStep<'a>, NoMemory>
+    requires { place.old.reports < max_count }
     ensures walks { (C : Checker) (cards : List (List ℕ)) → IfOk result
         (Walks C (program.Setup (options_view options.now)) card cards machine.old machine.new place.old place.new) }
     ensures sound { (cards : List (List ℕ)) → IsSound cards machine.old → IsSound cards machine.new }
@@ -97,7 +98,7 @@ pub fn set_up<'a>(
             follow(alloc, machine, place, &Act::Next, text.bytes())
         }
         Err(Unselected::Fault(refusal)) => fault(alloc, machine, place, refusal, card),
-        Err(Unselected::Unchecked) => Ok(Went::Finds(place.unchecked())),
+        Err(Unselected::Unchecked) => Ok(WalkStep::Finds(place.unchecked())),
         Err(Unselected::NoMemory) => Err(NoMemory),
     }
 }

@@ -3,12 +3,13 @@ ghost use Rattle.std.specs.Prelude.{◌≡◌, ◌+◌, ◌≤◌, ◌<◌, ℕ,
 ghost use Rattle.control_definitions.specs.Program as program;
 ghost use Rattle.listing_walk.specs.Standing.{IsReady, IsSolved};
 ghost use Rattle.listing_walk.specs.Walking.{Walks};
+ghost use Rattle.walk_definitions.specs.Words.{max_count};
 
 use crate::answering::{answer_solution, stop_walk};
 use crate::chosen::Chosen;
 use crate::follow::fault;
 use crate::place::ListingPlace;
-use crate::went::Went;
+use crate::walk_step::WalkStep;
 use job_devices::NoMemory;
 use listing_claims::Checks;
 use listing_definitions::VerbFault;
@@ -23,11 +24,11 @@ pub fn show_solution<'a, T: Checks>(
     machine: &Machine<Chosen>,
     place: &mut ListingPlace<'a>,
     card: u32,
-) -> Result<Went<'a>, NoMemory>
+) -> Result<WalkStep<'a>, NoMemory>
     requires ready { IfSome machine.now.setup (IsReady machine.now.file) }
     requires solved { IfSome machine.now.mark
         (λ mark. IfSome machine.now.setup (IsSolved mark machine.now.cells.xobj machine.now.cells.xrhs machine.now.file)) }
-    requires few { place.old.reports < 4294967295 }
+    requires few { place.old.reports < max_count }
     ensures walks { (cards : List (List ℕ)) → IfOk result (Walks T.checker program.Solution card cards machine.now machine.now place.old place.new) }
     ensures few { place.new.reports ≤ place.old.reports + 1 }
 {
@@ -47,7 +48,7 @@ pub fn show_solution<'a, T: Checks>(
     };
     let _lawful = chosen.lp.number_of_variables();
     match answer_solution::<T>(alloc, place, sheet, mark) {
-        Ok(()) => Ok(Went::Next),
+        Ok(()) => Ok(WalkStep::Next),
         Err(stopped) => stop_walk(stopped),
     }
 }

@@ -1,16 +1,17 @@
 // PRIMAL and DUAL.
 ghost use Rattle.std.specs.Prelude.{◌≡◌, ◌+◌, ◌≤◌, ◌<◌, ℕ, List, Some, IfOk, IfSome};
 ghost use Rattle.run_machine.specs.Standing.{AreDemands};
-ghost use Rattle.listing_walk.specs.Solving_verbs.{verb_of, solver_of};
+ghost use Rattle.listing_walk.specs.SolvingVerbs.{verb_of, solver_of};
 ghost use Rattle.listing_walk.specs.Standing.{IsReady, IsSound};
 ghost use Rattle.listing_walk.specs.Walking.{Walks};
+ghost use Rattle.walk_definitions.specs.Words.{max_count};
 
 use crate::answering::{answer_path, stop_walk};
 use crate::chosen::Chosen;
 use crate::follow::{fault, finish, refuse};
 use crate::place::ListingPlace;
 use crate::selecting::select_present;
-use crate::went::Went;
+use crate::walk_step::WalkStep;
 use job_devices::NoMemory;
 use listing_claims::Checks;
 use listing_definitions::{Mark, Solver, VerbFault};
@@ -55,10 +56,10 @@ pub fn solve<'a, T: Checks>(
     place: &mut ListingPlace<'a>,
     card: u32,
     verb: SolvingVerb,
-) -> Result<Went<'a>, NoMemory>
+) -> Result<WalkStep<'a>, NoMemory>
     requires demands { AreDemands machine.old.cells }
     requires ready { IfSome machine.old.setup (IsReady machine.old.file) }
-    requires few { place.old.reports < 4294967295 }
+    requires few { place.old.reports < max_count }
     ensures walks { (cards : List (List ℕ)) → IfOk result (Walks T.checker (verb_of verb) card cards machine.old machine.new place.old place.new) }
     ensures sound { (cards : List (List ℕ)) → IsSound cards machine.old → IsSound cards machine.new }
     ensures few { place.new.reports ≤ place.old.reports + 1 }

@@ -4,11 +4,12 @@ ghost use Rattle.control_definitions.specs.Program as program;
 ghost use Rattle.walk_definitions.specs.Checkers.{Checker};
 ghost use Rattle.listing_walk.specs.Standing.{IsSound};
 ghost use Rattle.listing_walk.specs.Walking.{Walks};
+ghost use Rattle.walk_definitions.specs.Words.{max_count};
 
 use crate::chosen::Chosen;
 use crate::follow::follow;
 use crate::place::ListingPlace;
-use crate::went::Went;
+use crate::walk_step::WalkStep;
 use card_reader::Cards;
 use control_verbs::Text;
 use job_devices::{Discard, NoMemory, SureSink};
@@ -21,8 +22,8 @@ pub fn title<'a>(
     machine: &Machine<Chosen>,
     place: &mut ListingPlace<'a>,
     text: &Text,
-) -> Result<Went<'a>, NoMemory>
-    requires { place.old.reports < 4294967295 }
+) -> Result<WalkStep<'a>, NoMemory>
+    requires { place.old.reports < max_count }
     ensures walks { (C : Checker) (card : ℕ) (cards : List (List ℕ)) → IfOk result (Walks C (program.Title text.now) card cards machine.now machine.now place.old place.new) }
     ensures few { place.new.reports ≤ place.old.reports + 1 }
 {
@@ -40,9 +41,9 @@ pub fn convert<'a>(
     cards: &Cards,
     place: &mut ListingPlace<'a>,
     card: u32,
-) -> Result<Went<'a>, NoMemory>
+) -> Result<WalkStep<'a>, NoMemory>
     requires sound { IsSound cards.now machine.old }
-    requires few { place.old.reports < 4294967295 }
+    requires few { place.old.reports < max_count }
     ensures walks { (C : Checker) → IfOk result (Walks C program.Convert card cards.now machine.old machine.new place.old place.new) }
     ensures sound { IsSound cards.now machine.new }
     ensures few { place.new.reports ≤ place.old.reports + 1 }
@@ -61,9 +62,9 @@ pub fn revise<'a>(
     cards: &Cards,
     place: &mut ListingPlace<'a>,
     card: u32,
-) -> Result<Went<'a>, NoMemory>
+) -> Result<WalkStep<'a>, NoMemory>
     requires sound { IsSound cards.now machine.old }
-    requires few { place.old.reports < 4294967295 }
+    requires few { place.old.reports < max_count }
     ensures walks { (C : Checker) → IfOk result (Walks C program.Revise card cards.now machine.old machine.new place.old place.new) }
     ensures sound { IsSound cards.now machine.new }
     ensures few { place.new.reports ≤ place.old.reports + 1 }
@@ -81,8 +82,8 @@ pub fn punch_problem<'a>(
     machine: &Machine<Chosen>,
     place: &mut ListingPlace<'a>,
     card: u32,
-) -> Result<Went<'a>, NoMemory>
-    requires { place.old.reports < 4294967295 }
+) -> Result<WalkStep<'a>, NoMemory>
+    requires { place.old.reports < max_count }
     ensures walks { (C : Checker) (cards : List (List ℕ)) → IfOk result (Walks C program.Bcdout card cards machine.now machine.now place.old place.new) }
     ensures few { place.new.reports ≤ place.old.reports + 1 }
 {

@@ -7,6 +7,7 @@ ghost use Rattle.problem_definitions.specs.Kinds.{is_free_kind};
 ghost use Rattle.problem_definitions.specs.Problem.{has_free_row as has_free, has_group, group_names};
 ghost use Rattle.problem_definitions.specs.Groups.{items_of};
 ghost use Rattle.selection_definitions.specs.Choice.{objective_of, is_not_free as has_limits, rhs_items as items_of_rhs, set_items, misses_set};
+ghost use Rattle.problem_definitions.specs.declared.TheConstants.{MAX_ROWS};
 
 use name_table::Name;
 use problem_file::{BoundItem, BoundSet, DeckEntry, RowDecl, RowKind, ValueSet};
@@ -41,7 +42,7 @@ fn first_free_row(rows: &[RowDecl]) -> Option<usize>
 
 /// The number of the row at a place.
 fn number_at(place: Option<usize>) -> Option<u32>
-    requires { ForSome place (λ place. place < 1000) }
+    requires { ForSome place (λ place. place < MAX_ROWS) }
     ensures { result ≡ option_map (λ place. place + 1) place }
 {
     match place {
@@ -52,7 +53,7 @@ fn number_at(place: Option<usize>) -> Option<u32>
 
 /// The number of the row of this name.
 pub fn row_number(rows: &[RowDecl], name: &Name) -> Option<u32>
-    requires few { length rows.now ≤ 1000 }
+    requires few { length rows.now ≤ MAX_ROWS }
     ensures number { result ≡ objective_of rows.now (Some name.now) }
 {
     number_at(named_row(rows, name))
@@ -60,7 +61,7 @@ pub fn row_number(rows: &[RowDecl], name: &Name) -> Option<u32>
 
 /// The number of the objective row: of the chosen one, or else of the first N row.
 pub fn objective_row(rows: &[RowDecl], chosen: Option<Name>) -> Option<u32>
-    requires few { length rows.now ≤ 1000 }
+    requires few { length rows.now ≤ MAX_ROWS }
     ensures number { result ≡ objective_of rows.now chosen }
 {
     let Some(name) = chosen else {

@@ -11,6 +11,7 @@ ghost use Rattle.selection_definitions.specs.Combinations.{value_in, part_produc
 ghost use Rattle.selection_definitions.specs.CombinationSums.{combination_formula};
 ghost use Rattle.lp_setup.specs.Parts.{IsSumRefusal};
 ghost use Rattle.lp_setup.specs.Combined.{IsTotalWith, IsTermOverflow, IsRefusedWith, IsRefusedPart, IsRowValue, IsRowValueMade, IsRowValueOverflow, AreParts, AreSumsMade, IsColumnOverflow};
+ghost use Rattle.problem_definitions.specs.declared.TheConstants.{MAX_ROWS};
 
 use crate::parts::values_by_row;
 use frac128::{Frac, Op, Refused};
@@ -72,7 +73,7 @@ fn with_part(total: Total, part: &DeckEntry, values: &[Option<Frac>]) -> Result<
 
 /// The sum of a combination's parts in a column with these values on the rows before it, if a part adds something.
 fn sum_of_parts(parts: &[DeckEntry], values: &[Option<Frac>]) -> Result<Option<Frac>, RefusedPart>
-    requires few { length values.now ≤ 1000 }
+    requires few { length values.now ≤ MAX_ROWS }
     requires parts { AreEntries (length values.now) parts.now }
     ensures sum { IfOk result (λ sum. sum ≡ sum_if_any (part_products parts.now values.now)) }
     ensures made { IfOk result (λ _. verdict_of (sum_steps zero_ℚ
@@ -117,7 +118,7 @@ fn combination_value(
     before: &[Option<Frac>],
     column: u32,
 ) -> Result<Option<Frac>, Stop>
-    requires few { length before.now ≤ 1000 }
+    requires few { length before.now ≤ MAX_ROWS }
     requires parts { AreEntries (length before.now) parts.now }
     ensures sum { IfOk result (λ sum. sum ≡ sum_if_any (part_products parts.now before.now)) }
     ensures made { IfOk result (λ _. verdict_of (sum_steps zero_ℚ
@@ -141,7 +142,7 @@ fn row_value(
     values: &[Option<Frac>],
     column: u32,
 ) -> Result<Option<Frac>, Stop>
-    requires few { length values.now ≤ 1000 }
+    requires few { length values.now ≤ MAX_ROWS }
     requires within { place < length values.now }
     requires parts { IfSome row.now.parts (AreEntries place) }
     ensures value { IfOk result (IsRowValue values.now row.now.parts place) }
@@ -161,7 +162,7 @@ fn column_values(
     entries: &[DeckEntry],
     column: u32,
 ) -> Result<Vec<Option<Frac>>, Stop>
-    requires few { length rows.now ≤ 1000 }
+    requires few { length rows.now ≤ MAX_ROWS }
     requires parts { AreParts rows.now }
     requires entries { AreEntries (length rows.now) entries.now }
     ensures values { IfOk result (λ values. values.items ≡ values_on_rows rows.now entries.now) }
@@ -196,7 +197,7 @@ fn numbers_on_combinations(
     rows: &[RowDecl],
     values: &[Option<Frac>],
 ) -> Result<Vec<Entry>, NoMemory>
-    requires few { length rows.now ≤ 1000 }
+    requires few { length rows.now ≤ MAX_ROWS }
     requires values { length values.now ≡ length rows.now }
     ensures { IfOk result (λ numbers. numbers.items ≡ filter_map
         (λ row. number_on row.0 (value_in values.now row.0) row.1.parts)
@@ -219,7 +220,7 @@ pub fn combined_numbers(
     entries: &[DeckEntry],
     column: u32,
 ) -> Result<Vec<Entry>, Stop>
-    requires few { length rows.now ≤ 1000 }
+    requires few { length rows.now ≤ MAX_ROWS }
     requires parts { AreParts rows.now }
     requires entries { AreEntries (length rows.now) entries.now }
     ensures numbers { IfOk result (λ numbers. numbers.items ≡ on_combinations rows.now

@@ -5,6 +5,7 @@ ghost use Rattle.lp_model.specs.Columns.{entries_of};
 ghost use Rattle.problem_definitions.specs.Valid.{AreEntries};
 ghost use Rattle.selection_definitions.specs.Selection.{entered, coefficients as numbers_of};
 ghost use Rattle.lp_setup.specs.Combined.{AreParts, AreSumsMade, AreColumnsMade, IsColumnOverflow, IsMatrixOverflow};
+ghost use Rattle.problem_definitions.specs.declared.TheConstants.{MAX_ROWS, MAX_COLUMNS};
 
 use crate::combined::combined_numbers;
 use lp_definitions::Entry;
@@ -45,7 +46,7 @@ fn coefficients(
     column: &ColumnDecl,
     number: u32,
 ) -> Result<Vec<Entry>, Stop>
-    requires few { length rows.now ≤ 1000 }
+    requires few { length rows.now ≤ MAX_ROWS }
     requires parts { AreParts rows.now }
     requires entries { AreEntries (length rows.now) column.now.items }
     ensures numbers { IfOk result (λ numbers. numbers.items ≡ numbers_of rows.now column.now) }
@@ -78,8 +79,8 @@ fn combined_columns(
     rows: &[RowDecl],
     columns: &[ColumnDecl],
 ) -> Result<Vec<Vec<Entry>>, Stop>
-    requires few_rows { length rows.now ≤ 1000 }
-    requires few_columns { length columns.now ≤ 5000 }
+    requires few_rows { length rows.now ≤ MAX_ROWS }
+    requires few_columns { length columns.now ≤ MAX_COLUMNS }
     requires parts { AreParts rows.now }
     requires entries { All (λ column. AreEntries (length rows.now) column.items) columns.now }
     ensures matrix { IfOk result (λ matrix. entries_of matrix.items ≡ map (numbers_of rows.now)
@@ -109,8 +110,8 @@ pub fn matrix_columns(
     rows: &[RowDecl],
     columns: &[ColumnDecl],
 ) -> Result<Vec<Vec<Entry>>, Stop>
-    requires few_rows { length rows.now ≤ 1000 }
-    requires few_columns { length columns.now ≤ 5000 }
+    requires few_rows { length rows.now ≤ MAX_ROWS }
+    requires few_columns { length columns.now ≤ MAX_COLUMNS }
     requires parts { AreParts rows.now }
     requires entries { All (λ column. AreEntries (length rows.now) column.items) columns.now }
     ensures matrix { IfOk result (λ matrix. entries_of matrix.items ≡ map (numbers_of rows.now)

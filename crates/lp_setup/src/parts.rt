@@ -7,6 +7,7 @@ ghost use Rattle.selection_definitions.specs.Limits.{value_on, column_limits};
 ghost use Rattle.selection_definitions.specs.RangeSums.{range_formula};
 ghost use Rattle.selection_definitions.specs.Programs.{side_on};
 ghost use Rattle.lp_setup.specs.Parts.{by_number, limits_of_rows, IsRowOverflow, IsRowMade, AreRowsMade};
+ghost use Rattle.problem_definitions.specs.declared.TheConstants.{MAX_ROWS};
 
 use crate::limits::{Limits, bounded, row_limits, unbounded};
 use frac128::{Frac, Refused};
@@ -98,7 +99,7 @@ fn limits_at(
     ranges: &[Option<Frac>],
     place: usize,
 ) -> Result<Limits, Stop>
-    requires few { length rows.now ≤ 1000 }
+    requires few { length rows.now ≤ MAX_ROWS }
     requires row { place < length rows.now }
     requires side { length sides.now ≡ length rows.now }
     requires range { length ranges.now ≡ length rows.now }
@@ -121,7 +122,7 @@ pub fn limits_by_row(
     sides: &[Frac],
     ranges: &[Option<Frac>],
 ) -> Result<Vec<Limits>, Stop>
-    requires few { length rows.now ≤ 1000 }
+    requires few { length rows.now ≤ MAX_ROWS }
     requires side { length sides.now ≡ length rows.now }
     requires range { length ranges.now ≡ length rows.now }
     ensures limits { IfOk result (λ limits. limits.items ≡ limits_of_rows rows.now sides.now

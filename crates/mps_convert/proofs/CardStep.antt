@@ -10,7 +10,8 @@ use Rattle.deck_definitions.specs.DataCards.{style_begun, style_of, form_on}
 use Rattle.deck_definitions.specs.Sections.{is_section_card, section_begun, section_after}
 use Rattle.deck_definitions.specs.Described.{described}
 use Rattle.deck_definitions.specs.Conversion.{card_fault, data_card_fault}
-use Rattle.deck_definitions.proofs.Steps.{with_card, section_after-push, style_of-push, described-data, described-section}
+use Rattle.deck_definitions.proofs.Steps.{section_after-push, style_of-push, described-data, described-section}
+use Rattle.deck_definitions.specs.Steps.{with_card}
 use Rattle.mps_convert.specs.State.{state_of, state_with, with_data, fault_at}
 
 -- the fault of a card after others is that at the state after them

@@ -12,7 +12,8 @@ use Rattle.deck_definitions.specs.declared.Style.TheVariants.{FixedFields}
 use Rattle.deck_definitions.specs.Sections.{header_name}
 use Rattle.deck_definitions.specs.Described.{described}
 use Rattle.deck_definitions.specs.Conversion.{card_fault, first_faulty, fault_by, deck_fault, deck_name, conversion}
-use Rattle.deck_definitions.proofs.Converted.{ArePrintable, described-problem, printable_live}
+use Rattle.deck_definitions.proofs.Converted.{described-problem, printable_live}
+use Rattle.deck_definitions.specs.Readings.{ArePrintableCards}
 use Rattle.deck_definitions.specs.declared.DeckFault.{DeckFault}
 use Rattle.card_reader.specs.declared.stop.CardStop.{CardStop}
 use Rattle.card_reader.specs.declared.stop.CardStop.TheVariants.{Fault, NoMemory}
@@ -49,7 +50,7 @@ unfolding described
 named_as name cards problem is = ap (λ (p : Problem Name). record p { name = name }) is
 
 -- what a draft shows after the cards of a deck without a fault, under a name, is a problem
-pub is_problem : (deck : List Card) (own : Name) (problem : Problem Name) → IsName own → ArePrintable deck → fault_by card_fault deck ≡ None → problem ≡ described [] (live deck)
+pub is_problem : (deck : List Card) (own : Name) (problem : Problem Name) → IsName own → ArePrintableCards deck → fault_by card_fault deck ≡ None → problem ≡ described [] (live deck)
     → IsProblem (numbered (record problem { name = own }))
 is_problem deck own problem named printable fine is =
     subst (λ (p : Problem Name). IsProblem (numbered p)) (sym (named_as own (live deck) problem is)) (described-problem own (live deck) named (printable_live deck printable) (cards_fine deck None fine))

@@ -12,7 +12,7 @@ use Rattle.deck_definitions.specs.DataCards.{style_begun, style_of, form_on}
 use Rattle.deck_definitions.specs.Sections.{may_follow, is_section_card, section_begun, section_after}
 use Rattle.deck_definitions.specs.Described.{described}
 use Rattle.deck_definitions.specs.Conversion.{section_card_fault, data_card_fault}
-use Rattle.deck_definitions.proofs.Steps.{with_card}
+use Rattle.deck_definitions.specs.Steps.{with_card}
 
 -- the section that goes on, the style of the deck, and the problem described so far
 pub record State : Type 0 where

@@ -6,6 +6,7 @@ ghost use Rattle.deck_definitions.specs.Tests.{columns_fault};
 ghost use Rattle.deck_fields.specs.Reported.{ReportsDeckFault};
 ghost use Rattle.named_problem.specs.Views.{columns_alone};
 ghost use Rattle.deck_fields.specs.Views.{viewed};
+ghost use Rattle.problem_definitions.specs.declared.TheConstants.{MAX_ENTRIES};
 
 use crate::problem_draft::ProblemDraft;
 use card_reader::Card;
@@ -42,9 +43,9 @@ fn take_column(
     card: &DataCard<'_>,
 ) -> Result<(), CardStop<DeckFaultKind>>
     requires counted { entries.old ≡ sum_by (λ column. length column.items) columns.old }
-    requires few { entries.old ≤ 50000 }
+    requires few { entries.old ≤ MAX_ENTRIES }
     ensures counted { entries.new ≡ sum_by (λ column. length column.items) columns.new }
-    ensures few { entries.new ≤ 50000 }
+    ensures few { entries.new ≤ MAX_ENTRIES }
     ensures no_fault { OnOk result (columns_fault (columns_alone rows.now columns.old)
         (viewed card.now) ≡ None) }
     ensures step { OnOk result (columns.new ≡ in_set card.now.name1
@@ -79,7 +80,7 @@ pub struct DeckDraft {
     ranges: Groups,
     bounds: BoundSets,
     ghost counted: { entries ≡ sum_by (λ column. length column.items) columns },
-    ghost few: { entries ≤ 50000 },
+    ghost few: { entries ≤ MAX_ENTRIES },
 }
 
 impl DeckDraft {
@@ -88,7 +89,7 @@ impl DeckDraft {
     ghost use Rattle.deck_definitions.specs.declared.Style.TheVariants.{FixedFields};
     ghost use Rattle.deck_definitions.specs.DataCards.{style_begun};
     ghost use Rattle.deck_definitions.specs.Conversion.{section_fault, data_card_fault};
-    ghost use Rattle.deck_definitions.proofs.Steps.{with_card};
+    ghost use Rattle.deck_definitions.specs.Steps.{with_card};
     ghost use Rattle.mps_convert.specs.State.{with_data, fault_at, state_with};
     ghost use Rattle.deck_fields.specs.Reported.{ReportsDeckFault};
     ghost use Rattle.deck_fields.specs.Views.{viewed};

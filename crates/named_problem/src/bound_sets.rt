@@ -5,7 +5,7 @@ ghost use Rattle.card_definitions.specs.Words.{is_empty as is_none_left};
 ghost use Rattle.problem_definitions.specs.Kinds.{takes_value};
 ghost use Rattle.deck_definitions.specs.DataCards.{bound_of, bound_group};
 ghost use Rattle.deck_definitions.specs.Tests.{bound_value_fault, bounds_fault};
-ghost use Rattle.deck_definitions.proofs.Steps.{with_group};
+ghost use Rattle.deck_definitions.specs.Steps.{with_group};
 ghost use Rattle.deck_fields.specs.Reported.{ReportsDeckFault};
 ghost use Rattle.problem_definitions.specs.Groups.{in_group, in_set, in_all, without_group, filled, items_of};
 ghost use Rattle.problem_definitions.specs.Names.{same};

@@ -8,6 +8,7 @@ ghost use Rattle.deck_definitions.specs.Tests.{number_fault_from, value_fault, p
 ghost use Rattle.deck_fields.specs.Reported.{ReportsDeckFault};
 ghost use Rattle.named_problem.specs.Views.{rows_alone, pair_value_fault, parts_fault};
 ghost use Rattle.deck_fields.specs.Views.{viewed, pair_view};
+ghost use Rattle.card_definitions.specs.declared.TheConstants.{CARD_COLUMNS};
 
 use crate::entries::Entries;
 use crate::fault_after::fault_after;
@@ -46,7 +47,7 @@ pub fn row_of(rows: &Rows, section: Section, row: &Name) -> Result<FoundRow, Dec
 // The fault of a number in a field that begins in this column.
 fn fault_from(column: u8, fault: NumberFault) -> DeckFaultKind
     requires from_one { 1 ≤ column }
-    requires in_card { column ≤ 80 }
+    requires in_card { column ≤ CARD_COLUMNS }
     requires in_field { (place : ℕ) → fault ≡ BadCharacter place → place ≤ 12 }
     ensures { result ≡ number_fault_from column fault }
 {
@@ -64,7 +65,7 @@ fn fault_from(column: u8, fault: NumberFault) -> DeckFaultKind
 pub fn number_in(column: u8, field: &[u8]) -> Result<Decimal, DeckFaultKind>
     requires short { length field.now ≤ 12 }
     requires from_one { 1 ≤ column }
-    requires in_card { column ≤ 80 }
+    requires in_card { column ≤ CARD_COLUMNS }
     ensures value { IfOk result (λ v. v ≡ decimal_of field.now) }
     ensures no_fault { OnOk result (value_fault column field.now ≡ None) }
     ensures fault { IfErr result (λ kind. value_fault column field.now ≡ Some kind) }

@@ -10,7 +10,8 @@ use Rattle.simplex_laws.specs.Laws.{IsNonsingularBasis}
 use Rattle.simplex_laws.proofs.OnePath.{path_leads}
 use Rattle.parametric_laws.proofs.OneObjective.{lawful_objective}
 use Rattle.parametric_laws.proofs.OneRhs.{lawful_rhs}
-use Rattle.parametric_laws.proofs.Runs.{KeepsBases, objective_keeps, rhs_keeps}
+use Rattle.parametric_laws.proofs.Runs.{objective_keeps, rhs_keeps}
+use Rattle.parametric_laws.specs.Families.{KeepsBases}
 use Rattle.listing_definitions.specs.Report.{Check}
 use Rattle.question_definitions.specs.Answers.{Basis, Sheet, Changing, Row, Set, ParametricRun, ParametricRunEnd, Opening, Chained, ParametricRunLimit, OfParametricRun}
 use Rattle.answer_definitions.specs.ParametricRuns.{row_of, shifts_of, family_of, IsFace, sheet_at, interval_of, end_of, IsParametricRun}

@@ -175,20 +175,20 @@ module _ (C : Checker) (S : Solving) (Speaks : State → Report → Type 0) (Ope
   }
 
   module _ (decks : List (List Card)) where
-    abbrev Came : List Report → List (List ℕ) → State → Type 0
-    Came reports cards state = Reaches S program decks reports cards state
+    abbrev RunHasReached : List Report → List (List ℕ) → State → Type 0
+    RunHasReached reports cards state = Reaches S program decks reports cards state
 
     abbrev Seen : List Report → List (List ℕ) → State → Type 0
     Seen reports cards state = Reaches (attested C) program decks reports cards state
 
-    abbrev count : {reports : List Report} {cards : List (List ℕ)} {state : State} → Came reports cards state → ℕ
+    abbrev count : {reports : List Report} {cards : List (List ℕ)} {state : State} → RunHasReached reports cards state → ℕ
     count came = steps S Speaks program decks came
 
     abbrev seen_count : {reports : List Report} {cards : List (List ℕ)} {state : State} → Seen reports cards state → ℕ
     seen_count seen = steps (attested C) (Says C) program decks seen
 
     -- after as many statements
-    same_so_far : (reports others : List Report) (cards other_cards : List (List ℕ)) (state other : State) (first : Came reports cards state) (second : Seen others other_cards other) →
+    same_so_far : (reports others : List Report) (cards other_cards : List (List ℕ)) (state other : State) (first : RunHasReached reports cards state) (second : Seen others other_cards other) →
         HoldSoFar S Speaks program decks first → HoldSoFar (attested C) (Says C) program decks second → count first ≡ seen_count second → AreAlike (made_so_far S program decks first) reports others state other
     same_so_far _ _ _ _ _ _ begun begun holds also e = record { tell = tt; stand = standing (start decks) None None no_setup; beside = tt }
     same_so_far _ _ _ _ _ _ begun (stepped gain after before step) holds also e = absurd (omega arith)
@@ -211,7 +211,7 @@ module _ (C : Checker) (S : Solving) (Speaks : State → Report → Type 0) (Ope
       step : Step (attested C) program other (Goes gain after)
       says : All (Says C other) (printed_by gain)
 
-    ahead : (reports others : List Report) (cards other_cards : List (List ℕ)) (state other : State) (first : Came reports cards state) (second : Seen others other_cards other) →
+    ahead : (reports others : List Report) (cards other_cards : List (List ℕ)) (state other : State) (first : RunHasReached reports cards state) (second : Seen others other_cards other) →
         HoldSoFar S Speaks program decks first → HoldSoFar (attested C) (Says C) program decks second → count first < seen_count second →
         IsAhead (made_so_far S program decks first) reports state others
     ahead _ _ _ _ _ _ first begun holds also e = absurd (omega (arith, e))
@@ -257,7 +257,7 @@ module _ (C : Checker) (S : Solving) (Speaks : State → Report → Type 0) (Ope
       step : Step S program state (Goes gain after)
       speaks : All (Speaks state) (printed_by gain)
 
-    behind : (reports others : List Report) (cards other_cards : List (List ℕ)) (state other : State) (first : Came reports cards state) (second : Seen others other_cards other) →
+    behind : (reports others : List Report) (cards other_cards : List (List ℕ)) (state other : State) (first : RunHasReached reports cards state) (second : Seen others other_cards other) →
         HoldSoFar S Speaks program decks first → HoldSoFar (attested C) (Says C) program decks second → seen_count second < count first → IsBehind other
     behind _ _ _ _ _ _ begun second holds also e = absurd (omega (arith, e))
     behind _ others _ other_cards _ other (stepped {reports} {cards} {state} gain after before step) second holds also e =

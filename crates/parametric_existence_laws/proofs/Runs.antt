@@ -15,7 +15,8 @@ use Rattle.simplex_laws.specs.Laws.{IsNonsingularBasis, RuleEndsWithin}
 use Rattle.simplex_laws.proofs.Ends.{optimal_end}
 use Rattle.simplex_laws.proofs.Goes.{ends_or_goes_on}
 use Rattle.parametric_laws.specs.Laws.{Faces}
-use Rattle.parametric_laws.proofs.Runs.{KeepsBases, opening_leads}
+use Rattle.parametric_laws.proofs.Runs.{opening_leads}
+use Rattle.parametric_laws.specs.Families.{KeepsBases}
 use Rattle.existence_laws.proofs.Reaching.{tableau_of}
 use Rattle.parametric_existence_laws.specs.Laws.{EndsRun, HasReports}
 

@@ -17,7 +17,8 @@ use Rattle.simplex_definitions.specs.Chain.{Part, ChainEnd, RunReport, FailedOpe
 use Rattle.simplex_definitions.specs.ObjectiveRun.{objective_family, IsObjectiveFace}
 use Rattle.simplex_definitions.specs.RhsRun.{rhs_family, IsRhsFace}
 use Rattle.parametric_laws.specs.Laws.{SameReports}
-use Rattle.parametric_laws.proofs.Runs.{KeepsBases, face_step_leads, face_path_leads, opening_leads, objective_keeps, rhs_keeps}
+use Rattle.parametric_laws.proofs.Runs.{face_step_leads, face_path_leads, opening_leads, objective_keeps, rhs_keeps}
+use Rattle.parametric_laws.specs.Families.{KeepsBases, HasOneFace}
 use Rattle.parametric_laws.proofs.OneObjective.{lawful_objective, one_objective_face}
 use Rattle.parametric_laws.proofs.OneRhs.{lawful_rhs, one_rhs_face}
 
@@ -72,13 +73,6 @@ abbrev pub IsStill : FaceTurn → Type 0
 IsStill (FaceMoves m) = ⊥
 IsStill FaceDone = Unit {0}
 IsStill (FaceEnds end) = Unit {0}
-
--- what is asked of a family: it keeps bases, each of its programs is one, of one size, and one thing is done at a breakpoint
-pub record HasOneFace (p : LinearProgram) (family : ℚ → LinearProgram) (Face : ℚ → List Status → FaceTurn → Type 0) : Type 0 where
-  pub keeps : KeepsBases p family Face
-  pub lawful : (theta : ℚ) → IsLinearProgram (family theta)
-  pub sized : (theta : ℚ) → size (family theta).matrix ≡ size p.matrix
-  pub one_face : (theta : ℚ) (s : List Status) (turn other : FaceTurn) → IsNonsingularBasis p s → Face theta s turn → Face theta s other → turn ≡ other
 
 pub one_reach : (family : ℚ → LinearProgram) (s : List Status) (from max to other : ℚ) → ReachesTo family s from max to → ReachesTo family s from max other → to ≡ other
 one_reach family s from max to other first second = le_antisymm (second.greatest to first.within first.optimal) (first.greatest other second.within second.optimal)

@@ -13,16 +13,11 @@ use Rattle.simplex_definitions.specs.RhsRun.{rhs_family, IsRhsFace}
 use Rattle.parametric_laws.specs.Laws.{LeadsToBases}
 use Rattle.parametric_laws.proofs.Objective.{to_objective, from_objective, objective_leads}
 use Rattle.parametric_laws.proofs.Rhs.{to_rhs, from_rhs, rhs_leads}
+use Rattle.parametric_laws.specs.Families.{KeepsBases}
 
 pub last_of-append : (s : List Status) (first second : List (List Status)) → last_of s (first ++ second) ≡ last_of (last_of s first) second
 last_of-append s [] second = refl
 last_of-append s (next ∷ first) second = last_of-append next first second
-
--- what is asked of a family: its programs have the nonsingular bases of p, and its face steps lead from one to another
-pub record KeepsBases (p : LinearProgram) (family : ℚ → LinearProgram) (Face : ℚ → List Status → FaceTurn → Type 0) : Type 0 where
-  pub to_family : (theta : ℚ) (s : List Status) → IsNonsingularBasis p s → IsNonsingularBasis (family theta) s
-  pub from_family : (theta : ℚ) (s : List Status) → IsNonsingularBasis (family theta) s → IsNonsingularBasis p s
-  pub face_leads : (theta : ℚ) (s : List Status) (m : Move) → IsNonsingularBasis p s → Face theta s (FaceMoves m) → IsNonsingularBasis p (after s m)
 
 module _ (p : LinearProgram) (family : ℚ → LinearProgram) (Face : ℚ → List Status → FaceTurn → Type 0) (keeps : KeepsBases p family Face) where
   pub face_step_leads : (theta : ℚ) (s next : List Status) → IsNonsingularBasis p s → IsFaceStep family Face theta s next → IsNonsingularBasis p next

@@ -13,7 +13,8 @@ use Rattle.simplex_definitions.specs.Path.{last_of}
 use Rattle.simplex_laws.specs.Laws.{IsNonsingularBasis}
 use Rattle.simplex_definitions.specs.Chain.{RunReport, FailedOpening, Chain, FaceTurn, IsReport}
 use Rattle.parametric_laws.specs.Laws.{SameReports}
-use Rattle.parametric_laws.proofs.OneRun.{HasOneFace, one_report}
+use Rattle.parametric_laws.proofs.OneRun.{one_report}
+use Rattle.parametric_laws.specs.Families.{HasOneFace}
 use Rattle.parametric_laws.proofs.NotBoth.{not_both}
 use Rattle.bounded_primal.specs.declared.moves.PrimalStop.{PrimalStop}
 use Rattle.bounded_primal.specs.declared.moves.PrimalStop.TheVariants.{Limit, Overflow, NoMemory}

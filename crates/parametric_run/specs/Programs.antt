@@ -10,7 +10,7 @@ use Rattle.simplex_definitions.specs.Chain.{Part, FaceDone, IsPart}
 use Rattle.simplex_definitions.specs.Statements.{SolvingStatement}
 use Rattle.simplex_laws.specs.Laws.{IsNonsingularBasis}
 use Rattle.parametric_laws.specs.Laws.{Faces, HasTrueRuns}
-use Rattle.parametric_laws.proofs.OneRun.{HasOneFace}
+use Rattle.parametric_laws.specs.Families.{HasOneFace}
 
 -- a run that begins at a value counts as this statement; is_change s v says that v is how the basis s moves with the parameter; and
 -- the evidence of no_program shows that the program at a value can't be made

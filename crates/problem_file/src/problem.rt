@@ -2,6 +2,7 @@
 ghost use Rattle.std.specs.Prelude.{◌≡◌, ◌≤◌, length};
 ghost use Rattle.problem_definitions.specs.Problem.{entry_count};
 ghost use Rattle.problem_definitions.specs.Valid.{IsProblem};
+ghost use Rattle.problem_definitions.specs.declared.TheConstants.{MAX_ROWS, MAX_COLUMNS};
 
 use crate::parts::{BoundSet, ColumnDecl, RowDecl, ValueSet};
 use name_table::Name;
@@ -122,7 +123,7 @@ impl Problem {
     /// How many rows there are: at most 1,000.
     pub fn row_count(&self) -> u32
         ensures count { result ≡ length self.now.rows }
-        ensures few { result ≤ 1000 }
+        ensures few { result ≤ MAX_ROWS }
     {
         self.rows.len() as u32
     }
@@ -130,7 +131,7 @@ impl Problem {
     /// How many columns there are: at most 5,000.
     pub fn column_count(&self) -> u32
         ensures count { result ≡ length self.now.columns }
-        ensures few { result ≤ 5000 }
+        ensures few { result ≤ MAX_COLUMNS }
     {
         self.columns.len() as u32
     }

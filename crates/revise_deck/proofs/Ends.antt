@@ -10,7 +10,8 @@ use Rattle.problem_definitions.specs.Valid.{IsName, IsProblem}
 use Rattle.problem_definitions.proofs.Lawful.{lawful-numbered}
 use Rattle.deck_definitions.specs.declared.Style.TheVariants.{FixedFields}
 use Rattle.deck_definitions.specs.Conversion.{first_faulty, fault_by, deck_name}
-use Rattle.deck_definitions.proofs.Converted.{ArePrintable, printable_live}
+use Rattle.deck_definitions.proofs.Converted.{printable_live}
+use Rattle.deck_definitions.specs.Readings.{ArePrintableCards}
 use Rattle.deck_definitions.specs.declared.DeckFault.{DeckFault}
 use Rattle.card_reader.specs.declared.stop.CardStop.{CardStop}
 use Rattle.card_reader.specs.declared.stop.CardStop.TheVariants.{Fault, NoMemory}
@@ -46,7 +47,7 @@ module _ (old : Problem ℕ) (deck : List Card) (name : Option Name) where
   cards_fine fine = no_first (first_faulty (revise_card_fault (by_names old)) [] (live deck)) _ fine
 
 -- the revised problem, under a name, is a problem
-pub is_problem : (old : Problem ℕ) (deck : List Card) (own : Name) (problem : Problem Name) → IsProblem old → IsName own → ArePrintable deck → fault_by (revise_card_fault (by_names old)) deck ≡ None
+pub is_problem : (old : Problem ℕ) (deck : List Card) (own : Name) (problem : Problem Name) → IsProblem old → IsName own → ArePrintableCards deck → fault_by (revise_card_fault (by_names old)) deck ≡ None
     → problem ≡ revised (by_names old) (live deck) → IsProblem (numbered (record problem { name = own }))
 is_problem old deck own problem lawful named printable fine is =
     subst (λ (p : Problem Name). IsProblem (numbered (record p { name = own }))) (sym is)

@@ -23,7 +23,8 @@ use Rattle.deck_definitions.specs.declared.DeckFaultKind.TheVariants.{ColumnSpli
 use Rattle.deck_definitions.specs.declared.Section.TheVariants.{Columns}
 use Rattle.deck_definitions.specs.DataCards.{pairs_of, entries_of}
 use Rattle.deck_definitions.specs.Tests.{kind_filled, marks, pairs_fault}
-use Rattle.deck_definitions.proofs.CardTexts.{IsReading, pairs-short}
+use Rattle.deck_definitions.proofs.CardTexts.{pairs-short}
+use Rattle.deck_definitions.specs.Readings.{IsReading}
 use Rattle.deck_definitions.proofs.Accepted.{pairs-lawful, pairs-few, pairs-plain, pairs-unmarked, not_full}
 use Rattle.revise_definitions.specs.Actions.{Edit}
 use Rattle.revise_definitions.specs.Edits.{place_of, goes_on, insert_column, delete_column, without_row, without_column, put_entries}

@@ -21,8 +21,10 @@ use Rattle.deck_definitions.specs.Sections.{is_section_card, section_after, is_s
 use Rattle.deck_definitions.specs.declared.Style.{Style}
 use Rattle.deck_definitions.specs.DataCards.{style_of, form_on}
 use Rattle.deck_definitions.specs.Conversion.{section_card_fault, form_fault, first_faulty, deck_name}
-use Rattle.deck_definitions.proofs.CardTexts.{IsReading, reading-lawful}
-use Rattle.deck_definitions.proofs.Converted.{ArePrintable, printable_live, deck_name-name}
+use Rattle.deck_definitions.proofs.CardTexts.{reading-lawful}
+use Rattle.deck_definitions.specs.Readings.{IsReading}
+use Rattle.deck_definitions.proofs.Converted.{printable_live, deck_name-name}
+use Rattle.deck_definitions.specs.Readings.{ArePrintableCards}
 use Rattle.revise_definitions.specs.declared.Action.{Action}
 use Rattle.revise_definitions.specs.declared.Action.TheVariants.{Modify, Delete, Before, After}
 use Rattle.revise_definitions.specs.Actions.{deletes, is_action_card, action_on, anchor_on, action_after, anchor_after, under_after, edit_in, edit_of, is_heading}
@@ -147,7 +149,7 @@ module _ (old : Problem Name) where
   no_kind f None h = refl
   no_kind f (Some x) h = absurd (cc h)
 
-  accepted-cards : (before after : List Card) → ArePrintable after → IsLawful (revised old before) → first_faulty (revise_card_fault old) before after ≡ None → IsLawful (revised old (before ++ after))
+  accepted-cards : (before after : List Card) → ArePrintableCards after → IsLawful (revised old before) → first_faulty (revise_card_fault old) before after ≡ None → IsLawful (revised old (before ++ after))
   accepted-cards before [] printable lawful fine = subst (λ cards. IsLawful (revised old cards)) (sym (append-nil before)) lawful
   accepted-cards before (card ∷ after) printable lawful fine =
       let kind = no_first (option_map (λ kind. record { card = card.number; kind = kind }) (revise_card_fault old before card.bytes)) (first_faulty (revise_card_fault old) (before ++ card ∷ []) after) fine in
@@ -156,7 +158,7 @@ module _ (old : Problem Name) where
       subst (λ cards. IsLawful (revised old cards)) (append_assoc before (card ∷ []) after) (accepted-cards (before ++ card ∷ []) after printable.1 step rest)
 
   -- the cards in which no fault was found make a lawful problem of a lawful one
-  pub revised-lawful : (cards : List Card) → IsLawful old → ArePrintable cards → first_faulty (revise_card_fault old) [] cards ≡ None → IsLawful (revised old cards)
+  pub revised-lawful : (cards : List Card) → IsLawful old → ArePrintableCards cards → first_faulty (revise_card_fault old) [] cards ≡ None → IsLawful (revised old cards)
   unfolding revised
   revised-lawful cards lawful printable fine = accepted-cards [] cards printable lawful fine
 
@@ -176,7 +178,7 @@ renamed name p lawful = record {
 }
 
 -- What a REVISE deck of printable cards makes of a lawful problem, under a name or its own, is a lawful problem.
-pub revision-problem : (old : Problem ℕ) (deck : List Card) (name : Option Name) (new : Problem ℕ) → IsProblem old → ArePrintable deck → IfSome name IsName → revision old deck name ≡ Ok new → IsProblem new
+pub revision-problem : (old : Problem ℕ) (deck : List Card) (name : Option Name) (new : Problem ℕ) → IsProblem old → ArePrintableCards deck → IfSome name IsName → revision old deck name ≡ Ok new → IsProblem new
 unfolding revision revise_fault
 revision-problem old deck name new is printable named_by revised_to = by (first_faulty (revise_card_fault (by_names old)) [] (live deck)) refl revised_to
   where

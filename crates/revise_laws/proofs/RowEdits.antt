@@ -27,7 +27,8 @@ use Rattle.deck_definitions.specs.declared.DeckFaultKind.TheVariants.{BadRowType
 use Rattle.deck_definitions.specs.declared.Section.TheVariants.{Rows}
 use Rattle.deck_definitions.specs.DataCards.{row_kinds, combination_kinds, combination_text, is_card_of, part_pairs_of, parts_on, kind_on, row_of}
 use Rattle.deck_definitions.specs.Tests.{filled_from_3, pairs_fault, row_fields_fault, rows_fault}
-use Rattle.deck_definitions.proofs.CardTexts.{IsReading, part_pairs-short}
+use Rattle.deck_definitions.proofs.CardTexts.{part_pairs-short}
+use Rattle.deck_definitions.specs.Readings.{IsReading}
 use Rattle.deck_definitions.proofs.Accepted.{pairs-lawful, not_full}
 use Rattle.revise_definitions.specs.Actions.{Edit}
 use Rattle.revise_definitions.specs.Edits.{row_place, goes_on_row, earlier_rows, insert_row, retyped, modify_row, delete_row, put_entries, without_row}

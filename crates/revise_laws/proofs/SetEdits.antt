@@ -23,7 +23,8 @@ use Rattle.deck_definitions.specs.declared.DeckFaultKind.TheVariants.{UnknownCol
 use Rattle.deck_definitions.specs.declared.Section.TheVariants.{Rhs, Ranges}
 use Rattle.deck_definitions.specs.DataCards.{entry_of, pairs_of, entries_of, bound_kinds, bound_of}
 use Rattle.deck_definitions.specs.Tests.{kind_filled, filled_from_5, value_fault, bound_value_fault, of_bound_type}
-use Rattle.deck_definitions.proofs.CardTexts.{IsReading, pairs-short, text_is_decimal}
+use Rattle.deck_definitions.proofs.CardTexts.{pairs-short, text_is_decimal}
+use Rattle.deck_definitions.specs.Readings.{IsReading}
 use Rattle.deck_definitions.proofs.Accepted.{no_value_fault}
 use Rattle.revise_definitions.specs.Edits.{put_entries, put_bound, without_row, without_column, delete_items}
 use Rattle.revise_definitions.specs.Tests.{puts_fault, modify_sets_fault, modify_bound_fault}

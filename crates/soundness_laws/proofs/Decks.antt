@@ -12,7 +12,7 @@ use Rattle.problem_definitions.specs.Names.{Name}
 use Rattle.deck_definitions.specs.declared.Section.TheVariants.{Endata}
 use Rattle.deck_definitions.specs.Sections.{begins}
 use Rattle.deck_definitions.specs.Decks.{parts_ended_by, decks_of, is_wanted, first_and_rest, deck_taken}
-use Rattle.deck_definitions.proofs.Converted.{ArePrintable}
+use Rattle.deck_definitions.specs.Readings.{ArePrintableCards}
 use Rattle.control_definitions.specs.Program.{Program}
 use Rattle.run_definitions.specs.Answer.{job_decks}
 
@@ -23,11 +23,11 @@ printable_card card none =
     not-false (list_all is_printable card.bytes) (test_fails (not (list_all is_printable card.bytes)) (NotPrintable card.number) (passes (
     (not (list_all is_printable card.bytes) ⟹ NotPrintable card.number) ∷ (ltb CARD_COLUMNS (length card.bytes) ⟹ CardTooLong card.number) ∷ []) none).0)
 
-printable_cards : (cards : List Card) → AllByRecursion (λ test. test ≡ None) (map card_fault cards) → ArePrintable cards
+printable_cards : (cards : List Card) → AllByRecursion (λ test. test ≡ None) (map card_fault cards) → ArePrintableCards cards
 printable_cards [] none = tt
 printable_cards (card ∷ cards) none = (printable_card card none.0, printable_cards cards none.1)
 
-printable_job : (bytes : List ℕ) → job_fault bytes ≡ None → ArePrintable (numbered_cards (cards_of bytes))
+printable_job : (bytes : List ℕ) → job_fault bytes ≡ None → ArePrintableCards (numbered_cards (cards_of bytes))
 unfolding job_fault
 printable_job bytes none = printable_cards (numbered_cards (cards_of bytes)) (passes ((is_too_long bytes ⟹ TooLong) ∷ map card_fault (numbered_cards (cards_of bytes))) none).1
 
@@ -73,19 +73,19 @@ module _ {X : Type 0} (P : X → Type 0) where
 abbrev IsPrintable : Card → Type 0
 IsPrintable card = list_all is_printable card.bytes ≡ true
 
-decks_printable : (cards : List Card) → ArePrintable cards → AllByRecursion ArePrintable (decks_of cards)
+decks_printable : (cards : List Card) → ArePrintableCards cards → AllByRecursion ArePrintableCards (decks_of cards)
 unfolding decks_of
 decks_printable cards printable =
-    passing ArePrintable (λ deck. not (is_empty deck)) (map (without_leading (λ (card : Card). is_skipped card.bytes)) (parts_ended_by (begins Endata) cards))
+    passing ArePrintableCards (λ deck. not (is_empty deck)) (map (without_leading (λ (card : Card). is_skipped card.bytes)) (parts_ended_by (begins Endata) cards))
     (trimmed IsPrintable (λ (card : Card). is_skipped card.bytes) (parts_ended_by (begins Endata) cards) (in_parts IsPrintable (begins Endata) cards printable))
 
 -- the decks of a job whose cards have no fault
-pub job_printable : (bytes : List ℕ) (program : Program) → job_fault bytes ≡ None → AllByRecursion ArePrintable (job_decks program bytes)
+pub job_printable : (bytes : List ℕ) (program : Program) → job_fault bytes ≡ None → AllByRecursion ArePrintableCards (job_decks program bytes)
 job_printable bytes program none = decks_printable (drop (program.decks_from - 1) (numbered_cards (cards_of bytes))) (dropped IsPrintable (program.decks_from - 1) (numbered_cards (cards_of bytes)) (printable_job bytes none))
 
 -- a deck that is taken, and those that are left
-pub taken_printable : (name : Option Name) (decks : List (List Card)) (taken : List Card × List (List Card)) → AllByRecursion ArePrintable decks → deck_taken name decks ≡ Some taken →
-    ArePrintable taken.0 × AllByRecursion ArePrintable taken.1
+pub taken_printable : (name : Option Name) (decks : List (List Card)) (taken : List Card × List (List Card)) → AllByRecursion ArePrintableCards decks → deck_taken name decks ≡ Some taken →
+    ArePrintableCards taken.0 × AllByRecursion ArePrintableCards taken.1
 unfolding deck_taken
 taken_printable name decks taken printable e =
-    first_of ArePrintable (without_leading (λ deck. not (is_wanted name deck)) decks) taken (dropped ArePrintable (prefix_len (λ deck. not (is_wanted name deck)) decks) decks printable) e
+    first_of ArePrintableCards (without_leading (λ deck. not (is_wanted name deck)) decks) taken (dropped ArePrintableCards (prefix_len (λ deck. not (is_wanted name deck)) decks) decks printable) e

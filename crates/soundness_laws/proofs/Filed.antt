@@ -17,7 +17,8 @@ use Rattle.deck_definitions.specs.declared.DeckFault.{DeckFault}
 use Rattle.deck_definitions.specs.Conversion.{conversion}
 use Rattle.deck_definitions.specs.Decks.{deck_taken}
 use Rattle.basis_deck_definitions.specs.Reading.{basis_reading}
-use Rattle.deck_definitions.proofs.Converted.{ArePrintable, conversion-problem}
+use Rattle.deck_definitions.proofs.Converted.{conversion-problem}
+use Rattle.deck_definitions.specs.Readings.{ArePrintableCards}
 use Rattle.control_definitions.specs.declared.NameCell.{NameCell}
 use Rattle.control_definitions.specs.declared.NameCell.TheVariants.{Xdata, Xpbname, Xobj, Xrhs, Xoldname, Xchrow, Xchcol}
 use Rattle.control_definitions.specs.declared.NumberCell.{NumberCell}
@@ -52,7 +53,7 @@ use Rattle.soundness_laws.proofs.Named.{MovesName, HasNames, compiled_named, sta
 pub record AreLawful (state : State) : Type 0 where
   pub file : AllByRecursion IsProblem state.file
   pub setup : HasProblem state.setup
-  pub decks : AllByRecursion ArePrintable state.decks
+  pub decks : AllByRecursion ArePrintableCards state.decks
   pub name : IfSome state.cells.xpbname IsName
 
 without_setup : HasProblem None
@@ -196,7 +197,7 @@ module _ (S : Solving) where
   pathed solver card present state lawful is PathLimit = tt
   pathed solver card present state lawful is (PricesWrong j) = tt
 
-  installed : (card : ℕ) (lp : LinearProgram) (s : Basis) (taken : List Card × List (List Card)) (present : Present) (state : State) → AreLawful state → AllByRecursion ArePrintable taken.1 →
+  installed : (card : ℕ) (lp : LinearProgram) (s : Basis) (taken : List Card × List (List Card)) (present : Present) (state : State) → AreLawful state → AllByRecursion ArePrintableCards taken.1 →
       IsProblem present.problem → (end : InstallEnd) → Leads (after_install card lp s taken present state end)
   installed card lp s taken present state lawful printable is Installed =
       record { file = lawful.file; setup = with_setup (record present { opening = s; steps = [] }) is; decks = printable; name = lawful.name }
@@ -292,7 +293,7 @@ module _ (S : Solving) where
       (verb_led step.statement.verb step.statement.card (counted state) (statement_at program _ step.statement names step.is_at_position)
       (record { file = lawful.file; setup = lawful.setup; decks = lawful.decks; name = lawful.name })).by outcome step.gives
 
-  reaching : (program : Program) (decks : List (List Card)) (reports : List Report) (cards : List (List ℕ)) (state : State) → HasNames program → AllByRecursion ArePrintable decks →
+  reaching : (program : Program) (decks : List (List Card)) (reports : List Report) (cards : List (List ℕ)) (state : State) → HasNames program → AllByRecursion ArePrintableCards decks →
       Reaches S program decks reports cards state → AreLawful state
   reaching program decks _ _ _ names printable begun = record { file = tt; setup = without_setup; decks = printable; name = tt }
   reaching program decks _ _ _ names printable (stepped {reports} {cards} {state} gain after before step) =

@@ -2,7 +2,7 @@
 --     Reaches C program decks listing w    the walk of a checker comes so far
 --     EndsIn C bytes listing found          a listing of a job is found so
 --     Answers C bytes listing answer       it is too long, or what it is found to be
---     line_of listing rest                 the line that begins where so much is left
+--     line_number listing rest             the line that begins where so much is left
 --     answer_text listing answer           what is printed of it
 use Rattle.std.specs.Prelude.{◌≡◌, ℕ, ◌+◌, ◌-◌, ◌≤◌, ◌<◌, ◌==◌, List, [], ◌∷◌, Option, Some, None, Err, length, filter, codes}
 use Rattle.std.specs.List.{concat}
@@ -46,11 +46,11 @@ pub data Answers (C : Checker) (bytes listing : List ℕ) : Option Found → Typ
 abbrev pub line_feeds : List ℕ → ℕ
 line_feeds bytes = length (filter (λ byte. byte == 10) bytes)
 
-abbrev pub line_of : List ℕ → List ℕ → ℕ
-line_of listing rest = line_feeds listing - line_feeds rest + 1
+abbrev pub line_number : List ℕ → List ℕ → ℕ
+line_number listing rest = line_feeds listing - line_feeds rest + 1
 
 abbrev pub line_text : List ℕ → List ℕ → List ℕ → List ℕ
-line_text word listing rest = concat (word ∷ codes " LINE " ∷ digits (line_of listing rest) ∷ codes "\n" ∷ [])
+line_text word listing rest = concat (word ∷ codes " LINE " ∷ digits (line_number listing rest) ∷ codes "\n" ∷ [])
 
 abbrev pub answer_text : List ℕ → Option Found → List ℕ
 answer_text listing None = codes "LONG LISTING\n"

@@ -6,7 +6,8 @@ use Rattle.simplex_definitions.specs.Chain.{FaceTurn}
 use Rattle.simplex_definitions.specs.ObjectiveRun.{objective_family, IsObjectiveFace}
 use Rattle.simplex_definitions.specs.RhsRun.{rhs_family, IsRhsFace}
 use Rattle.parametric_laws.specs.Laws.{HasOneReport}
-use Rattle.parametric_laws.proofs.OneRun.{HasOneFace, one_report, objective_faces, rhs_faces}
+use Rattle.parametric_laws.proofs.OneRun.{one_report, objective_faces, rhs_faces}
+use Rattle.parametric_laws.specs.Families.{HasOneFace}
 use Rattle.parametric_laws.proofs.NotBoth.{not_both}
 use Rattle.parametric_laws.proofs.report_laws.Goals as goal
 

@@ -7,12 +7,13 @@ use Rattle.card_reader.specs.Spans.{IsWithin, cards_at, span_bytes}
 use Rattle.card_reader.proofs.CardLemmas.{cards_done, cards_left, cards_more, length-cards_at}
 use Rattle.card_reader.proofs.FaultLemmas.{fault_of_cards, fault_of_cards-append, faultless, job_fault-cards, job_fault-within}
 use Rattle.card_reader.proofs.cut.cut_cards.Goals as goal
+use Rattle.card_definitions.specs.declared.TheConstants.{MAX_JOB_CARDS}
 
 pub returns-then-len-eq-MAX_JOB_CARDS-clause-fault : goal.returns-then-len-eq-MAX_JOB_CARDS-clause-fault
 returns-then-len-eq-MAX_JOB_CARDS-clause-fault c =
     let bytes = c.args.bytes.now in
     let spans = c.loop-start.spans.items in
-    let many : 200000 < length (cards_of bytes) = omega (arith, length-cards_at bytes spans, cards_left bytes c.loop-start.start (cards_at bytes spans) c.loop-start-test.true c.loop-start.invariant.cards) in
+    let many : MAX_JOB_CARDS < length (cards_of bytes) = omega (arith, length-cards_at bytes spans, cards_left bytes c.loop-start.start (cards_at bytes spans) c.loop-start-test.true c.loop-start.invariant.cards) in
     job_fault-cards bytes many
 
 pub loop-start-preserved : goal.loop-start-preserved

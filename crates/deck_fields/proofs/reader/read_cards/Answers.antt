@@ -5,7 +5,7 @@ use Rattle.card_definitions.proofs.Numbered.{live-append}
 use Rattle.deck_definitions.specs.declared.Section.TheVariants.{Endata}
 use Rattle.deck_definitions.specs.Sections.{is_section_after}
 use Rattle.deck_definitions.specs.Conversion.{first_faulty}
-use Rattle.deck_definitions.proofs.Converted.{ArePrintable}
+use Rattle.deck_definitions.specs.Readings.{ArePrintableCards}
 use Rattle.deck_fields.proofs.Between.{cards_up_to, cards_more, nothing_yet, next_printable}
 use Rattle.deck_fields.proofs.FirstFaulty.{next_fine, stop_at, unended}
 use Rattle.deck_fields.proofs.reader.read_cards.Goals as goal
@@ -16,7 +16,7 @@ loop-number-init g c =
     record {
       made = subst (g.D.Draft.is_made_of c.args.draft.now c.args.draft.now) (ap live (sym nothing)) c.requires.start;
       no_fault = ap (λ cards. first_faulty (g.D.Draft.test c.args.draft.now) [] (live cards)) nothing;
-      printable = subst ArePrintable (sym nothing) tt;
+      printable = subst ArePrintableCards (sym nothing) tt;
     }
 
 pub loop-number-preserved : goal.loop-number-preserved

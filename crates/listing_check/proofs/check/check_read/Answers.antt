@@ -1,10 +1,11 @@
-use Rattle.std.proofs.Common.{ap, Err, ◌≡◌, ◌∙◌, take}
+use Rattle.std.proofs.Common.{ap, Err, ◌≡◌, ◌∙◌, take, ◌+◌}
 use Rattle.listing_check.specs.declared.status.CheckStatus.TheVariants.{ListingFault}
 use Rattle.listing_check.specs.Answer.{listing_fault_text}
 use Rattle.listing_check.specs.Reads.{listing_fault, says}
 use Rattle.listing_check.proofs.Lengths.{some_of}
 use Rattle.listing_check.proofs.Reporting.{tells_too}
 use Rattle.listing_check.proofs.check.check_read.Goals as goal
+use Rattle.walk_definitions.specs.Found.{max_listing}
 
 pub returns-in-Ok-clause-tells : goal.returns-in-Ok-clause-tells
 returns-in-Ok-clause-tells g c =
@@ -17,7 +18,7 @@ returns-in-Ok-clause-tells g c =
       listing_read = λ e. c.in-Ok.ensures.whole;
       listing_same = λ e. absurd e;
       is_job = λ bytes is. is;
-      is_listing = λ lines is. c.deref.ensures.value ∙ some_of (λ left. c.in-Ok.bytes.items ≡ take 64000001 left) (g.L.Source.given c.args.listing.now).left lines is c.in-Ok.ensures.bytes;
+      is_listing = λ lines is. c.deref.ensures.value ∙ some_of (λ left. c.in-Ok.bytes.items ≡ take (max_listing + 1) left) (g.L.Source.given c.args.listing.now).left lines is c.in-Ok.ensures.bytes;
     }) c.check_bytes.result c.check_bytes.ensures
 
 pub returns-in-Err-Failed-clause-tells : goal.returns-in-Err-Failed-clause-tells

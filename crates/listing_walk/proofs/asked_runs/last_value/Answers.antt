@@ -1,7 +1,7 @@
 use Rattle.std.proofs.Common.{refl, sym, ◌∙◌}
 use Rattle.parametric_request.specs.Asking.{no_last}
 use Rattle.parametric_request.proofs.Asked.{last_serves, last_is_less}
-use Rattle.listing_walk.specs.Parametric_verbs.{beginning}
+use Rattle.listing_walk.specs.ParametricVerbs.{beginning}
 use Rattle.listing_walk.proofs.asked_runs.last_value.Goals as goal
 
 pub returns-in_default-clause-refused : goal.returns-in_default-clause-refused

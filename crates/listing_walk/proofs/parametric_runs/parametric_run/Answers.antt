@@ -4,7 +4,7 @@ use Rattle.run_definitions.specs.State.{choice_of}
 use Rattle.run_machine.specs.declared.finding.Finding.{Finding}
 use Rattle.run_machine.specs.Findings.{act_of}
 use Rattle.listing_definitions.specs.Numbers.{rational_text}
-use Rattle.listing_walk.specs.Parametric_verbs.{left_by}
+use Rattle.listing_walk.specs.ParametricVerbs.{left_by}
 use Rattle.listing_walk.specs.Standing.{holding}
 use Rattle.listing_walk.proofs.Selected.{as_many_rows, as_many_columns, no_change}
 use Rattle.listing_walk.proofs.Parametric_walks.{serves_change, left_so, parametric_long_sound, parametric_sound}

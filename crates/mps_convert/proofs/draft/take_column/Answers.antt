@@ -5,6 +5,7 @@ use Rattle.named_problem.specs.Views.{columns_alone}
 use Rattle.deck_fields.specs.Views.{viewed}
 use Rattle.mps_convert.proofs.DataTaken.{few_left}
 use Rattle.mps_convert.proofs.draft.take_column.Goals as goal
+use Rattle.problem_definitions.specs.declared.TheConstants.{MAX_ENTRIES}
 
 pub returns-in-Ok-clause-counted : goal.returns-in-Ok-clause-counted
 returns-in-Ok-clause-counted c =
@@ -14,6 +15,6 @@ returns-in-Ok-clause-counted c =
 
 pub returns-in-Ok-clause-few : goal.returns-in-Ok-clause-few
 returns-in-Ok-clause-few c =
-    let few : sum_by (λ column. length column.items) c.args.columns.now ≤ 50000 = omega (arith, c.requires.counted, c.requires.few) in
+    let few : sum_by (λ column. length column.items) c.args.columns.now ≤ MAX_ENTRIES = omega (arith, c.requires.counted, c.requires.few) in
     let left = few_left (columns_alone c.args.rows.now c.args.columns.now) (viewed c.args.card.now) c.in-Ok.ensures.no_fault few in
     omega (arith, left, c.requires.counted, c.pair_count.ensures.count)

@@ -3,7 +3,7 @@
 --     IsNotLast cells stop         there is no last value, or it is less than the first
 --     finding_of answer            what was found, in the machine's words
 --     left_by finding machine      the machine after it
---     IsUnasked stop went          no run is asked for, and the walk goes so
+--     IsUnasked stop next_step          no run is asked for, and the walk goes so
 use Rattle.std.specs.Prelude.{ℕ, [], None}
 use Rattle.exact_values.specs.Rational.{ℚ}
 use Rattle.control_definitions.specs.Cells.{Cells}
@@ -19,7 +19,7 @@ use Rattle.listing_answers.specs.declared.answer.ParametricRunAnswer.{Parametric
 use Rattle.listing_answers.specs.declared.answer.ParametricRunAnswer.TheVariants.{Opened, RanThrough}
 use Rattle.listing_walk.specs.declared.chosen.Chosen.{Chosen}
 use Rattle.listing_walk.specs.declared.place.ListingPlace.{ListingPlace}
-use Rattle.listing_walk.specs.declared.went.Went.{Went}
+use Rattle.listing_walk.specs.declared.walk_step.WalkStep.{WalkStep}
 use Rattle.listing_walk.specs.Walking.{Passes}
 
 abbrev pub beginning : ℚ → Cells → Cells
@@ -39,6 +39,6 @@ abbrev pub left_by : Finding → Machine Chosen → Machine Chosen
 left_by (Reached last) machine = record machine { cells = record (machine.cells) { xparam = last }; mark = None }
 left_by finding machine = record machine { mark = None }
 
-abbrev pub IsUnasked : Machine Chosen → ListingPlace → ListingPlace → ℕ → RequestStop → Went → Type 0
-IsUnasked machine old new card (stops.Fault fault) went = Passes machine old new (acts.Ends (ends.Verb fault card)) [] went
-IsUnasked machine old new card stops.NoMemory went = ⊥
+abbrev pub IsUnasked : Machine Chosen → ListingPlace → ListingPlace → ℕ → RequestStop → WalkStep → Type 0
+IsUnasked machine old new card (stops.Fault fault) next_step = Passes machine old new (acts.Ends (ends.Verb fault card)) [] next_step
+IsUnasked machine old new card stops.NoMemory next_step = ⊥
