@@ -1,8 +1,8 @@
 // Jobs whose parametric run ends at a value that no cell holds, with one listing each.
 use crate::jobs::Row;
 
-/// An objective whose breakpoint is 1 over a number of 45 digits, and the statements behind it.
-pub const LAST_VALUES: [Row; 8] = [
+/// An objective or a right-hand side whose breakpoint is 1 over a number of more than 40 digits, and the statements behind it.
+pub const LAST_VALUES: [Row; 14] = [
     Row {
         name: "the program's end",
         job: b"         PROGRAM
@@ -335,7 +335,266 @@ PARAOBJ UNBOUNDED PAST 1/99999999000000000000000000000000000000000000
     3 X        0 1
 END 0
 ",
-        status: 28,
-        line: b"",
+        status: 0,
+        line: b"ATTESTED 4 REPORTS\n",
+    },
+    Row {
+        name: "another run that says it begins at 0",
+        job: b"         PROGRAM
+         CONVERT
+         SETUP
+         MOVE(XCHROW,'CHG')
+         MOVE(XPARMAX,1)
+         PARAOBJ
+         PARAOBJ
+         EXIT
+         PEND
+NAME          T
+ROWS
+ N  COST
+ N  CHG
+COLUMNS
+    X         COST      1E-18          CHG       -99999999E18
+ENDATA
+",
+        listing: b"CONVERT T        ROWS 2 COLUMNS 1 ENTRIES 2
+SETUP   T        MIN
+PARAOBJ FROM 0 CHANGE CHG
+INTERVAL 1 FROM 0 TO 1/99999999000000000000000000000000000000000000
+    1 COST     BS 0 0 0 0
+    2 CHG      BS 0 0 0 0
+    3 X        LL 0 0 1/1000000000000000000 -99999999000000000000000000
+PARAOBJ UNBOUNDED PAST 1/99999999000000000000000000000000000000000000
+    1 COST     0 1/1000000000000000000
+    2 CHG      0 -99999999000000000000000000
+    3 X        0 1
+PARAOBJ FROM 0 CHANGE CHG
+INTERVAL 1 FROM 1/99999999000000000000000000000000000000000000 TO 1/99999999000000000000000000000000000000000000
+    1 COST     BS 0 0 0 0
+    2 CHG      BS 0 0 0 0
+    3 X        LL 0 0 1/1000000000000000000 -99999999000000000000000000
+PARAOBJ UNBOUNDED PAST 1/99999999000000000000000000000000000000000000
+    1 COST     0 1/1000000000000000000
+    2 CHG      0 -99999999000000000000000000
+    3 X        0 1
+END 0
+",
+        status: 40,
+        line: b"WRONG LINE 12\n",
+    },
+    Row {
+        name: "another run, past its last value",
+        job: b"         PROGRAM
+         CONVERT
+         SETUP
+         MOVE(XCHROW,'CHG')
+         MOVE(XPARMAX,1)
+         PARAOBJ
+         MOVE(XPARMAX,0)
+         PARAOBJ
+         EXIT
+         PEND
+NAME          T
+ROWS
+ N  COST
+ N  CHG
+COLUMNS
+    X         COST      1E-18          CHG       -99999999E18
+ENDATA
+",
+        listing: b"CONVERT T        ROWS 2 COLUMNS 1 ENTRIES 2
+SETUP   T        MIN
+PARAOBJ FROM 0 CHANGE CHG
+INTERVAL 1 FROM 0 TO 1/99999999000000000000000000000000000000000000
+    1 COST     BS 0 0 0 0
+    2 CHG      BS 0 0 0 0
+    3 X        LL 0 0 1/1000000000000000000 -99999999000000000000000000
+PARAOBJ UNBOUNDED PAST 1/99999999000000000000000000000000000000000000
+    1 COST     0 1/1000000000000000000
+    2 CHG      0 -99999999000000000000000000
+    3 X        0 1
+STOP 10 VERB FAULT 9 CARD 8
+",
+        status: 0,
+        line: b"ATTESTED 3 REPORTS\n",
+    },
+    Row {
+        name: "another run that is unbounded there",
+        job: b"         PROGRAM
+         CONVERT
+         SETUP
+         MOVE(XCHROW,'CHG')
+         MOVE(XPARMAX,1)
+         PARAOBJ
+         MOVE(XCHROW,'OTH')
+         PARAOBJ
+         EXIT
+         PEND
+NAME          T
+ROWS
+ N  COST
+ N  CHG
+ N  OTH
+COLUMNS
+    X         COST      1E-18          CHG       -99999999E17
+    X         OTH       -99999999E18
+ENDATA
+",
+        listing: b"CONVERT T        ROWS 3 COLUMNS 1 ENTRIES 3
+SETUP   T        MIN
+PARAOBJ FROM 0 CHANGE CHG
+INTERVAL 1 FROM 0 TO 1/9999999900000000000000000000000000000000000
+    1 COST     BS 0 0 0 0
+    2 CHG      BS 0 0 0 0
+    3 OTH      BS 0 0 0 0
+    4 X        LL 0 0 1/1000000000000000000 -9999999900000000000000000
+PARAOBJ UNBOUNDED PAST 1/9999999900000000000000000000000000000000000
+    1 COST     0 1/1000000000000000000
+    2 CHG      0 -9999999900000000000000000
+    3 OTH      0 -99999999000000000000000000
+    4 X        0 1
+PARAOBJ UNBOUNDED STEPS 0 OBJECTIVE 0 CHECKED
+    1 COST     0 1/1000000000000000000
+    2 CHG      0 -9999999900000000000000000
+    3 OTH      0 -99999999000000000000000000
+    4 X        0 1
+END 2
+",
+        status: 0,
+        line: b"ATTESTED 4 REPORTS\n",
+    },
+    Row {
+        name: "another run that is unbounded there, along another direction",
+        job: b"         PROGRAM
+         CONVERT
+         SETUP
+         MOVE(XCHROW,'CHG')
+         MOVE(XPARMAX,1)
+         PARAOBJ
+         MOVE(XCHROW,'OTH')
+         PARAOBJ
+         EXIT
+         PEND
+NAME          T
+ROWS
+ N  COST
+ N  CHG
+ N  OTH
+COLUMNS
+    X         COST      1E-18          CHG       -99999999E17
+    X         OTH       -99999999E18
+ENDATA
+",
+        listing: b"CONVERT T        ROWS 3 COLUMNS 1 ENTRIES 3
+SETUP   T        MIN
+PARAOBJ FROM 0 CHANGE CHG
+INTERVAL 1 FROM 0 TO 1/9999999900000000000000000000000000000000000
+    1 COST     BS 0 0 0 0
+    2 CHG      BS 0 0 0 0
+    3 OTH      BS 0 0 0 0
+    4 X        LL 0 0 1/1000000000000000000 -9999999900000000000000000
+PARAOBJ UNBOUNDED PAST 1/9999999900000000000000000000000000000000000
+    1 COST     0 1/1000000000000000000
+    2 CHG      0 -9999999900000000000000000
+    3 OTH      0 -99999999000000000000000000
+    4 X        0 1
+PARAOBJ UNBOUNDED STEPS 0 OBJECTIVE 0 CHECKED
+    1 COST     0 1/1000000000000000000
+    2 CHG      0 -9999999900000000000000000
+    3 OTH      0 -99999999000000000000000000
+    4 X        0 -1
+END 2
+",
+        status: 40,
+        line: b"WRONG LINE 14\n",
+    },
+    Row {
+        name: "another run of the right-hand side",
+        job: b"         PROGRAM
+         CONVERT
+         SETUP
+         MOVE(XCHCOL,'C')
+         MOVE(XPARMAX,1)
+         MOVE(XRHS,'B')
+         PARARHS
+         PARARHS
+         EXIT
+         PEND
+NAME          T
+ROWS
+ N  COST
+ L  R
+COLUMNS
+    X         COST      1              R         1
+RHS
+    B         R         1E-18
+    C         R         -99999999E18
+ENDATA
+",
+        listing: b"CONVERT T        ROWS 2 COLUMNS 1 ENTRIES 2
+SETUP   T        MIN
+PARARHS FROM 0 CHANGE C
+INTERVAL 1 FROM 0 TO 1/99999999000000000000000000000000000000000000
+    1 COST     BS 0 0 0 0
+    2 R        BS 0 0 0 0
+    3 X        LL 0 0 1 0
+PARARHS INFEASIBLE PAST 1/99999999000000000000000000000000000000000000
+    2 R        1
+    3 X        -1
+PARARHS FROM 1/99999999000000000000000000000000000000000000 CHANGE C
+INTERVAL 1 FROM 1/99999999000000000000000000000000000000000000 TO 1/99999999000000000000000000000000000000000000
+    1 COST     BS 0 0 0 0
+    2 R        BS 0 0 0 0
+    3 X        LL 0 0 1 0
+PARARHS INFEASIBLE PAST 1/99999999000000000000000000000000000000000000
+    2 R        1
+    3 X        -1
+END 0
+",
+        status: 0,
+        line: b"ATTESTED 4 REPORTS\n",
+    },
+    Row {
+        name: "another run that is infeasible there",
+        job: b"         PROGRAM
+         CONVERT
+         SETUP
+         MOVE(XCHCOL,'C')
+         MOVE(XPARMAX,1)
+         MOVE(XRHS,'B')
+         PARARHS
+         MOVE(XCHCOL,'D')
+         PARARHS
+         EXIT
+         PEND
+NAME          T
+ROWS
+ N  COST
+ L  R
+COLUMNS
+    X         COST      1              R         1
+RHS
+    B         R         1E-18
+    C         R         -99999999E17
+    D         R         -99999999E18
+ENDATA
+",
+        listing: b"CONVERT T        ROWS 2 COLUMNS 1 ENTRIES 2
+SETUP   T        MIN
+PARARHS FROM 0 CHANGE C
+INTERVAL 1 FROM 0 TO 1/9999999900000000000000000000000000000000000
+    1 COST     BS 0 0 0 0
+    2 R        BS 0 0 0 0
+    3 X        LL 0 0 1 0
+PARARHS INFEASIBLE PAST 1/9999999900000000000000000000000000000000000
+    2 R        1
+    3 X        -1
+PARARHS INFEASIBLE STEPS 0 RAY CHECKED
+    2 R        1
+    3 X        -1
+END 1
+",
+        status: 0,
+        line: b"ATTESTED 4 REPORTS\n",
     },
 ];

@@ -102,7 +102,7 @@ fn no_test_is_refused(rt: HostRuntime) -> Result<(), Fail> {
     Ok(())
 }
 
-// Where a parametric run ends at a value that no cell holds, the walk goes on, but for another run that begins there.
+// Where a parametric run ends at a value that no cell holds, the walk goes on, also with another run that begins there.
 #[test]
 fn long_last_values_are_left(rt: HostRuntime) -> Result<(), Fail> {
     for row in &LAST_VALUES {

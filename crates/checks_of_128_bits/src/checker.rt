@@ -3,14 +3,15 @@ ghost use Rattle.std.specs.Prelude.{◌≡◌, IfOk};
 
 use crate::claim_tests::{check_claim, check_opening};
 use crate::closing_tests::check_closing;
+use crate::fractions::fraction;
 use crate::interval_tests::check_part;
 use crate::solution_tests::check_printed;
-use listing_claims::{Checks, Claim, Closing, Part, Printed, Stop};
+use frac128::Frac;
+use listing_claims::{AskedRun, Checks, Claim, Closing, Part, Printed, Stop};
 use listing_definitions::Mark;
 use listing_tables::Sheet;
 use listing_words::{Number, fraction_in};
 use lp_model::{Lp, NoMemory};
-use parametric_request::ParametricRequest;
 use std::alloc::Global;
 
 /// The checker that reads and tests numbers as a run makes them. A verdict has to be printed with the word CHECKED.
@@ -36,6 +37,10 @@ impl Checks for Of128Bits {
         false
     }
 
+    fn exceeds(_alloc: Global, number: &Number<'_>, value: Frac) -> Result<bool, NoMemory> {
+        Ok(value.is_less(fraction(number)?))
+    }
+
     fn takes(is_checked: bool) -> bool {
         is_checked
     }
@@ -47,7 +52,7 @@ impl Checks for Of128Bits {
     fn test_opening(
         alloc: Global,
         sheet: Sheet<'_>,
-        request: &ParametricRequest,
+        request: &AskedRun<'_>,
         claim: &Claim<'_>,
     ) -> Result<(), Stop> {
         check_opening(alloc, sheet, request, claim)
@@ -65,7 +70,7 @@ impl Checks for Of128Bits {
     fn test_interval(
         alloc: Global,
         sheet: Sheet<'_>,
-        request: &ParametricRequest,
+        request: &AskedRun<'_>,
         is_first: bool,
         from: &Number<'_>,
         part: &Part<'_>,
@@ -76,7 +81,7 @@ impl Checks for Of128Bits {
     fn test_close(
         alloc: Global,
         sheet: Sheet<'_>,
-        request: &ParametricRequest,
+        request: &AskedRun<'_>,
         last: &Number<'_>,
         closing: &Closing<'_>,
     ) -> Result<(), Stop> {

@@ -15,11 +15,10 @@ use crate::fractions::{FractionPair, fraction, fractions, pair_of};
 use crate::judging::{asked, both, judge};
 use certificate_check::{Verdict, check_crossed, check_infeasible, check_unbounded, is_equal};
 use frac128::Frac;
-use listing_claims::{Claim, Pair, Stop};
+use listing_claims::{AskedRun, Claim, Pair, Stop};
 use listing_tables::{Sheet, objective_of};
 use listing_words::Number;
 use lp_model::Lp;
-use parametric_request::ParametricRequest;
 use std::alloc::Global;
 
 // A point with this objective, and a direction, in fractions.
@@ -66,11 +65,28 @@ pub fn check_claim(alloc: Global, lp: &Lp, claim: &Claim<'_>) -> Result<(), Stop
     }
 }
 
-/// A claim of the linear program at the first value, which is made for it.
+// A claim of the linear program at a value, which is made for it.
+fn check_claim_at(
+    alloc: Global,
+    sheet: Sheet<'_>,
+    request: &AskedRun<'_>,
+    theta: Frac,
+    claim: &Claim<'_>,
+) -> Result<(), Stop>
+    requires asked { IsAskedOf sheet request.now }
+    requires fits { Fits sheet.lp.now claim.now }
+    ensures { Judges (opening_test checker_of_128_bits (sheet_view sheet.entry) (changing_of request.now.name request.now.change)
+        theta claim.now) result }
+{
+    let program = program_at(alloc, sheet, request, theta)?;
+    check_claim(alloc, &program, claim)
+}
+
+/// A claim of the linear program at the first value.
 pub fn check_opening(
     alloc: Global,
     sheet: Sheet<'_>,
-    request: &ParametricRequest,
+    request: &AskedRun<'_>,
     claim: &Claim<'_>,
 ) -> Result<(), Stop>
     requires asked { IsAskedOf sheet request.now }
@@ -78,6 +94,6 @@ pub fn check_opening(
     ensures { Judges (opening_test checker_of_128_bits (sheet_view sheet.entry) (changing_of request.now.name request.now.change)
         request.now.from claim.now) result }
 {
-    let program = program_at(alloc, sheet, request, request.from)?;
-    check_claim(alloc, &program, claim)
+    let from = fraction(&request.from)?;
+    check_claim_at(alloc, sheet, request, from, claim)
 }

@@ -6,7 +6,7 @@ ghost use Rattle.lp_definitions.specs.LinearProgram.{IsRow, IsVariable, size, va
 ghost use Rattle.check_definitions.specs.Steps.{comparison, verdict_of, in_turn, sum_steps, sum_of};
 ghost use Rattle.check_definitions.specs.Checks.{limit_product, ray_limits, multiplied, multiplied_among};
 ghost use Rattle.question_definitions.specs.Answers.{Changing};
-ghost use Rattle.parametric_request.specs.Asking.{Serves, changing_of};
+ghost use Rattle.parametric_request.specs.Asking.{ServesChange, changing_of};
 ghost use Rattle.walk_definitions.specs.Checkers.{checker_of_128_bits};
 ghost use Rattle.walk_definitions.specs.Tests.{asked, past_test, unbounded_past, infeasible_past, shift_products};
 ghost use Rattle.listing_words.specs.Read.{sheet_view};
@@ -26,11 +26,11 @@ use certificate_check::{
     limit_met,
 };
 use frac128::Frac;
-use listing_claims::{Closing, Pair, Stop};
+use listing_claims::{AskedRun, Closing, Pair, Stop};
 use listing_tables::{Sheet, objective_of};
 use listing_words::Number;
 use lp_model::Lp;
-use parametric_request::{Change, ParametricRequest};
+use parametric_request::Change;
 use std::alloc::Global;
 
 // ---- past a value there is no best point
@@ -127,7 +127,7 @@ fn shift_sum(sheet: Sheet<'_>, shift: &[Frac], ray: &[Frac]) -> Result<Frac, Sto
 fn check_infeasible_past(
     alloc: Global,
     sheet: Sheet<'_>,
-    request: &ParametricRequest,
+    request: &AskedRun<'_>,
     shift: &[Frac],
     value: Frac,
     ray: &[Frac],
@@ -178,12 +178,12 @@ fn check_past_unbounded(
 // A run of the objective may close so.
 fn check_unbounded(
     sheet: Sheet<'_>,
-    request: &ParametricRequest,
+    request: &AskedRun<'_>,
     last: Frac,
     value: Frac,
     pair: &FractionPair,
 ) -> Result<(), Stop>
-    requires serves { Serves sheet.problem.now sheet.lp.now request.now }
+    requires serves { ServesChange sheet.problem.now sheet.lp.now request.now.name request.now.change }
     requires pair { HasPair sheet.lp.now pair.now }
     ensures { Judges (unbounded_test checker_of_128_bits (sheet_view sheet.entry)
         (changing_of request.now.name request.now.change) request.now.to last value pair.now.point.items pair.now.direction.items) result }
@@ -205,7 +205,7 @@ struct PastRay<'a> {
 fn check_past_infeasible(
     alloc: Global,
     sheet: Sheet<'_>,
-    request: &ParametricRequest,
+    request: &AskedRun<'_>,
     last: Frac,
     shift: &[Frac],
     past: &PastRay<'_>,
@@ -226,7 +226,7 @@ fn check_past_infeasible(
 fn check_infeasible(
     alloc: Global,
     sheet: Sheet<'_>,
-    request: &ParametricRequest,
+    request: &AskedRun<'_>,
     last: Frac,
     value: Frac,
     ray: &[Frac],
@@ -249,12 +249,12 @@ fn check_infeasible(
 fn close_unbounded(
     alloc: Global,
     sheet: Sheet<'_>,
-    request: &ParametricRequest,
+    request: &AskedRun<'_>,
     last: Frac,
     value: &Number<'_>,
     pair: &Pair<'_>,
 ) -> Result<(), Stop>
-    requires serves { Serves sheet.problem.now sheet.lp.now request.now }
+    requires serves { ServesChange sheet.problem.now sheet.lp.now request.now.name request.now.change }
     requires pair { IsPairOf sheet.lp.now pair.now }
     ensures { Judges (unbounded_test checker_of_128_bits (sheet_view sheet.entry)
         (changing_of request.now.name request.now.change) request.now.to last value.now pair.now.point.items pair.now.direction.items) result }
@@ -268,7 +268,7 @@ fn close_unbounded(
 fn close_infeasible(
     alloc: Global,
     sheet: Sheet<'_>,
-    request: &ParametricRequest,
+    request: &AskedRun<'_>,
     last: Frac,
     value: &Number<'_>,
     ray: &[Number<'_>],
@@ -295,7 +295,7 @@ fn close_at(value: &Number<'_>, last: Frac, max: Frac) -> Result<(), Stop>
 pub fn check_closing(
     alloc: Global,
     sheet: Sheet<'_>,
-    request: &ParametricRequest,
+    request: &AskedRun<'_>,
     last: &Number<'_>,
     closing: &Closing<'_>,
 ) -> Result<(), Stop>

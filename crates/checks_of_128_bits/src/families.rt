@@ -15,11 +15,11 @@ ghost use Rattle.listing_words.specs.Read.{sheet_view};
 ghost use Rattle.checks_of_128_bits.specs.Making.{Makes, moved, row_steps, shift_steps, AreLimits, IsAlong};
 
 use frac128::Frac;
-use listing_claims::Stop;
+use listing_claims::{AskedRun, Stop};
 use listing_tables::Sheet;
 use lp_definitions::Change as ChangeRow;
 use lp_model::{Lp, NoMemory};
-use parametric_request::{Change, ParametricRequest};
+use parametric_request::Change;
 use std::alloc::Global;
 
 /// The limits of all variables.
@@ -134,7 +134,7 @@ fn with_row(alloc: Global, lp: &Lp, row: u32, theta: Frac) -> Result<Lp, Stop>
 pub fn program_at(
     alloc: Global,
     sheet: Sheet<'_>,
-    request: &ParametricRequest,
+    request: &AskedRun<'_>,
     theta: Frac,
 ) -> Result<Lp, Stop>
     requires lawful { IsLinearProgram sheet.lp.now }

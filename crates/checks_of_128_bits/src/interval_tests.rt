@@ -21,11 +21,10 @@ use crate::fractions::{FractionColumns, columns_of, fraction};
 use crate::judging::{ask, is_at_most, judge, judge_at};
 use certificate_check::{check_optimal, counted_for, holds_by_sign, is_equal, stands_at};
 use frac128::Frac;
-use listing_claims::{Part, Stop};
+use listing_claims::{AskedRun, Part, Stop};
 use listing_tables::Sheet;
 use listing_words::Number;
 use lp_model::{Lp, NoMemory};
-use parametric_request::ParametricRequest;
 use std::alloc::Global;
 
 /// An interval in fractions.
@@ -48,7 +47,7 @@ pub struct IntervalEnd {
 fn check_end(
     alloc: Global,
     sheet: Sheet<'_>,
-    request: &ParametricRequest,
+    request: &AskedRun<'_>,
     theta: Frac,
     columns: &FractionColumns,
 ) -> Result<IntervalEnd, Stop>
@@ -140,7 +139,7 @@ fn goes_on(from: Frac, to: Frac, is_first: bool) -> bool
 fn check_interval(
     alloc: Global,
     sheet: Sheet<'_>,
-    request: &ParametricRequest,
+    request: &AskedRun<'_>,
     is_first: bool,
     interval: &Interval,
 ) -> Result<(), Stop>
@@ -172,7 +171,7 @@ fn interval_of(alloc: Global, from: &Number<'_>, part: &Part<'_>) -> Result<Inte
 pub fn check_part(
     alloc: Global,
     sheet: Sheet<'_>,
-    request: &ParametricRequest,
+    request: &AskedRun<'_>,
     is_first: bool,
     from: &Number<'_>,
     part: &Part<'_>,

@@ -4,14 +4,14 @@ ghost use Rattle.std.specs.Prelude.{◌≡◌};
 use crate::claim_tests::{test_claim, test_opening};
 use crate::closing_tests::test_close;
 use crate::long_words::is_longer;
-use listing_claims::{Checks, Claim, Closing, Part, Printed, Stop};
+use frac128::Frac;
+use listing_claims::{AskedRun, Checks, Claim, Closing, Part, Printed, Stop};
 use listing_definitions::Mark;
 use listing_tables::Sheet;
 use listing_words::Number;
 use long_numbers::is_number;
-use long_solutions::{test_interval, test_solution};
+use long_solutions::{exceeds, test_interval, test_solution};
 use lp_model::{Lp, NoMemory};
-use parametric_request::ParametricRequest;
 use std::alloc::Global;
 
 /// A number with more digits above or below the line isn't read for its value.
@@ -43,6 +43,10 @@ impl Checks for OfAnyLength {
         is_longer(word, MOST_DIGITS)
     }
 
+    fn exceeds(alloc: Global, number: &Number<'_>, value: Frac) -> Result<bool, NoMemory> {
+        Ok(exceeds(alloc, number, value)?)
+    }
+
     fn takes(_is_checked: bool) -> bool {
         true
     }
@@ -54,7 +58,7 @@ impl Checks for OfAnyLength {
     fn test_opening(
         alloc: Global,
         sheet: Sheet<'_>,
-        request: &ParametricRequest,
+        request: &AskedRun<'_>,
         claim: &Claim<'_>,
     ) -> Result<(), Stop> {
         test_opening(alloc, sheet, request, claim)
@@ -72,7 +76,7 @@ impl Checks for OfAnyLength {
     fn test_interval(
         alloc: Global,
         sheet: Sheet<'_>,
-        request: &ParametricRequest,
+        request: &AskedRun<'_>,
         is_first: bool,
         from: &Number<'_>,
         part: &Part<'_>,
@@ -83,7 +87,7 @@ impl Checks for OfAnyLength {
     fn test_close(
         alloc: Global,
         sheet: Sheet<'_>,
-        request: &ParametricRequest,
+        request: &AskedRun<'_>,
         last: &Number<'_>,
         closing: &Closing<'_>,
     ) -> Result<(), Stop> {

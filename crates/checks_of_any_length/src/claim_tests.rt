@@ -15,14 +15,13 @@ ghost use Rattle.long_solutions.specs.Lines.{IsNumber};
 
 use crate::directions::pair_holds;
 use crate::rays::ray_holds;
-use listing_claims::{Claim, Stop};
+use listing_claims::{AskedRun, Claim, Stop};
 use listing_tables::Sheet;
-use long_programs::{ProgramAt, as_it_is, change_of, fraction_value, own_theta};
+use long_programs::{ProgramAt, as_it_is, change_at, own_theta};
 use long_rays::limits_cross;
 use long_solutions::judged;
-use long_vectors::Value;
+use long_vectors::{Value, value_of};
 use lp_model::Lp;
-use parametric_request::ParametricRequest;
 use std::alloc::{AllocError, Global};
 
 // Whether a claim of the linear program at theta passes. An optimal one is tested where SOLUTION shows it.
@@ -81,7 +80,7 @@ pub fn test_claim(alloc: Global, lp: &Lp, claim: &Claim<'_>) -> Result<(), Stop>
 fn opening_holds(
     alloc: Global,
     sheet: Sheet<'_>,
-    request: &ParametricRequest,
+    request: &AskedRun<'_>,
     claim: &Claim<'_>,
 ) -> Result<bool, AllocError>
     requires asked { IsAskedOf sheet request.now }
@@ -91,9 +90,9 @@ fn opening_holds(
 {
     let at = ProgramAt {
         lp: sheet.lp,
-        change: change_of(request),
+        change: change_at(&request.change),
     };
-    let theta = fraction_value(alloc, request.from)?;
+    let theta = value_of(alloc, &request.from)?;
     let holds = claim_holds(alloc, &at, &theta, claim)?;
     Ok(holds)
 }
@@ -102,7 +101,7 @@ fn opening_holds(
 pub fn test_opening(
     alloc: Global,
     sheet: Sheet<'_>,
-    request: &ParametricRequest,
+    request: &AskedRun<'_>,
     claim: &Claim<'_>,
 ) -> Result<(), Stop>
     requires asked { IsAskedOf sheet request.now }

@@ -5,7 +5,7 @@ ghost use Rattle.exact_values.specs.Tests.{eq_ℚ, lt_ℚ};
 ghost use Rattle.lp_definitions.specs.LinearProgram.{size};
 ghost use Rattle.check_definitions.specs.Steps.{in_turn};
 ghost use Rattle.listing_claims.specs.Claims.{IsPairOf};
-ghost use Rattle.parametric_request.specs.Asking.{Serves, changing_of};
+ghost use Rattle.parametric_request.specs.Asking.{ServesChange, changing_of};
 ghost use Rattle.walk_definitions.specs.Checkers.{checker_of_any_length};
 ghost use Rattle.walk_definitions.specs.Tests.{asked};
 ghost use Rattle.listing_words.specs.Read.{sheet_view};
@@ -18,13 +18,13 @@ ghost use Rattle.long_solutions.specs.Answers.{Answers};
 use crate::directions::past_pair_holds;
 use crate::rays::past_ray_holds;
 use frac128::Frac;
-use listing_claims::{Closing, Pair, Stop};
+use listing_claims::{AskedRun, Closing, Pair, Stop};
 use listing_tables::Sheet;
 use listing_words::Number;
 use long_points::both;
 use long_solutions::{compare_values, compare_with_fraction, judged};
 use long_vectors::{Value, value_of};
-use parametric_request::{Change, ParametricRequest};
+use parametric_request::Change;
 use std::alloc::{AllocError, Global};
 
 // Whether a number is the last end, and the last value.
@@ -67,12 +67,12 @@ fn end_holds(
 fn unbounded_holds(
     alloc: Global,
     sheet: Sheet<'_>,
-    request: &ParametricRequest,
+    request: &AskedRun<'_>,
     last: &Value,
     value: &Number<'_>,
     pair: &Pair<'_>,
 ) -> Result<bool, AllocError>
-    requires serves { Serves sheet.problem.now sheet.lp.now request.now }
+    requires serves { ServesChange sheet.problem.now sheet.lp.now request.now.name request.now.change }
     requires pair { IsPairOf sheet.lp.now pair.now }
     ensures { IfOk result (λ holds. (l : ℚ) → IsValue l last.now → Answers holds (unbounded_test checker_of_any_length (sheet_view sheet.entry)
         (changing_of request.now.name request.now.change) request.now.to l value.now pair.now.point.items pair.now.direction.items)) }
@@ -92,12 +92,12 @@ fn unbounded_holds(
 fn infeasible_holds(
     alloc: Global,
     sheet: Sheet<'_>,
-    request: &ParametricRequest,
+    request: &AskedRun<'_>,
     last: &Value,
     value: &Number<'_>,
     ray: &[Number<'_>],
 ) -> Result<bool, AllocError>
-    requires serves { Serves sheet.problem.now sheet.lp.now request.now }
+    requires serves { ServesChange sheet.problem.now sheet.lp.now request.now.name request.now.change }
     requires places { length ray.now ≡ size sheet.lp.now.matrix }
     ensures { IfOk result (λ holds. (l : ℚ) → IsValue l last.now → Answers holds (infeasible_test checker_of_any_length (sheet_view sheet.entry)
         (changing_of request.now.name request.now.change) request.now.to l value.now ray.now)) }
@@ -117,11 +117,11 @@ fn infeasible_holds(
 fn closing_holds(
     alloc: Global,
     sheet: Sheet<'_>,
-    request: &ParametricRequest,
+    request: &AskedRun<'_>,
     last: &Number<'_>,
     closing: &Closing<'_>,
 ) -> Result<bool, AllocError>
-    requires serves { Serves sheet.problem.now sheet.lp.now request.now }
+    requires serves { ServesChange sheet.problem.now sheet.lp.now request.now.name request.now.change }
     requires fits { ClosingFits sheet.lp.now closing.now }
     ensures { IfOk result (λ holds. Answers holds (closing_test checker_of_any_length (sheet_view sheet.entry) (changing_of request.now.name request.now.change)
         request.now.to last.now closing.now)) }
@@ -147,7 +147,7 @@ fn closing_holds(
 pub fn test_close(
     alloc: Global,
     sheet: Sheet<'_>,
-    request: &ParametricRequest,
+    request: &AskedRun<'_>,
     last: &Number<'_>,
     closing: &Closing<'_>,
 ) -> Result<(), Stop>

@@ -3,10 +3,11 @@ ghost use Rattle.std.specs.Prelude.{◌≡◌, ℕ, Option, None, length};
 ghost use Rattle.lp_definitions.specs.LinearProgram.{IsLinearProgram, size, value_at};
 ghost use Rattle.listing_tables.specs.Sheets.{IsSheet};
 ghost use Rattle.question_definitions.specs.Answers.{OfPath, OfSolution, OfParametricRun};
-ghost use Rattle.parametric_request.specs.Asking.{Serves, parametric_run_of};
+ghost use Rattle.parametric_request.specs.Asking.{ServesChange};
 ghost use Rattle.walk_definitions.specs.Tests.{point_of};
 ghost use Rattle.walk_definitions.specs.Reading.{judged};
 ghost use Rattle.listing_words.specs.Read.{sheet_view};
+ghost use Rattle.listing_claims.specs.Asked.{parametric_run_of};
 ghost use Rattle.listing_answers.specs.Claims.{conclusion_by};
 ghost use Rattle.listing_answers.specs.Taken.{Taken, IsConclusion, IsParametricRunAnswer};
 
@@ -14,12 +15,11 @@ use crate::claims::{Stated, take_word, verdict};
 use crate::openings::{read_opening, take_parametric_run_head};
 use crate::parametric_runs::read_run;
 use crate::solution::{printed_of, solution_lines};
-use listing_claims::{Checks, Claim, Stop};
+use listing_claims::{AskedRun, Checks, Claim, Stop};
 use listing_definitions::{Mark, Solver};
 use listing_tables::Sheet;
 use listing_words::{Cursor, Number};
 use lp_model::Lp;
-use parametric_request::ParametricRequest;
 use std::alloc::Global;
 
 /// What a verdict comes to.
@@ -110,12 +110,12 @@ pub fn answer_to_parametric_run<'a, T: Checks>(
     alloc: Global,
     cursor: &mut Cursor<'a>,
     sheet: Sheet<'_>,
-    request: &ParametricRequest,
+    request: &AskedRun<'_>,
 ) -> Result<ParametricRunAnswer<'a>, Stop>
     requires sheet { IsSheet sheet }
     requires lawful { IsLinearProgram sheet.lp.now }
     requires no_change { sheet.lp.now.change ≡ None }
-    requires serves { Serves sheet.problem.now sheet.lp.now request.now }
+    requires serves { ServesChange sheet.problem.now sheet.lp.now request.now.name request.now.change }
     ensures { (limit : ℕ) → Taken IsParametricRunAnswer (judged T.checker (OfParametricRun (parametric_run_of limit request.now)) (sheet_view sheet.entry) cursor.old)
         cursor.new result }
 {

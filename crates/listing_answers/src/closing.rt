@@ -17,12 +17,12 @@ use crate::claims::read_pair;
 use crate::openings::solver_of;
 use crate::unread::stop_unread;
 use crate::words::number_after;
-use listing_claims::{By, Checks, Closing, Stop};
+use listing_claims::{AskedRun, By, Checks, Closing, Stop};
 use listing_readers::ray;
 use listing_tables::{Sheet, solver_word};
 use listing_words::{Cursor, Number};
 use lp_model::NoMemory;
-use parametric_request::{Change, ParametricRequest};
+use parametric_request::Change;
 use std::alloc::Global;
 
 // A value after a text, and the end of the line.
@@ -103,7 +103,7 @@ fn past<'a, T: Checks>(
     cursor: &mut Cursor<'a>,
     by: By,
     sheet: Sheet<'_>,
-    request: &ParametricRequest,
+    request: &AskedRun<'_>,
 ) -> Result<Option<Closing<'a>>, NoMemory>
     requires { IsSheet sheet }
     ensures { IfOk result (Found (Closes (sheet_view sheet.entry)) (past_in (number_in T.checker by) (sheet_view sheet.entry)
@@ -121,7 +121,7 @@ fn close_after<'a, T: Checks>(
     cursor: &mut Cursor<'a>,
     by: By,
     sheet: Sheet<'_>,
-    request: &ParametricRequest,
+    request: &AskedRun<'_>,
 ) -> Result<Option<Closing<'a>>, NoMemory>
     requires { IsSheet sheet }
     ensures { IfOk result (Found (Closes (sheet_view sheet.entry)) (close_after_in (number_in T.checker by) (sheet_view sheet.entry)
@@ -139,7 +139,7 @@ fn read_closing<'a, T: Checks>(
     cursor: &mut Cursor<'a>,
     by: By,
     sheet: Sheet<'_>,
-    request: &ParametricRequest,
+    request: &AskedRun<'_>,
 ) -> Result<Option<Closing<'a>>, NoMemory>
     requires { IsSheet sheet }
     ensures { IfOk result (Found (Closes (sheet_view sheet.entry)) (close_in (number_in T.checker by) (sheet_view sheet.entry) (parametric_solver
@@ -156,7 +156,7 @@ fn run_closing<'a, T: Checks>(
     alloc: Global,
     cursor: &mut Cursor<'a>,
     sheet: Sheet<'_>,
-    request: &ParametricRequest,
+    request: &AskedRun<'_>,
 ) -> Result<Closing<'a>, Stop>
     requires { IsSheet sheet }
     ensures { let solver = parametric_solver (changing_of request.now.name request.now.change) in
@@ -190,7 +190,7 @@ pub fn read_close<'a, T: Checks>(
     alloc: Global,
     cursor: &mut Cursor<'a>,
     sheet: Sheet<'_>,
-    request: &ParametricRequest,
+    request: &AskedRun<'_>,
     last: &Number<'_>,
 ) -> Result<Number<'a>, Stop>
     requires sheet { IsSheet sheet }

@@ -15,12 +15,11 @@ ghost use Rattle.listing_answers.specs.Taken.{Taken, IsReadBy};
 
 use crate::unread::stop_unread;
 use itoa::Buffer;
-use listing_claims::{By, Checks, Columns, Part, Stop, number_by};
+use listing_claims::{AskedRun, By, Checks, Columns, Part, Stop, number_by};
 use listing_readers::{Shape, firsts, fourths, seconds, table, thirds};
 use listing_tables::Sheet;
 use listing_words::{Cursor, Number};
 use lp_model::NoMemory;
-use parametric_request::ParametricRequest;
 use std::alloc::Global;
 
 // The digits of a number.
@@ -187,7 +186,7 @@ pub fn read_part<'a, T: Checks>(
     alloc: Global,
     cursor: &mut Cursor<'a>,
     sheet: Sheet<'_>,
-    request: &ParametricRequest,
+    request: &AskedRun<'_>,
     number: usize,
     last: &Number<'_>,
 ) -> Result<Number<'a>, Stop>

@@ -2,24 +2,24 @@
 ghost use Rattle.std.specs.Prelude.{◌≡◌, ◌++◌, ℕ, codes};
 ghost use Rattle.listing_tables.specs.Sheets.{IsSheet};
 ghost use Rattle.question_definitions.specs.Answers.{parametric_solver};
-ghost use Rattle.parametric_request.specs.Asking.{changing_of, parametric_run_of};
+ghost use Rattle.parametric_request.specs.Asking.{changing_of};
 ghost use Rattle.walk_definitions.specs.Words.{left_after};
 ghost use Rattle.walk_definitions.specs.Reading.{parametric_run_head, opening_in};
 ghost use Rattle.listing_words.specs.Read.{taken, sheet_view};
-ghost use Rattle.listing_claims.specs.Asked.{IsAskedOf};
+ghost use Rattle.listing_claims.specs.Asked.{parametric_run_of, IsAskedOf};
 ghost use Rattle.listing_answers.specs.Claims.{mark_by};
 ghost use Rattle.listing_answers.specs.Taken.{Taken, IsOpened};
 
 use crate::claims::{take_word, verdict};
-use listing_claims::{Checks, Claim, Stop};
+use listing_claims::{AskedRun, Checks, Claim, Stop};
 use listing_definitions::{Mark, Solver};
-use listing_tables::{Sheet, fraction, solver_word};
+use listing_tables::{Sheet, solver_word};
 use listing_words::Cursor;
-use parametric_request::{Change, ParametricRequest};
+use parametric_request::Change;
 use std::alloc::Global;
 
 /// The verb that makes the run.
-pub fn solver_of(request: &ParametricRequest) -> Solver
+pub fn solver_of(request: &AskedRun<'_>) -> Solver
     ensures { result ≡ parametric_solver (changing_of request.now.name request.now.change) }
 {
     match &request.change {
@@ -77,15 +77,14 @@ fn take_head(
 }
 
 /// Takes what stands before the first interval.
-pub fn take_parametric_run_head(cursor: &mut Cursor<'_>, request: &ParametricRequest) -> bool
+pub fn take_parametric_run_head(cursor: &mut Cursor<'_>, request: &AskedRun<'_>) -> bool
     ensures { (limit : ℕ) → left_after (parametric_run_head (parametric_run_of limit request.now)) cursor.old ≡ taken result cursor.new }
 {
-    let value = fraction(request.from);
     take_head(
         cursor,
         solver_word(solver_of(request)),
         b" FROM ",
-        value.as_str().as_bytes(),
+        request.from.word(),
         b" CHANGE ",
         request.name.bytes(),
     )
@@ -107,7 +106,7 @@ pub fn read_opening<T: Checks>(
     alloc: Global,
     cursor: &mut Cursor<'_>,
     sheet: Sheet<'_>,
-    request: &ParametricRequest,
+    request: &AskedRun<'_>,
 ) -> Result<Mark, Stop>
     requires sheet { IsSheet sheet }
     requires asked { IsAskedOf sheet request.now }

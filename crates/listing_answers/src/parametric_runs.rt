@@ -1,21 +1,19 @@
 // The intervals of a parametric run, one after another, and how it closes.
 ghost use Rattle.std.specs.Prelude.{◌≡◌, ℕ, List, codes};
 ghost use Rattle.listing_tables.specs.Sheets.{IsSheet};
-ghost use Rattle.parametric_request.specs.Asking.{parametric_run_of};
 ghost use Rattle.walk_definitions.specs.Words.{left_after};
 ghost use Rattle.walk_definitions.specs.Reading.{run_in};
 ghost use Rattle.run_definitions.specs.Verbs.{last_value};
 ghost use Rattle.listing_words.specs.Read.{taken, sheet_view};
-ghost use Rattle.listing_claims.specs.Asked.{IsAskedOf};
+ghost use Rattle.listing_claims.specs.Asked.{parametric_run_of, IsAskedOf};
 ghost use Rattle.listing_answers.specs.Intervals.{first_in};
 ghost use Rattle.listing_answers.specs.Taken.{Taken};
 
 use crate::closing::read_close;
 use crate::intervals::read_part;
-use listing_claims::{Checks, Stop};
-use listing_tables::{Sheet, fraction};
+use listing_claims::{AskedRun, Checks, Stop};
+use listing_tables::Sheet;
 use listing_words::{Cursor, Number};
-use parametric_request::ParametricRequest;
 use std::alloc::Global;
 
 // Whether an interval begins here.
@@ -31,7 +29,7 @@ fn first_part<'a, T: Checks>(
     alloc: Global,
     cursor: &mut Cursor<'a>,
     sheet: Sheet<'_>,
-    request: &ParametricRequest,
+    request: &AskedRun<'_>,
 ) -> Result<Number<'a>, Stop>
     requires sheet { IsSheet sheet }
     requires asked { IsAskedOf sheet request.now }
@@ -41,9 +39,7 @@ fn first_part<'a, T: Checks>(
     if !begins_interval(cursor) {
         return Err(Stop::Wrong);
     }
-    let text = fraction(request.from);
-    let from = Number::new(text.as_str().as_bytes());
-    read_part::<T>(alloc, cursor, sheet, request, 1, &from)
+    read_part::<T>(alloc, cursor, sheet, request, 1, &request.from)
 }
 
 /// Reads the intervals of a run, each tested before the next one is read, and how it closes. Gives the last end.
@@ -51,7 +47,7 @@ pub fn read_run<'a, T: Checks>(
     alloc: Global,
     cursor: &mut Cursor<'a>,
     sheet: Sheet<'_>,
-    request: &ParametricRequest,
+    request: &AskedRun<'_>,
 ) -> Result<Number<'a>, Stop>
     requires sheet { IsSheet sheet }
     requires asked { IsAskedOf sheet request.now }

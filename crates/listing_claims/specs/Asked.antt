@@ -1,12 +1,18 @@
--- The linear program of a parametric run that is asked for.
-use Rattle.std.specs.Prelude.{◌≡◌, None}
+-- A parametric run that is asked for.
+--     parametric_run_of limit request    the run, in the words of runs
+--     IsAskedOf sheet request            it is asked for of this sheet
+use Rattle.std.specs.Prelude.{◌≡◌, ℕ, None}
 use Rattle.lp_definitions.specs.LinearProgram.{IsLinearProgram}
+use Rattle.question_definitions.specs.Answers.{ParametricRun}
 use Rattle.listing_tables.specs.declared.sheet.Sheet.{Sheet}
-use Rattle.parametric_request.specs.declared.request.ParametricRequest.{ParametricRequest}
-use Rattle.parametric_request.specs.Asking.{Serves}
+use Rattle.parametric_request.specs.Asking.{changing_of, ServesChange}
+use Rattle.listing_claims.specs.declared.claims.AskedRun.{AskedRun}
 
--- the run is asked for of this sheet, to whose objective no row is added
-pub record IsAskedOf (sheet : Sheet) (request : ParametricRequest) : Type 0 where
+abbrev pub parametric_run_of : ℕ → AskedRun → ParametricRun
+parametric_run_of limit request = record { changing = changing_of request.name request.change; from = request.from; to = request.to; limit = limit }
+
+-- the run can be made in the linear program, to whose objective no row is added
+pub record IsAskedOf (sheet : Sheet) (request : AskedRun) : Type 0 where
   pub lawful : IsLinearProgram sheet.lp.now
   pub no_change : sheet.lp.now.change ≡ None
-  pub serves : Serves sheet.problem.now sheet.lp.now request
+  pub serves : ServesChange sheet.problem.now sheet.lp.now request.name request.change

@@ -1,5 +1,6 @@
 // What a checker does otherwise than another.
 ghost use Rattle.std.specs.Prelude.{◌≡◌, IfOk};
+ghost use Rattle.exact_values.specs.Tests.{lt_ℚ};
 ghost use Rattle.lp_definitions.specs.LinearProgram.{IsLinearProgram, value_at};
 ghost use Rattle.parametric_request.specs.Asking.{changing_of};
 ghost use Rattle.walk_definitions.specs.Checkers.{says_checked};
@@ -13,12 +14,12 @@ ghost use Rattle.listing_claims.specs.Numbers.{number_in};
 ghost use Rattle.listing_claims.specs.Passing.{Judges};
 ghost use Rattle.listing_claims.specs.Solutions.{Counted, printed_test};
 
-use crate::claims::{Claim, Closing, Part, Printed, Stop};
+use crate::claims::{AskedRun, Claim, Closing, Part, Printed, Stop};
+use frac128::Frac;
 use listing_definitions::Mark;
 use listing_tables::Sheet;
 use listing_words::Number;
 use lp_model::{Lp, NoMemory};
-use parametric_request::ParametricRequest;
 use std::alloc::Global;
 
 /// How a checker reads numbers and tests claims. Each test may be made in any order and by any means: the verdict that it lets pass, or
@@ -42,6 +43,10 @@ pub trait Checks {
     fn is_long(word: &[u8]) -> bool
         ensures { result ≡ is_long checker word.now };
 
+    /// Whether a number that was read is greater than a fraction.
+    fn exceeds(alloc: Global, number: &Number<'_>, value: Frac) -> Result<bool, NoMemory>
+        ensures { IfOk result (λ is. is ≡ lt_ℚ value number.now) };
+
     /// Whether a verdict may be printed with this word of its check: CHECKED, or UNCHECKED.
     fn takes(is_checked: bool) -> bool
         ensures { (check : Check) → says_checked check ≡ is_checked → checker.takes check ≡ result };
@@ -56,7 +61,7 @@ pub trait Checks {
     fn test_opening(
         alloc: Global,
         sheet: Sheet<'_>,
-        request: &ParametricRequest,
+        request: &AskedRun<'_>,
         claim: &Claim<'_>,
     ) -> Result<(), Stop>
         requires asked { IsAskedOf sheet request.now }
@@ -80,7 +85,7 @@ pub trait Checks {
     fn test_interval(
         alloc: Global,
         sheet: Sheet<'_>,
-        request: &ParametricRequest,
+        request: &AskedRun<'_>,
         is_first: bool,
         from: &Number<'_>,
         part: &Part<'_>,
@@ -94,7 +99,7 @@ pub trait Checks {
     fn test_close(
         alloc: Global,
         sheet: Sheet<'_>,
-        request: &ParametricRequest,
+        request: &AskedRun<'_>,
         last: &Number<'_>,
         closing: &Closing<'_>,
     ) -> Result<(), Stop>

@@ -1,8 +1,10 @@
 // Claims and numbers, as the listing has them.
 
-use frac128::Refused;
+use frac128::{Frac, Refused};
 use listing_words::Number;
 use lp_model::NoMemory;
+use name_table::Name;
+use parametric_request::Change;
 use thiserror::Error;
 
 /// Why an answer isn't taken.
@@ -39,6 +41,16 @@ impl From<Refused> for Stop {
     fn from(_refused: Refused) -> Stop {
         Stop::Unchecked
     }
+}
+
+/// A parametric run that is asked for: the name of the row or set that changes, what changes by it, and the first and the last value. The
+/// first one is of any length, as it may be where a run before it ended.
+#[derive(Drop)]
+pub struct AskedRun<'a> {
+    pub name: Name,
+    pub change: Change,
+    pub from: Number<'a>,
+    pub to: Frac,
 }
 
 /// A point, and a direction in which it goes on.

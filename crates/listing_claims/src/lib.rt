@@ -6,4 +6,4 @@ mod checks;
 mod claims;
 
 pub use checks::{By, Checks, number_by};
-pub use claims::{Claim, Closing, Columns, Pair, Part, Printed, Stop};
+pub use claims::{AskedRun, Claim, Closing, Columns, Pair, Part, Printed, Stop};

@@ -1,8 +1,10 @@
 -- What a statement comes to in the walk, where XPARAM has a value that no cell holds.
-use Rattle.std.proofs.Common.{◌≡◌, ℕ, ◌+◌, List, Option, Some, Result, Ok, Err, IfOk, refl, sym, ap, subst, ◌∙◌}
+use Rattle.std.proofs.Common.{◌≡◌, ℕ, ◌+◌, List, Option, Some, None, Result, Ok, Err, IfOk, refl, sym, ap, subst, ◌∙◌}
 use Rattle.exact_values.specs.Rational.{ℚ}
 use Rattle.job_devices.specs.declared.device.NoMemory.{NoMemory}
 use Rattle.control_definitions.specs.Cells.{Cells}
+use Rattle.control_definitions.specs.declared.NumberCell.TheVariants.{Xparam, Xparmax}
+use Rattle.control_definitions.specs.Program as program
 use Rattle.control_definitions.specs.Program.{Verb}
 use Rattle.run_definitions.specs.State.{State}
 use Rattle.run_definitions.specs.Verbs.{verb_move}
@@ -11,7 +13,11 @@ use Rattle.run_machine.specs.Standing as machines
 use Rattle.walk_definitions.specs.Checkers.{Checker}
 use Rattle.walk_definitions.specs.Walker as walks
 use Rattle.listing_walk.specs.declared.chosen.Chosen.{Chosen}
-use Rattle.listing_walk.specs.declared.parameter.ParameterUse.TheVariants.{Sets, Neither}
+use Rattle.parametric_request.specs.declared.request.ParametricVerb.{ParametricVerb}
+use Rattle.parametric_request.specs.declared.request.ParametricVerb.TheVariants as verbs
+use Rattle.parametric_request.specs.Asking.{verb_of}
+use Rattle.listing_walk.specs.declared.parameter.ParameterUse.{ParameterUse}
+use Rattle.listing_walk.specs.declared.parameter.ParameterUse.TheVariants.{Reads, Sets, Neither}
 use Rattle.listing_walk.specs.declared.place.ListingPlace.{ListingPlace}
 use Rattle.listing_walk.specs.declared.walk_step.WalkStep.{WalkStep}
 use Rattle.listing_walk.specs.declared.walk_step.WalkStep.TheVariants as walk_step
@@ -87,6 +93,41 @@ module _ (x : ℚ) (C : Checker) (verb : Verb ℕ) (card : ℕ) (cards : List (L
       (ap (walks.walk_move C w) (sym (set_alike x verb sets card first) ∙ ap (verb_move verb card) (same x cards old position executed state s)))
       (h position executed first w (stood x cards old position executed state s) f)
 
-  pub walks_set : use_of verb ≡ Sets → (result : Result WalkStep NoMemory) → IfOk result (Walks C verb card cards old new place_old place_new) → IfOk result (Walks C verb card cards (holding (Some x) old) new place_old place_new)
-  walks_set sets (Ok w') h = set sets w' h
-  walks_set sets (Err stop) h = tt
+  set_ok : use_of verb ≡ Sets → (result : Result WalkStep NoMemory) → IfOk result (Walks C verb card cards old new place_old place_new) → IfOk result (Walks C verb card cards (holding (Some x) old) new place_old place_new)
+  set_ok sets (Ok w') h = set sets w' h
+  set_ok sets (Err stop) h = tt
+
+module _ (C : Checker) (verb : Verb ℕ) (card : ℕ) (cards : List (List ℕ)) (old new : Machine Chosen) (place_old place_new : ListingPlace) where
+  -- whatever a run left there
+  pub walks_set : (last : Option ℚ) → use_of verb ≡ Sets → (result : Result WalkStep NoMemory) → IfOk result (Walks C verb card cards old new place_old place_new) → IfOk result (Walks C verb card cards (holding last old) new place_old place_new)
+  walks_set None sets result h = h
+  walks_set (Some x) sets result h = set_ok x C verb card cards old new place_old place_new sets result h
+
+abbrev run_of : ParameterUse → ParametricVerb
+run_of (Reads asked) = asked
+run_of Sets = verbs.Paraobj
+run_of Neither = verbs.Paraobj
+
+-- the verb that begins a run
+pub run_verb : (verb : Verb ℕ) (asked : ParametricVerb) → use_of verb ≡ Reads asked → verb_of asked ≡ verb
+run_verb program.Initialz asked is = absurd (cc is)
+run_verb (program.Title text) asked is = absurd (cc is)
+run_verb (program.MoveName cell name) asked is = absurd (cc is)
+run_verb (program.MoveNumber Xparam value) asked is = absurd (cc is)
+run_verb (program.MoveNumber Xparmax value) asked is = absurd (cc is)
+run_verb (program.MoveLimit limit) asked is = absurd (cc is)
+run_verb (program.Mvadr demand to) asked is = absurd (cc is)
+run_verb (program.Goto to) asked is = absurd (cc is)
+run_verb program.Convert asked is = absurd (cc is)
+run_verb program.Revise asked is = absurd (cc is)
+run_verb (program.Setup options) asked is = absurd (cc is)
+run_verb program.Primal asked is = absurd (cc is)
+run_verb program.Dual asked is = absurd (cc is)
+run_verb program.Solution asked is = absurd (cc is)
+run_verb program.Ranging asked is = absurd (cc is)
+run_verb program.Paraobj asked is = ap (λ (use : ParameterUse). verb_of (run_of use)) (sym is)
+run_verb program.Pararhs asked is = ap (λ (use : ParameterUse). verb_of (run_of use)) (sym is)
+run_verb program.Bcdout asked is = absurd (cc is)
+run_verb program.Punch asked is = absurd (cc is)
+run_verb program.Insert asked is = absurd (cc is)
+run_verb program.Exit asked is = absurd (cc is)

@@ -14,5 +14,6 @@ mod Solving_walks
 mod Verdict_walks
 mod Views_walks
 mod Parametric_walks
+mod Parametric_held
 mod Reported_walks
 mod Insert_walks

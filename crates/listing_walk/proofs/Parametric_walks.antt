@@ -35,12 +35,13 @@ use Rattle.walk_definitions.specs.Checkers.{Checker}
 use Rattle.walk_definitions.specs.Walker as walks
 use Rattle.parametric_request.specs.declared.request.Change.{Change}
 use Rattle.parametric_request.specs.declared.request.Change.TheVariants as changes
-use Rattle.parametric_request.specs.declared.request.ParametricRequest.{ParametricRequest}
 use Rattle.parametric_request.specs.declared.request.ParametricVerb.{ParametricVerb}
 use Rattle.parametric_request.specs.declared.request.ParametricVerb.TheVariants.{Paraobj, Pararhs}
 use Rattle.parametric_request.specs.declared.request.RequestStop.{RequestStop}
 use Rattle.parametric_request.specs.declared.request.RequestStop.TheVariants as request_stops
-use Rattle.parametric_request.specs.Asking.{verb_of, name_moved, change_of, change_fault, IsAsked, IsAskFault, no_last, below, no_change, no_value, IsNotAsked, parametric_run_of, IsChangeOf, IsOf, ServesChange, Serves}
+use Rattle.parametric_request.specs.Asking.{verb_of, name_moved, change_of, change_fault, IsAsked, IsAskFault, no_last, below, no_change, no_value, IsNotAsked, IsChangeOf, ServesChange}
+use Rattle.listing_claims.specs.declared.claims.AskedRun.{AskedRun}
+use Rattle.listing_claims.specs.Asked.{parametric_run_of}
 use Rattle.listing_answers.specs.declared.answer.ParametricRunAnswer.{ParametricRunAnswer}
 use Rattle.listing_answers.specs.declared.answer.ParametricRunAnswer.TheVariants.{Opened, RanThrough}
 use Rattle.listing_answers.specs.Taken.{IsParametricRunAnswer}
@@ -68,12 +69,9 @@ module _ (problem : Problem ℕ) (choice : Choice) (lp : LinearProgram) (ok : se
   values_counted : (name : Name) → length (shifts_of problem name) ≡ length problem.rows
   values_counted name = length-map (enumerate_from 1 problem.rows) _ ∙ length-enumerate_from 1 problem.rows
 
-  serves_change : (name : Name) (change : Change) → IsChangeOf problem name change → ServesChange problem lp name change
+  pub serves_change : (name : Name) (change : Change) → IsChangeOf problem name change → ServesChange problem lp name change
   serves_change name (changes.Row row) is = let free = is.1 choice lp ok in (is.0, free.0, free.1)
   serves_change name (changes.Set shift) is = (is, ap length (sym is) ∙ values_counted name ∙ as_many_rows problem choice lp ok)
-
-  pub serves : (request : ParametricRequest) → IsOf problem request → Serves problem lp request
-  serves request is = (serves_change request.name request.change is.0, is.1)
 
 -- ---- the verb's tests
 
@@ -161,7 +159,7 @@ module _ (C : Checker) (verb : ParametricVerb) (card : ℕ) (cards : List (List 
       parametric_unasked request_stops.NoMemory h (Ok w') passes = absurd passes
       parametric_unasked request_stops.NoMemory h (Err stop) passes = tt
 
-      module _ (request : ParametricRequest) (asked : IsAsked verb problem machine.cells (parametric_run_of (steps_allowed machine.cells) request)) where
+      module _ (request : AskedRun) (asked : IsAsked verb problem machine.cells (parametric_run_of (steps_allowed machine.cells) request)) where
         abbrev parametric_run : ParametricRun
         parametric_run = parametric_run_of (steps_allowed machine.cells) request
 

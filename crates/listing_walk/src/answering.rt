@@ -7,7 +7,8 @@ ghost use Rattle.run_definitions.specs.Verbs.{mark_of};
 ghost use Rattle.walk_definitions.specs.Walker as walks;
 ghost use Rattle.listing_tables.specs.Sheets.{IsSheet};
 ghost use Rattle.listing_words.specs.Read.{sheet_view};
-ghost use Rattle.parametric_request.specs.Asking.{Serves, parametric_run_of};
+ghost use Rattle.parametric_request.specs.Asking.{ServesChange};
+ghost use Rattle.listing_claims.specs.Asked.{parametric_run_of};
 ghost use Rattle.listing_answers.specs.Taken.{conclusion_of, IsParametricRunAnswer};
 ghost use Rattle.listing_walk.specs.Standing.{ShowsPending};
 ghost use Rattle.listing_walk.specs.Asking.{IsStopStep, stopped_by, is_optimal, SettlesBy, Answered, IsMarked, IsAny, IsSettling};
@@ -20,11 +21,10 @@ use job_devices::NoMemory;
 use listing_answers::{
     Conclusion, ParametricRunAnswer, answer_to_parametric_run, answer_to_path, answer_to_solution,
 };
-use listing_claims::{Checks, Stop};
+use listing_claims::{AskedRun, Checks, Stop};
 use listing_definitions::{Mark, Solver};
 use listing_tables::Sheet;
 use listing_words::Number;
-use parametric_request::ParametricRequest;
 use std::alloc::Global;
 use thiserror::Error;
 
@@ -194,12 +194,12 @@ pub fn answer_parametric_run<'a, T: Checks>(
     alloc: Global,
     place: &mut ListingPlace<'a>,
     sheet: Sheet<'_>,
-    request: &ParametricRequest,
+    request: &AskedRun<'_>,
 ) -> Result<ParametricRunAnswer<'a>, Stopped<'a>>
     requires sheet { IsSheet sheet }
     requires lawful { IsLinearProgram sheet.lp.now }
     requires no_change { sheet.lp.now.change ≡ None }
-    requires serves { Serves sheet.problem.now sheet.lp.now request.now }
+    requires serves { ServesChange sheet.problem.now sheet.lp.now request.now.name request.now.change }
     requires few { place.old.reports < max_count }
     ensures answered { (limit : ℕ) → Answered T.checker (OfParametricRun (parametric_run_of limit request.now)) (sheet_view sheet.entry) place.old place.new IsParametricRunAnswer result }
     ensures few { place.new.reports ≤ place.old.reports + 1 }

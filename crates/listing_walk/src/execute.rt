@@ -5,7 +5,7 @@ ghost use Rattle.control_compiler.specs.Valid.{IsProgram};
 ghost use Rattle.run_machine.specs.Statements.{IsSoundVerb};
 ghost use Rattle.exact_values.specs.Rational.{ℚ};
 ghost use Rattle.listing_walk.specs.declared.parameter.ParameterUse.TheVariants.{Neither};
-ghost use Rattle.listing_walk.specs.Parameter.{use_of};
+ghost use Rattle.listing_walk.specs.Parameter.{use_of, IsNoRun};
 ghost use Rattle.listing_walk.specs.Standing.{IsSound, holding};
 ghost use Rattle.listing_walk.specs.Walking.{Walks, Steps};
 ghost use Rattle.walk_definitions.specs.Words.{max_count};
@@ -27,11 +27,10 @@ use control_compiler::{Program, Verb};
 use job_devices::NoMemory;
 use listing_claims::Checks;
 use listing_words::Number;
-use parametric_request::ParametricVerb;
 use run_machine::Machine;
 use std::alloc::Global;
 
-// Follows the statement of a verb on a card.
+// Follows the statement of a verb on a card that begins no parametric run.
 fn execute<'a, T: Checks>(
     alloc: Global,
     machine: &mut Machine<Chosen>,
@@ -42,6 +41,7 @@ fn execute<'a, T: Checks>(
 ) -> Result<WalkStep<'a>, NoMemory>
     requires sound { IsSound cards.now machine.old }
     requires verb { IsSoundVerb (viewed verb.now) }
+    requires no_run { IsNoRun (use_of (viewed verb.now)) }
     requires few { place.old.reports < max_count }
     ensures walks { IfOk result (Walks T.checker (viewed verb.now) card cards.now machine.old machine.new place.old place.new) }
     ensures sound { IsSound cards.now machine.new }
@@ -84,11 +84,10 @@ fn execute<'a, T: Checks>(
         Verb::Primal => solve::<T>(alloc, machine, place, card, SolvingVerb::Primal),
         Verb::Dual => solve::<T>(alloc, machine, place, card, SolvingVerb::Dual),
         Verb::Solution => show_solution::<T>(alloc, machine, place, card),
-        Verb::Paraobj => parametric_run::<T>(alloc, machine, place, card, ParametricVerb::Paraobj),
-        Verb::Pararhs => parametric_run::<T>(alloc, machine, place, card, ParametricVerb::Pararhs),
         Verb::Ranging => show_ranges(alloc, machine, place, card),
         Verb::Punch => punch_basis(alloc, machine, place, card),
         Verb::Insert => insert(alloc, machine, cards, place, card),
+        Verb::Paraobj | Verb::Pararhs => unreachable!(),
     }
 }
 
@@ -115,7 +114,7 @@ fn execute_apart<'a, T: Checks>(
     }
 }
 
-// Follows the statement of a verb, with what a run left in XPARAM where no cell holds it. One that begins there finds no memory.
+// Follows the statement of a verb, with what a run left in XPARAM where no cell holds it.
 fn execute_with<'a, T: Checks>(
     alloc: Global,
     machine: &mut Machine<Chosen>,
@@ -132,15 +131,17 @@ fn execute_with<'a, T: Checks>(
     ensures sound { IsSound cards.now machine.new }
     ensures few { place.new.reports ≤ place.old.reports + 1 }
 {
-    match last {
-        None => execute::<T>(alloc, machine, cards, place, card, verb),
-        Some(_) => match use_of(verb) {
-            ParameterUse::Reads => Err(NoMemory),
-            ParameterUse::Sets => {
-                *last = None;
-                execute::<T>(alloc, machine, cards, place, card, verb)
-            }
-            ParameterUse::Neither => execute_apart::<T>(alloc, machine, cards, place, card, verb),
+    match use_of(verb) {
+        ParameterUse::Reads(asked) => {
+            parametric_run::<T>(alloc, machine, place, last, card, asked)
+        }
+        ParameterUse::Sets => {
+            *last = None;
+            execute::<T>(alloc, machine, cards, place, card, verb)
+        }
+        ParameterUse::Neither => match last {
+            None => execute::<T>(alloc, machine, cards, place, card, verb),
+            Some(_) => execute_apart::<T>(alloc, machine, cards, place, card, verb),
         },
     }
 }

@@ -1,7 +1,9 @@
 // What follows a statement.
-ghost use Rattle.std.specs.Prelude.{◌≡◌, ◌+◌, ◌≤◌, ◌<◌, [], IfOk};
+ghost use Rattle.std.specs.Prelude.{◌≡◌, ◌+◌, ◌≤◌, ◌<◌, [], Option, IfOk};
+ghost use Rattle.exact_values.specs.Rational.{ℚ};
 ghost use Rattle.run_machine.specs.declared.act.Act.TheVariants as acts;
 ghost use Rattle.run_machine.specs.declared.end.End.TheVariants as ends;
+ghost use Rattle.listing_walk.specs.Standing.{holding};
 ghost use Rattle.listing_walk.specs.Walking.{ends_run, Finishes, Passes, Refuses};
 ghost use Rattle.walk_definitions.specs.Words.{max_count};
 
@@ -54,6 +56,7 @@ pub fn follow<'a>(
 ) -> Result<WalkStep<'a>, NoMemory>
     requires { place.old.reports < max_count }
     ensures passes { IfOk result (Passes machine.now place.old place.new act.now text.now) }
+    ensures held { (last : Option ℚ) → IfOk result (Passes (holding last machine.now) place.old place.new act.now text.now) }
     ensures few { place.new.reports ≤ place.old.reports + 1 }
 {
     let ends = ends_run(act);
@@ -79,6 +82,7 @@ pub fn fault<'a>(
 ) -> Result<WalkStep<'a>, NoMemory>
     requires { place.old.reports < max_count }
     ensures passes { IfOk result (Passes machine.now place.old place.new (acts.Ends (ends.Verb fault card)) []) }
+    ensures held { (last : Option ℚ) → IfOk result (Passes (holding last machine.now) place.old place.new (acts.Ends (ends.Verb fault card)) []) }
     ensures few { place.new.reports ≤ place.old.reports + 1 }
 {
     follow(
@@ -100,6 +104,7 @@ pub fn refuse<'a>(
 ) -> Result<WalkStep<'a>, NoMemory>
     requires { place.old.reports < max_count }
     ensures refuses { IfOk result (Refuses machine.now place.old place.new card refusal) }
+    ensures held { (last : Option ℚ) → IfOk result (Refuses (holding last machine.now) place.old place.new card refusal) }
     ensures few { place.new.reports ≤ place.old.reports + 1 }
 {
     match refusal {

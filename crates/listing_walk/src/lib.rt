@@ -4,6 +4,7 @@
 #![tactic(auto)]
 
 mod answering;
+mod asked_runs;
 mod chosen;
 mod course;
 mod execute;

@@ -5,13 +5,14 @@ ghost use Rattle.listing_walk.specs.Parameter.{cell_use, use_of, as_next};
 
 use crate::walk_step::WalkStep;
 use control_compiler::Verb;
+use parametric_request::ParametricVerb;
 use run_cells::NumberCell;
 
 /// What a statement does with the value in XPARAM.
 #[derive(Clone, Copy, Debug)]
 pub enum ParameterUse {
-    /// It begins there.
-    Reads,
+    /// A run of this verb begins there.
+    Reads(ParametricVerb),
     /// It puts another one there.
     Sets,
     /// It leaves it alone.
@@ -35,7 +36,8 @@ pub fn use_of(verb: &Verb<u32>) -> ParameterUse
     match verb {
         Verb::Initialz => ParameterUse::Sets,
         Verb::MoveNumber(cell, _) => cell_use(*cell),
-        Verb::Paraobj | Verb::Pararhs => ParameterUse::Reads,
+        Verb::Paraobj => ParameterUse::Reads(ParametricVerb::Paraobj),
+        Verb::Pararhs => ParameterUse::Reads(ParametricVerb::Pararhs),
         _ => ParameterUse::Neither,
     }
 }

@@ -1,14 +1,16 @@
 // PARAOBJ and PARARHS.
-ghost use Rattle.std.specs.Prelude.{◌≡◌, ◌+◌, ◌≤◌, ◌<◌, ℕ, List, IfOk, IfErr, IfSome};
+ghost use Rattle.std.specs.Prelude.{◌≡◌, ◌+◌, ◌≤◌, ◌<◌, ℕ, List, Option, IfOk, IfErr, IfSome};
+ghost use Rattle.exact_values.specs.Rational.{ℚ};
 ghost use Rattle.run_machine.specs.Standing.{AreDemands};
 ghost use Rattle.parametric_request.specs.Asking.{verb_of};
 ghost use Rattle.listing_answers.specs.declared.answer.ParametricRunAnswer.TheVariants.{RanThrough};
 ghost use Rattle.listing_walk.specs.ParametricVerbs.{finding_of, left_by, IsUnasked};
-ghost use Rattle.listing_walk.specs.Standing.{IsReady, IsSound};
+ghost use Rattle.listing_walk.specs.Standing.{IsReady, IsSound, holding};
 ghost use Rattle.listing_walk.specs.Walking.{Walks};
 ghost use Rattle.walk_definitions.specs.Words.{max_count};
 
 use crate::answering::{answer_parametric_run, stop_walk};
+use crate::asked_runs::{asked_run, first_value};
 use crate::chosen::Chosen;
 use crate::follow::{fault, finish, refuse};
 use crate::place::ListingPlace;
@@ -18,9 +20,9 @@ use job_devices::NoMemory;
 use listing_answers::ParametricRunAnswer;
 use listing_claims::Checks;
 use listing_definitions::VerbFault;
-use listing_tables::Sheet;
+use listing_tables::{Sheet, fraction};
 use listing_words::Number;
-use parametric_request::{ParametricVerb, RequestStop, request_of};
+use parametric_request::{ParametricVerb, RequestStop};
 use run_cells::NumberCell;
 use run_machine::{Finding, Machine, act_of};
 use std::alloc::Global;
@@ -34,7 +36,7 @@ fn unasked<'a>(
     card: u32,
 ) -> Result<WalkStep<'a>, NoMemory>
     requires { place.old.reports < max_count }
-    ensures unasked { IfOk result (IsUnasked machine.now place.old place.new card stop) }
+    ensures unasked { (last : Option ℚ) → IfOk result (IsUnasked (holding last machine.now) place.old place.new card stop) }
     ensures few { place.new.reports ≤ place.old.reports + 1 }
 {
     match stop {
@@ -58,29 +60,33 @@ fn finding_of<'a>(answer: &ParametricRunAnswer<'a>) -> Result<Finding, Number<'a
 }
 
 // A run leaves no mark, and its last value in XPARAM.
-fn leave(machine: &mut Machine<Chosen>, finding: &Finding)
-    ensures { machine.new ≡ left_by finding.now machine.old }
+fn leave(machine: &mut Machine<Chosen>, last: &mut Option<Number<'_>>, finding: &Finding)
+    ensures machine { machine.new ≡ left_by finding.now machine.old }
+    ensures held { holding last.new machine.new ≡ left_by finding.now (holding last.old machine.old) }
 {
     machine.mark = None;
-    if let Finding::RanThrough(last) = finding {
-        machine.cells.move_number(NumberCell::Xparam, *last);
+    if let Finding::RanThrough(value) = finding {
+        machine.cells.move_number(NumberCell::Xparam, *value);
+        *last = None;
     }
 }
 
-/// PARAOBJ and PARARHS: selects again by the cells as they stand, and takes the parametric run that is asked for from the listing. Its
-/// last value is left in XPARAM; one of more than 128 bits, which is more than the cell holds, is handed out. An opening that isn't
-/// optimal goes by the demand of its verdict. Neither leaves a mark.
+/// PARAOBJ and PARARHS: selects again by the cells as they stand, and takes the parametric run that is asked for from the listing. It
+/// begins at the value in XPARAM, also where a run left one there that no cell holds. Its last value is left in XPARAM; one of more than
+/// 128 bits, which is more than the cell holds, is handed out. An opening that isn't optimal goes by the demand of its verdict. Neither
+/// leaves a mark.
 pub fn parametric_run<'a, T: Checks>(
     alloc: Global,
     machine: &mut Machine<Chosen>,
     place: &mut ListingPlace<'a>,
+    last: &mut Option<Number<'a>>,
     card: u32,
     verb: ParametricVerb,
 ) -> Result<WalkStep<'a>, NoMemory>
     requires demands { AreDemands machine.old.cells }
     requires ready { IfSome machine.old.setup (IsReady machine.old.file) }
     requires few { place.old.reports < max_count }
-    ensures walks { (cards : List (List ℕ)) → IfOk result (Walks T.checker (verb_of verb) card cards machine.old machine.new place.old place.new) }
+    ensures walks { (cards : List (List ℕ)) → IfOk result (Walks T.checker (verb_of verb) card cards (holding last.old machine.old) (holding last.new machine.new) place.old place.new) }
     ensures sound { (cards : List (List ℕ)) → IsSound cards machine.old → IsSound cards machine.new }
     ensures few { place.new.reports ≤ place.old.reports + 1 }
 {
@@ -95,7 +101,9 @@ pub fn parametric_run<'a, T: Checks>(
         Ok(lp) => lp,
         Err(refusal) => return refuse(alloc, machine, place, refusal, card),
     };
-    let request = match request_of(alloc, problem, &machine.cells, verb) {
+    let text = fraction(machine.cells.param());
+    let from = first_value(last, text.as_str().as_bytes());
+    let request = match asked_run::<T>(alloc, problem, &machine.cells, verb, from) {
         Ok(request) => request,
         Err(stop) => return unasked(alloc, machine, place, stop, card),
     };
@@ -106,12 +114,12 @@ pub fn parametric_run<'a, T: Checks>(
     };
     let finding = match finding_of(&answer) {
         Ok(finding) => finding,
-        Err(last) => {
+        Err(value) => {
             machine.mark = None;
-            return Ok(WalkStep::Leaves(last));
+            return Ok(WalkStep::Leaves(value));
         }
     };
-    leave(machine, &finding);
+    leave(machine, last, &finding);
     let act = act_of(&machine.cells, card, finding);
     finish(alloc, place, &act)
 }

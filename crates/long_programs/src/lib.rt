@@ -6,8 +6,8 @@ mod own;
 mod programs;
 mod spreads;
 
-pub use own::{as_it_is, fraction_value, own_theta, spread_own};
+pub use own::{as_it_is, own_theta, spread_own};
 pub use programs::{
-    ChangeAt, ProgramAt, change_of, compare_to_lower, compare_to_upper, number_on, subtract_cost,
+    ChangeAt, ProgramAt, change_at, compare_to_lower, compare_to_upper, number_on, subtract_cost,
 };
 pub use spreads::{Spread, spread_by, top_of};

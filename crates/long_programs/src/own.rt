@@ -30,8 +30,8 @@ fn denominator_of(alloc: Global, fraction: Frac) -> Result<Natural, AllocError>
     Natural::from_wide(alloc, fraction.den().unsigned_abs())
 }
 
-/// A fraction as a whole number over another one.
-pub fn fraction_value(alloc: Global, fraction: Frac) -> Result<Value, AllocError>
+// A fraction as a whole number over another one.
+fn fraction_value(alloc: Global, fraction: Frac) -> Result<Value, AllocError>
     ensures { IfOk result (IsValue fraction) }
 {
     let top = numerator_of(alloc, fraction)?;

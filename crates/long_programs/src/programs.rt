@@ -2,6 +2,7 @@
 ghost use Rattle.std.specs.Prelude.{◌≡◌, ℕ, IfOk, OnOk};
 ghost use Rattle.exact_values.specs.Rational.{ℚ, whole, zero_ℚ, compare_ℚ, ◌+ℚ◌, ◌-ℚ◌, ◌*ℚ◌};
 ghost use Rattle.lp_definitions.specs.LinearProgram.{LinearProgram, IsColumn, IsVariable, lower_of, upper_of, on_row, entry, cost};
+ghost use Rattle.problem_definitions.specs.Names.{Name};
 ghost use Rattle.problem_definitions.specs.Problem.{Problem};
 ghost use Rattle.question_definitions.specs.Answers.{Sheet as Views};
 ghost use Rattle.answer_definitions.specs.ParametricRuns.{family_of};
@@ -14,7 +15,7 @@ use integers::Integer;
 use long_vectors::Sum;
 use lp_definitions::Entry;
 use lp_model::Lp;
-use parametric_request::{Change, ParametricRequest};
+use parametric_request::Change;
 use std::alloc::{AllocError, Global};
 use std::cmp::Ordering;
 
@@ -36,13 +37,13 @@ pub struct ProgramAt<'a> {
     pub change: ChangeAt<'a>,
 }
 
-/// What changes by a request.
-pub fn change_of<'a>(request: &'a ParametricRequest) -> ChangeAt<'a>
-    ensures family { (sheet : Views) → ServesChange sheet.problem sheet.lp request.now.name request.now.change →
-        (theta : ℚ) → family_of sheet (changing_of request.now.name request.now.change) theta ≡ program_of sheet.lp result theta }
-    ensures change { (problem : Problem ℕ) → (p : LinearProgram) → ServesChange problem p request.now.name request.now.change → IsChangeIn p result }
+/// What changes along a run.
+pub fn change_at(change: &Change) -> ChangeAt<'_>
+    ensures family { (sheet : Views) → (name : Name) → ServesChange sheet.problem sheet.lp name change.now →
+        (theta : ℚ) → family_of sheet (changing_of name change.now) theta ≡ program_of sheet.lp result theta }
+    ensures change { (problem : Problem ℕ) → (p : LinearProgram) → (name : Name) → ServesChange problem p name change.now → IsChangeIn p result }
 {
-    match &request.change {
+    match change {
         Change::Row(row) => ChangeAt::Row(*row),
         Change::Set(shift) => ChangeAt::Set(shift),
     }

@@ -20,13 +20,12 @@ ghost use Rattle.long_solutions.specs.Lines.{AreOver, AreLinesOf, IsNumber, IsFa
 
 use crate::values::{compare_values, compare_with_fraction, is_at_most};
 use crate::verdicts::judged;
-use listing_claims::{Columns, Part, Stop};
+use listing_claims::{AskedRun, Columns, Part, Stop};
 use listing_tables::Sheet;
 use listing_words::Number;
 use long_points::{End, all_prices_keep, both, optimal};
-use long_programs::{ProgramAt, Spread, change_of, spread_by};
+use long_programs::{ProgramAt, Spread, change_at, spread_by};
 use long_vectors::{Column, Value, along, column_of, value_of};
-use parametric_request::ParametricRequest;
 use std::alloc::{AllocError, Global};
 use std::cmp::Ordering;
 
@@ -156,7 +155,7 @@ fn goes_on(order: Ordering, is_first: bool) -> bool
 fn interval_holds(
     alloc: Global,
     sheet: Sheet<'_>,
-    request: &ParametricRequest,
+    request: &AskedRun<'_>,
     is_first: bool,
     from: &Number<'_>,
     part: &Part<'_>,
@@ -168,7 +167,7 @@ fn interval_holds(
 {
     let at = ProgramAt {
         lp: sheet.lp,
-        change: change_of(request),
+        change: change_at(&request.change),
     };
     let first = value_of(alloc, from)?;
     let last = value_of(alloc, &part.to)?;
@@ -186,7 +185,7 @@ fn interval_holds(
 pub fn test_interval(
     alloc: Global,
     sheet: Sheet<'_>,
-    request: &ParametricRequest,
+    request: &AskedRun<'_>,
     is_first: bool,
     from: &Number<'_>,
     part: &Part<'_>,

@@ -9,5 +9,5 @@ mod verdicts;
 
 pub use intervals::test_interval;
 pub use solutions::test_solution;
-pub use values::{compare_values, compare_with_fraction, is_at_most};
+pub use values::{compare_values, compare_with_fraction, exceeds, is_at_most};
 pub use verdicts::judged;

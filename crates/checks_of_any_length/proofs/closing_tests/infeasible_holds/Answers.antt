@@ -14,7 +14,7 @@ use Rattle.checks_of_any_length.proofs.Claiming.{past_shown}
 use Rattle.checks_of_any_length.proofs.closing_tests.infeasible_holds.Goals as goal
 
 pub past_ray_holds-requires-clause-shifts : goal.past_ray_holds-requires-clause-shifts
-past_ray_holds-requires-clause-shifts c = let serves = rw c.in-Set.is at c.requires.serves in ap length c.deref.ensures.value ∙ serves.0.1
+past_ray_holds-requires-clause-shifts c = let serves = rw c.in-Set.is at c.requires.serves in ap length c.deref.ensures.value ∙ serves.1
 
 pub returns-in_ok-shown-in-Set : goal.returns-in_ok-shown-in-Set
 returns-in_ok-shown-in-Set c = λ l is.
@@ -24,7 +24,7 @@ returns-in_ok-shown-in-Set c = λ l is.
     let t = c.args.value.now in
     let result = c.both.result in
     let serves = rw c.in-Set.is at c.requires.serves in
-    let shifts = c.deref.ensures.value ∙ sym serves.0.0 in
+    let shifts = c.deref.ensures.value ∙ sym serves.0 in
     subst (λ (change : Change). Answers result (infeasible_test checker_of_any_length sheet (changing_of request.name change) request.to l t ray)) (sym c.in-Set.is)
     (subst (λ (shift : List ℚ). Answers result (past_test request.to l t (infeasible_past checker_of_any_length sheet (Set request.name) shift t (value_at ray)))) shifts
     (past_shown request.to l t c.in_ok-past-in-Set.past c.in_ok-shown-in-Set.shown result _ (c.in_ok-past-in-Set.ensures t l c.in_ok-theta-in-Set.ensures is)

@@ -12,7 +12,7 @@ use Rattle.checks_of_any_length.proofs.Claiming.{past_shown}
 use Rattle.checks_of_any_length.proofs.closing_tests.unbounded_holds.Goals as goal
 
 pub past_pair_holds-requires-clause-row : goal.past_pair_holds-requires-clause-row
-past_pair_holds-requires-clause-row c = let serves = rw c.in-Row.is at c.requires.serves in serves.0.1
+past_pair_holds-requires-clause-row c = let serves = rw c.in-Row.is at c.requires.serves in serves.1
 
 pub past_pair_holds-requires-clause-number : goal.past_pair_holds-requires-clause-number
 past_pair_holds-requires-clause-number c = record { number = c.args.value.now; is = c.in_ok-theta-in-Row.ensures }
@@ -26,7 +26,7 @@ returns-in_ok-shown-in-Row c = λ l is.
     let result = c.both.result in
     let serves = rw c.in-Row.is at c.requires.serves in
     subst (λ (change : Change). Answers result (unbounded_test checker_of_any_length sheet (changing_of request.name change) request.to l t pair.point.items pair.direction.items)) (sym c.in-Row.is)
-    (subst (λ (h : ℕ). Answers result (past_test request.to l t (unbounded_past checker_of_any_length sheet (Row request.name) h t (value_at pair.point.items) (value_at pair.direction.items)))) (sym serves.0.0)
+    (subst (λ (h : ℕ). Answers result (past_test request.to l t (unbounded_past checker_of_any_length sheet (Row request.name) h t (value_at pair.point.items) (value_at pair.direction.items)))) (sym serves.0)
     (past_shown request.to l t c.in_ok-past-in-Row.past c.in_ok-shown-in-Row.shown result _ (c.in_ok-past-in-Row.ensures t l c.in_ok-theta-in-Row.ensures is)
     (c.in_ok-shown-in-Row.ensures t sheet.problem (Row request.name) c.in_ok-theta-in-Row.ensures) c.both.ensures))
 

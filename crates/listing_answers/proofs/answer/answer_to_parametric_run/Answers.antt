@@ -1,8 +1,8 @@
 use Rattle.std.proofs.Common.{◌≡◌, Some, None, ap, sym, ◌∙◌}
-use Rattle.parametric_request.specs.Asking.{parametric_run_of}
 use Rattle.walk_definitions.specs.Words.{left_after}
 use Rattle.walk_definitions.specs.Reading.{parametric_run_head}
 use Rattle.listing_words.specs.Read.{taken, sheet_view}
+use Rattle.listing_claims.specs.Asked.{parametric_run_of}
 use Rattle.listing_answers.proofs.ParametricRunFacts.{parametric_run_opened, parametric_run_opening_stops, parametric_ran, parametric_run_stops}
 use Rattle.listing_answers.proofs.answer.answer_to_parametric_run.Goals as goal
 

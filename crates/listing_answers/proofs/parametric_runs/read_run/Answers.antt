@@ -1,8 +1,8 @@
 use Rattle.std.proofs.Common.{◌≡◌, ◌<◌, ◌+◌, ◌∷◌, codes, Some, None, length, get_or, drop, ap, ◌∙◌, arith}
-use Rattle.parametric_request.specs.Asking.{parametric_run_of}
 use Rattle.walk_definitions.specs.Words.{left_after}
 use Rattle.walk_definitions.specs.Reading.{run_in}
 use Rattle.listing_words.specs.Read.{taken, sheet_view}
+use Rattle.listing_claims.specs.Asked.{parametric_run_of}
 use Rattle.listing_answers.proofs.Judging.{handed_on}
 use Rattle.listing_answers.proofs.Runs.{EndsRun, IsRunSoFar, run_begins, first_stops, room_left, run_goes_on, run_stops, run_closes}
 use Rattle.listing_answers.proofs.parametric_runs.read_run.Goals as goal

@@ -1,7 +1,7 @@
 use Rattle.std.proofs.Common.{◌+◌, ℕ, drop}
-use Rattle.parametric_request.specs.Asking.{parametric_run_of}
 use Rattle.walk_definitions.specs.Reading.{run_in}
 use Rattle.listing_words.specs.Read.{sheet_view}
+use Rattle.listing_claims.specs.Asked.{parametric_run_of}
 use Rattle.listing_answers.proofs.Runs.{IsRunSoFar}
 use Rattle.listing_answers.proofs.parametric_runs.read_run.Given as goal
 

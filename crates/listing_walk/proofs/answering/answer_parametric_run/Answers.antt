@@ -1,9 +1,9 @@
 -- What is open comes first, and then the run.
 use Rattle.std.proofs.Common.{true, refl}
 use Rattle.question_definitions.specs.Answers.{OfParametricRun}
+use Rattle.listing_claims.specs.Asked.{parametric_run_of}
 use Rattle.listing_answers.specs.Taken.{IsParametricRunAnswer}
 use Rattle.listing_words.specs.Read.{sheet_view}
-use Rattle.parametric_request.specs.Asking.{parametric_run_of}
 use Rattle.listing_walk.specs.Walking.{open_by}
 use Rattle.listing_walk.proofs.Asked.{parametric_run_answered, stopped_answered}
 use Rattle.listing_walk.proofs.answering.answer_parametric_run.Goals as goal

@@ -1,7 +1,12 @@
 -- The value stays.
+use Rattle.std.proofs.Common.{sym, subst}
 use Rattle.control_verbs.specs.Views.{viewed}
+use Rattle.listing_walk.specs.Parameter.{IsNoRun}
 use Rattle.listing_walk.proofs.Held_walks.{walks_held}
 use Rattle.listing_walk.proofs.execute.execute_apart.Goals as goal
+
+pub execute-requires-clause-no_run : goal.execute-requires-clause-no_run
+execute-requires-clause-no_run g c = subst IsNoRun (sym c.requires.apart) tt
 
 pub returns-in-Ok-clause-walks : goal.returns-in-Ok-clause-walks
 returns-in-Ok-clause-walks g c = λ last.

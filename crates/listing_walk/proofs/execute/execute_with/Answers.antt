@@ -1,11 +1,25 @@
 -- By what a run left, and by what the statement does with it.
-use Rattle.std.proofs.Common.{sym, ◌∙◌}
+use Rattle.std.proofs.Common.{◌∙◌, sym, subst, List, ℕ, IfOk}
 use Rattle.control_verbs.specs.Views.{viewed}
-use Rattle.listing_walk.proofs.Held_walks.{walks_set}
+use Rattle.control_definitions.specs.Program.{Verb}
+use Rattle.listing_walk.specs.Parameter.{IsNoRun}
+use Rattle.listing_walk.specs.Standing.{holding}
+use Rattle.listing_walk.specs.Walking.{Walks}
+use Rattle.listing_walk.proofs.Held_walks.{run_verb, walks_set}
 use Rattle.listing_walk.proofs.execute.execute_with.Goals as goal
+
+pub returns-in-Reads-clause-walks : goal.returns-in-Reads-clause-walks
+returns-in-Reads-clause-walks g c =
+    subst (λ (verb : Verb ℕ). IfOk c.parametric_run.result (Walks g.T.Checks.checker verb c.args.card c.args.cards.now (holding c.args.last.now c.args.machine.now) (holding c.parametric_run.new.last c.parametric_run.new.machine) c.args.place.now c.parametric_run.new.place))
+    (run_verb (viewed c.args.verb.now) c.in-Reads.asked (sym c.use_of.ensures ∙ c.in-Reads.is)) (c.parametric_run.ensures.walks c.args.cards.now)
+
+pub execute-requires-clause-no_run : goal.execute-requires-clause-no_run
+execute-requires-clause-no_run g c = subst IsNoRun (sym (sym c.use_of.ensures ∙ c.in-Neither.is)) tt
+
+pub execute-in-Sets-requires-clause-no_run : goal.execute-in-Sets-requires-clause-no_run
+execute-in-Sets-requires-clause-no_run g c = subst IsNoRun (sym (sym c.use_of.ensures ∙ c.in-Sets.is)) tt
 
 pub returns-in-Sets-clause-walks : goal.returns-in-Sets-clause-walks
 returns-in-Sets-clause-walks g c =
-    rw c.in-Some.is
-    (walks_set _ g.T.Checks.checker (viewed c.args.verb.now) c.args.card c.args.cards.now c.args.machine.now c.execute-in-Sets.new.machine c.args.place.now c.execute-in-Sets.new.place (sym c.use_of.ensures ∙ c.in-Sets.is)
-    c.execute-in-Sets.result c.execute-in-Sets.ensures.walks)
+    walks_set g.T.Checks.checker (viewed c.args.verb.now) c.args.card c.args.cards.now c.args.machine.now c.execute-in-Sets.new.machine c.args.place.now c.execute-in-Sets.new.place c.args.last.now (sym c.use_of.ensures ∙ c.in-Sets.is)
+    c.execute-in-Sets.result c.execute-in-Sets.ensures.walks

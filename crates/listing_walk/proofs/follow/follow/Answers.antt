@@ -1,6 +1,11 @@
 -- What is open comes first, and then the text.
-use Rattle.std.proofs.Common.{◌≡◌, ◌||◌, ◌∙◌, sym, ap}
+use Rattle.std.proofs.Common.{◌≡◌, ◌||◌, ◌∙◌, sym, ap, refl, Option, Some, None}
 use Rattle.std.specs.Prelude.{is_none}
+use Rattle.exact_values.specs.Rational.{ℚ}
+use Rattle.listing_definitions.specs.declared.Mark.{Mark}
+use Rattle.run_machine.specs.declared.machine.Machine.{Machine}
+use Rattle.listing_walk.specs.declared.chosen.Chosen.{Chosen}
+use Rattle.listing_walk.specs.Standing.{holding}
 use Rattle.listing_walk.specs.Walking.{has_text, ends_run}
 use Rattle.listing_walk.proofs.Follow_on.{is_none_by, passes_open_by, passes_wrong_by, passes_on_by}
 use Rattle.listing_walk.proofs.follow.follow.Goals.{After-open_here, then-ends, else-ends, then-ends-2, else-ends-2}
@@ -19,6 +24,14 @@ clears_is c = elim c.if-ends-2.branch [
   | else-ends-2 w ↦ w.clears-is ∙ is_none_by c.args.machine.now.mark w.is_none-clears.result w.is_none-clears.ensures ∙ ap (λ b. b || is_none c.args.machine.now.mark) (sym w.if-ends-2.false ∙ c.ends_run-ends.ensures)
 ]
 
+-- the mark doesn't look at XPARAM
+mark_held : (last : Option ℚ) (machine : Machine Chosen) → machine.mark ≡ (holding last machine).mark
+mark_held None machine = refl
+mark_held (Some value) machine = refl
+
+clears_held : (c : After-open_here) (last : Option ℚ) → c.if-ends-2.clears ≡ (ends_run c.args.act.now || is_none (holding last c.args.machine.now).mark)
+clears_held c last = clears_is c ∙ ap (λ (m : Option Mark). ends_run c.args.act.now || is_none m) (mark_held last c.args.machine.now)
+
 pub returns-in-Some-clause-passes : goal.returns-in-Some-clause-passes
 returns-in-Some-clause-passes c =
     passes_open_by c.args.machine.now c.args.place.now c.args.act.now c.args.text.now c.if-ends.looks c.if-ends-2.clears (looks_is (goal.at.returns-in-Some-clause-passes c).After-open_here)
@@ -33,4 +46,20 @@ pub returns-clause-passes : goal.returns-clause-passes
 returns-clause-passes c =
     passes_on_by c.args.machine.now c.args.place.now c.args.act.now c.args.text.now c.if-ends.looks c.if-ends-2.clears (looks_is (goal.at.returns-clause-passes c).After-open_here)
     (clears_is (goal.at.returns-clause-passes c).After-open_here) c.in_default.ensures c.pass.new.self c.finish.new.place c.pass.result c.if-not-pass.false c.pass.ensures.taken c.pass.ensures.pending c.pass.ensures.reports
+    c.finish.result c.finish.ensures.finishes
+
+pub returns-in-Some-clause-held : goal.returns-in-Some-clause-held
+returns-in-Some-clause-held c = λ last.
+    passes_open_by (holding last c.args.machine.now) c.args.place.now c.args.act.now c.args.text.now c.if-ends.looks c.if-ends-2.clears (looks_is (goal.at.returns-in-Some-clause-held c).After-open_here)
+    (clears_held (goal.at.returns-in-Some-clause-held c).After-open_here last) c.args.place.now c.in-Some.found c.in-Some.ensures
+
+pub returns-then-not-pass-clause-held : goal.returns-then-not-pass-clause-held
+returns-then-not-pass-clause-held c = λ last.
+    passes_wrong_by (holding last c.args.machine.now) c.args.place.now c.args.act.now c.args.text.now c.if-ends.looks c.if-ends-2.clears (looks_is (goal.at.returns-then-not-pass-clause-held c).After-open_here)
+    (clears_held (goal.at.returns-then-not-pass-clause-held c).After-open_here last) c.in_default.ensures c.pass.new.self c.left-rest.result c.left-rest.ensures c.pass.result c.if-not-pass.true c.pass.ensures.taken c.pass.new.self
+
+pub returns-clause-held : goal.returns-clause-held
+returns-clause-held c = λ last.
+    passes_on_by (holding last c.args.machine.now) c.args.place.now c.args.act.now c.args.text.now c.if-ends.looks c.if-ends-2.clears (looks_is (goal.at.returns-clause-held c).After-open_here)
+    (clears_held (goal.at.returns-clause-held c).After-open_here last) c.in_default.ensures c.pass.new.self c.finish.new.place c.pass.result c.if-not-pass.false c.pass.ensures.taken c.pass.ensures.pending c.pass.ensures.reports
     c.finish.result c.finish.ensures.finishes

@@ -15,7 +15,7 @@ use Rattle.long_solutions.proofs.Answered.{both_answer, asked_answers}
 use Rattle.long_solutions.proofs.intervals.interval_holds.Goals as goal
 
 pub ends_hold-requires-clause-change : goal.ends_hold-requires-clause-change
-ends_hold-requires-clause-change c = c.change_of.ensures.change c.args.sheet.problem.now c.args.sheet.lp.now c.requires.asked.serves.0
+ends_hold-requires-clause-change c = c.change_at.ensures.change c.args.sheet.problem.now c.args.sheet.lp.now c.args.request.now.name c.requires.asked.serves
 
 pub ends_hold-requires-clause-from : goal.ends_hold-requires-clause-from
 ends_hold-requires-clause-from c = record { number = c.args.from.now; is = c.in_ok-first.ensures }
@@ -30,7 +30,7 @@ returns c =
     let from = c.args.from.now in
     let part = c.args.part.now in
     let max = c.args.request.now.to in
-    let family : IsFamily sheet changing c.args.sheet.lp.now c.change_of.result = record { lp = refl; same = c.change_of.ensures.family sheet c.requires.asked.serves.0 } in
+    let family : IsFamily sheet changing c.args.sheet.lp.now c.change_at.result = record { lp = refl; same = c.change_at.ensures.family sheet c.args.request.now.name c.requires.asked.serves } in
     let goes_is = c.goes_on-goes.ensures ∙ ap (λ (o : Ordering). is_less o || (c.args.is_first && is_equal o)) (c.in_ok-order.ensures from part.to c.in_ok-first.ensures c.in_ok-last.ensures) in
     let within_is = c.is_at_most-within.ensures ∙ ap (λ (o : Ordering). not_above_by (Some o)) (c.in_ok-most.ensures part.to c.in_ok-last.ensures) ∙ not_above_is (Some max) part.to in
     let goes = lt_ℚ from part.to || (c.args.is_first && eq_ℚ from part.to) in
