@@ -10,12 +10,14 @@ use Rattle.problem_definitions.specs.Problem.{Problem, has_free_row, has_group}
 use Rattle.control_definitions.specs.Cells.{Cells}
 use Rattle.selection_definitions.specs.Changes.{free_row_number, values_in, set_values}
 use Rattle.listing_definitions.specs.declared.VerbFault.TheVariants.{ParmaxBelow}
-use Rattle.question_definitions.specs.Answers.{Row, Set}
+use Rattle.question_definitions.specs.Answers.{Changing, Row, Set}
 use Rattle.answer_definitions.specs.ParametricRuns.{row_of, shifts_of}
 use Rattle.run_definitions.specs.Verbs.{change_row, change_set, not_less}
 use Rattle.parametric_request.specs.declared.request.ParametricVerb.{ParametricVerb}
 use Rattle.parametric_request.specs.declared.request.ParametricVerb.TheVariants.{Paraobj, Pararhs}
-use Rattle.parametric_request.specs.Asking.{name_moved, change_of, Changes, IsLastValue, IsLastFault, below}
+use Rattle.parametric_request.specs.declared.request.RequestStop.{RequestStop}
+use Rattle.parametric_request.specs.declared.request.RequestStop.TheVariants as stops
+use Rattle.parametric_request.specs.Asking.{name_moved, change_of, Changes, IsLastValue, IsLastFault, below, IsAskFault, no_change, IsNoChange, IsNotAsked}
 
 -- ---- the last value
 
@@ -72,3 +74,17 @@ module _ (problem : Problem ℕ) (cells : Cells) where
     set_changes found values moved e some =
         let at = (by_values (has_group problem.rhs name) found (values_in problem name) e).1 values some in
         (ap (option_and_then (change_set problem)) moved ∙ at.0, at.1)
+
+pub not_asked : (verb : ParametricVerb) (problem : Problem ℕ) (cells : Cells) (stop : RequestStop) → IsNoChange verb problem cells stop → IsNotAsked verb problem cells stop
+not_asked verb problem cells (stops.Fault fault) none = subst (IsAskFault verb problem cells) (sym none.1) (no_change none.0)
+not_asked verb problem cells stops.NoMemory none = tt
+
+-- what changes doesn't depend on XPARAM
+pub changes_from : (verb : ParametricVerb) (problem : Problem ℕ) (cells : Cells) (from : ℚ) (changing : Changing) → Changes verb problem cells changing → Changes verb problem (record cells { xparam = from }) changing
+changes_from Paraobj problem cells from changing changes = changes
+changes_from Pararhs problem cells from changing changes = changes
+
+pub no_change_from : (verb : ParametricVerb) (problem : Problem ℕ) (cells : Cells) (from : ℚ) (stop : RequestStop) → IsNoChange verb problem cells stop → IsNoChange verb problem (record cells { xparam = from }) stop
+no_change_from Paraobj problem cells from (stops.Fault fault) none = none
+no_change_from Pararhs problem cells from (stops.Fault fault) none = none
+no_change_from verb problem cells from stops.NoMemory none = tt

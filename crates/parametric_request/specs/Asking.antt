@@ -1,6 +1,7 @@
 -- The parametric run that PARAOBJ or PARARHS asks for by the cells.
 --     verb_of, change_of ..        the verb, and what it changes
 --     IsAsked, IsAskFault          what a verb asks for by the cells, and why it asks for nothing
+--     IsNoChange                   why nothing changes; or there is no memory
 --     IsNotAsked                   why it is refused; or there is no memory
 --     parametric_run_of limit request    a request, in the words of runs
 --     IsOf problem request         its row or its shifts are those of the problem
@@ -76,6 +77,10 @@ module _ (verb : ParametricVerb) (problem : Problem ℕ) (cells : Cells) where
     no_value : {changing : Changing} {fault : VerbFault} → Changes changing → IsLastFault cells fault → IsAskFault fault
 
   -- memory may run out at any time
+  abbrev pub IsNoChange : RequestStop → Type 0
+  IsNoChange (Fault fault) = (option_and_then (change_of verb problem) (name_moved verb cells) ≡ None) × (fault ≡ change_fault verb)
+  IsNoChange NoMemory = Unit {0}
+
   abbrev pub IsNotAsked : RequestStop → Type 0
   IsNotAsked (Fault fault) = IsAskFault fault
   IsNotAsked NoMemory = Unit {0}

@@ -3,4 +3,4 @@
 
 mod request;
 
-pub use request::{Change, ParametricRequest, ParametricVerb, RequestStop, request_of};
+pub use request::{Change, ParametricRequest, ParametricVerb, RequestStop, change_of, request_of};

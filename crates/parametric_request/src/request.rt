@@ -1,7 +1,7 @@
 // What PARAOBJ and PARARHS ask for.
 ghost use Rattle.std.specs.Prelude.{IfOk, IfErr};
 ghost use Rattle.control_definitions.specs.Cells.{steps_allowed};
-ghost use Rattle.parametric_request.specs.Asking.{IsAsked, IsNotAsked, IsLastValue, IsLastFault, IsOf, parametric_run_of};
+ghost use Rattle.parametric_request.specs.Asking.{Changes, IsAsked, IsNoChange, IsNotAsked, IsLastValue, IsLastFault, IsChangeOf, IsOf, changing_of, parametric_run_of};
 
 use frac128::Frac;
 use listing_definitions::VerbFault;
@@ -62,12 +62,11 @@ fn last_value(cells: &Cells) -> Result<Frac, VerbFault>
     Ok(last)
 }
 
-// The run of the objective that the cells ask for.
-fn row_request(problem: &Problem, cells: &Cells) -> Result<ParametricRequest, RequestStop>
-    ensures asked { IfOk result (λ request. IsAsked ParametricVerb.Paraobj problem.now cells.now
-        (parametric_run_of (steps_allowed cells.now) request)) }
-    ensures of { IfOk result (IsOf problem.now) }
-    ensures refused { IfErr result (IsNotAsked ParametricVerb.Paraobj problem.now cells.now) }
+// The row that changes, by the cells, with its name.
+fn row_of(problem: &Problem, cells: &Cells) -> Result<(Name, Change), RequestStop>
+    ensures changes { IfOk result (λ made. Changes ParametricVerb.Paraobj problem.now cells.now (changing_of made.0 made.1)) }
+    ensures of { IfOk result (λ made. IsChangeOf problem.now made.0 made.1) }
+    ensures refused { IfErr result (IsNoChange ParametricVerb.Paraobj problem.now cells.now) }
 {
     let Some(name) = cells.name(NameCell::Xchrow) else {
         return Err(RequestStop::Fault(VerbFault::NoChangeRow));
@@ -75,27 +74,14 @@ fn row_request(problem: &Problem, cells: &Cells) -> Result<ParametricRequest, Re
     let Some(row) = free_row(problem, &name) else {
         return Err(RequestStop::Fault(VerbFault::NoChangeRow));
     };
-    match last_value(cells) {
-        Ok(to) => Ok(ParametricRequest {
-            name,
-            change: Change::Row(row),
-            from: cells.param(),
-            to,
-        }),
-        Err(fault) => Err(RequestStop::Fault(fault)),
-    }
+    Ok((name, Change::Row(row)))
 }
 
-// The run of the right-hand side that the cells ask for.
-fn set_request(
-    alloc: Global,
-    problem: &Problem,
-    cells: &Cells,
-) -> Result<ParametricRequest, RequestStop>
-    ensures asked { IfOk result (λ request. IsAsked ParametricVerb.Pararhs problem.now cells.now
-        (parametric_run_of (steps_allowed cells.now) request)) }
-    ensures of { IfOk result (IsOf problem.now) }
-    ensures refused { IfErr result (IsNotAsked ParametricVerb.Pararhs problem.now cells.now) }
+// The set that changes, by the cells, with its name.
+fn set_of(alloc: Global, problem: &Problem, cells: &Cells) -> Result<(Name, Change), RequestStop>
+    ensures changes { IfOk result (λ made. Changes ParametricVerb.Pararhs problem.now cells.now (changing_of made.0 made.1)) }
+    ensures of { IfOk result (λ made. IsChangeOf problem.now made.0 made.1) }
+    ensures refused { IfErr result (IsNoChange ParametricVerb.Pararhs problem.now cells.now) }
 {
     let Some(name) = cells.name(NameCell::Xchcol) else {
         return Err(RequestStop::Fault(VerbFault::NoChangeSet));
@@ -106,14 +92,23 @@ fn set_request(
     let Some(shift) = values else {
         return Err(RequestStop::Fault(VerbFault::NoChangeSet));
     };
-    match last_value(cells) {
-        Ok(to) => Ok(ParametricRequest {
-            name,
-            change: Change::Set(shift),
-            from: cells.param(),
-            to,
-        }),
-        Err(fault) => Err(RequestStop::Fault(fault)),
+    Ok((name, Change::Set(shift)))
+}
+
+/// What a verb changes by the cells, with its name.
+pub fn change_of(
+    alloc: Global,
+    problem: &Problem,
+    cells: &Cells,
+    verb: ParametricVerb,
+) -> Result<(Name, Change), RequestStop>
+    ensures changes { IfOk result (λ made. Changes verb problem.now cells.now (changing_of made.0 made.1)) }
+    ensures of { IfOk result (λ made. IsChangeOf problem.now made.0 made.1) }
+    ensures refused { IfErr result (IsNoChange verb problem.now cells.now) }
+{
+    match verb {
+        ParametricVerb::Paraobj => row_of(problem, cells),
+        ParametricVerb::Pararhs => set_of(alloc, problem, cells),
     }
 }
 
@@ -129,8 +124,17 @@ pub fn request_of(
     ensures of { IfOk result (IsOf problem.now) }
     ensures refused { IfErr result (IsNotAsked verb problem.now cells.now) }
 {
-    match verb {
-        ParametricVerb::Paraobj => row_request(problem, cells),
-        ParametricVerb::Pararhs => set_request(alloc, problem, cells),
+    let (name, change) = match change_of(alloc, problem, cells, verb) {
+        Ok(made) => made,
+        Err(stop) => return Err(stop),
+    };
+    match last_value(cells) {
+        Ok(to) => Ok(ParametricRequest {
+            name,
+            change,
+            from: cells.param(),
+            to,
+        }),
+        Err(fault) => Err(RequestStop::Fault(fault)),
     }
 }
