@@ -159,11 +159,14 @@ module _ (card : ℕ) (cards : List (List ℕ)) (machine : Machine) where
             (inr (
               evidence,
               Some (record { basis = setup.basis; way = way }),
-              (record {
-                way = way;
-                is_refused = refused;
-                is_place = ap (λ (b : Basis). Some (record { basis = b; way = way })) (sym (viewed Insert card (go card) (begins card) cards machine setup is_setup problem on_file s).reached);
-              }, fits),
+              (
+                record {
+                  way = way;
+                  is_refused = refused;
+                  is_place = ap (λ (b : Basis). Some (record { basis = b; way = way })) (sym (viewed Insert card (go card) (begins card) cards machine setup is_setup problem on_file s).reached);
+                },
+                fits,
+              ),
               refl,
             ))
 

@@ -27,7 +27,8 @@ pub fn punch_present<E: Engine, P: Sink, U: Sink>(
 ) -> Result<Act, Halt>
     requires { IfSome machine.now.setup (IsReady machine.now.file) }
     ensures { (cards : List (List ℕ)) →
-        Performs linear_programming_of_128_bits program.Punch card (P.taken print.old) (P.taken print.new)
+        Performs linear_programming_of_128_bits program.Punch card (P.taken print.old)
+        (P.taken print.new)
         (U.taken punch.old) (U.taken punch.new) cards machine.now machine.now result }
 {
     let Some(setup) = &machine.setup else {

@@ -131,7 +131,8 @@ pub fn show_ranges<E: Engine, P: Sink>(
     requires solved { IfSome machine.old.mark
         (λ mark. IfSome machine.old.setup (IsSolved mark machine.old.cells.xobj machine.old.cells.xrhs machine.old.file)) }
     ensures acts { (cards : List (List ℕ)) →
-        Executes linear_programming_of_128_bits program.Ranging card (P.taken print.old) (P.taken print.new)
+        Executes linear_programming_of_128_bits program.Ranging card (P.taken print.old)
+        (P.taken print.new)
         cards machine.old machine.new result }
     ensures sound { (cards : List (List ℕ)) → IsSound cards machine.old →
         IsSound cards machine.new }

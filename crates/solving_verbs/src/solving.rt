@@ -226,7 +226,8 @@ pub fn solve<E: Engine, P: Sink>(
     requires demands { AreDemands machine.old.cells }
     requires ready { IfSome machine.old.setup (IsReady machine.old.file) }
     ensures acts { (cards : List (List ℕ)) →
-        Executes linear_programming_of_128_bits (verb_of verb) card (P.taken print.old) (P.taken print.new)
+        Executes linear_programming_of_128_bits (verb_of verb) card (P.taken print.old)
+        (P.taken print.new)
         cards machine.old machine.new result }
     ensures sound { (cards : List (List ℕ)) → IsSound cards machine.old →
         IsSound cards machine.new }
