@@ -12,6 +12,7 @@ use Rattle.lp_definitions.specs.Basis.{Basics, is_in, basics_of, IsNonsingular}
 use Rattle.lp_definitions.specs.Waypoints.{HasColumnsWithin, waypoint}
 use Rattle.lp_definitions.specs.declared.Evidence.{Evidence}
 use Rattle.lp_definitions.specs.declared.Status.{Status}
+use Rattle.lp_model.specs.RatesState.{RatesState}
 use Rattle.lp_model.specs.declared.Stop.{Stop}
 use Rattle.lp_model.specs.declared.Stop.TheVariants as stops
 use Rattle.basis_deck_definitions.specs.Dependencies.{IsDependency, InstallRefused}
@@ -53,12 +54,12 @@ FillStops a b xs now ways (fills.Overflow e) = RefusesWay a b now ways e
 FillStops a b xs now ways fills.NoMemory = Unit {0}
 
 -- an engine of the same matrix, which knows the waypoint
-pub record IsAtRefusal (matrix : Matrix) (now : Basics) (ways : List Basics) (a : Matrix) (b : Basics) (e : Evidence) : Type 0 where
-  pub same_matrix : matrix ≡ a
-  pub refuses : RefusesWay a b now ways e
+pub record IsAtRefusal (r : RatesState) (a : Matrix) (b : Basics) (e : Evidence) : Type 0 where
+  pub same_matrix : r.matrix ≡ a
+  pub refuses : RefusesWay a b r.basics r.waypoints e
 
-module _ {E : Type 0} (matrix : E → Matrix) (basics : E → Basics) (waypoints : E → List Basics) (p : LinearProgram) (s : List Status) where
+module _ {E : Type 0} (state : E → RatesState) (p : LinearProgram) (s : List Status) where
   abbrev pub InstallStops : InstallStop E → Type 0
   InstallStops (installs.Singular d) = (length d ≡ size p.matrix) × ((c : ℕ) × IsDependency p.matrix (basics_of s) c (value_at d))
-  InstallStops (installs.Overflow e engine) = IsAtRefusal (matrix engine) (basics engine) (waypoints engine) p.matrix (basics_of s) e
+  InstallStops (installs.Overflow e engine) = IsAtRefusal (state engine) p.matrix (basics_of s) e
   InstallStops installs.NoMemory = Unit {0}

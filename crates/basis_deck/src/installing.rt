@@ -5,7 +5,7 @@ ghost use Rattle.lp_definitions.specs.LinearProgram.{size, IsRow, IsVariable};
 ghost use Rattle.lp_definitions.specs.Basis.{basics_of, IsBasis};
 ghost use Rattle.lp_definitions.specs.Waypoints.{HasColumnsWithin};
 ghost use Rattle.problem_definitions.specs.Valid.{IsNumberOf};
-ghost use Rattle.basis_values.specs.Calls.{HasRates};
+ghost use Rattle.basis_values.specs.Calls.{IsAtBasis};
 ghost use Rattle.basis_deck.specs.Installing.{IsUnderWay, IsLeaver, HasNoLeaver, FillStops, InstallStops};
 
 use basis_values::stands_basic;
@@ -154,16 +154,16 @@ fn enter<E: Engine>(
     requires column { lp.now.rows < k }
     requires variable { IsVariable lp.now.matrix k }
     requires basis { IsBasis lp.now basis.now }
-    requires same_matrix { E.matrix engine.old ≡ lp.now.matrix }
-    requires under_way { IsUnderWay lp.now.matrix (basics_of basis.now) (E.basics engine.old)
-        (E.waypoints engine.old) k }
+    requires same_matrix { (E.state engine.old).matrix ≡ lp.now.matrix }
+    requires under_way { IsUnderWay lp.now.matrix (basics_of basis.now) (E.state engine.old).basics
+        (E.state engine.old).waypoints k }
     requires places { length direction.old ≡ size lp.now.matrix }
     requires rows { length later.old ≡ lp.now.rows }
     ensures under_way { OnOk result (IsUnderWay lp.now.matrix (basics_of basis.now)
-        (E.basics engine.new) (E.waypoints engine.new) (k + 1)) }
-    ensures same_matrix { E.matrix engine.new ≡ lp.now.matrix }
+        (E.state engine.new).basics (E.state engine.new).waypoints (k + 1)) }
+    ensures same_matrix { (E.state engine.new).matrix ≡ lp.now.matrix }
     ensures stops { IfErr result (FillStops lp.now.matrix (basics_of basis.now) direction.new
-        (E.basics engine.new) (E.waypoints engine.new)) }
+        (E.state engine.new).basics (E.state engine.new).waypoints) }
 {
     let _size = lp.number_of_variables();
     if !stands_basic(basis, k) {
@@ -187,16 +187,16 @@ fn fill<E: Engine>(
     later: &mut [u32],
 ) -> Result<(), FillStop>
     requires basis { IsBasis lp.now basis.now }
-    requires same_matrix { E.matrix engine.old ≡ lp.now.matrix }
-    requires under_way { IsUnderWay lp.now.matrix (basics_of basis.now) (E.basics engine.old)
-        (E.waypoints engine.old) (lp.now.rows + 1) }
+    requires same_matrix { (E.state engine.old).matrix ≡ lp.now.matrix }
+    requires under_way { IsUnderWay lp.now.matrix (basics_of basis.now) (E.state engine.old).basics
+        (E.state engine.old).waypoints (lp.now.rows + 1) }
     requires places { length direction.old ≡ size lp.now.matrix }
     requires rows { length later.old ≡ lp.now.rows }
     ensures under_way { OnOk result (IsUnderWay lp.now.matrix (basics_of basis.now)
-        (E.basics engine.new) (E.waypoints engine.new) (size lp.now.matrix + 1)) }
-    ensures same_matrix { E.matrix engine.new ≡ lp.now.matrix }
+        (E.state engine.new).basics (E.state engine.new).waypoints (size lp.now.matrix + 1)) }
+    ensures same_matrix { (E.state engine.new).matrix ≡ lp.now.matrix }
     ensures stops { IfErr result (FillStops lp.now.matrix (basics_of basis.now) direction.new
-        (E.basics engine.new) (E.waypoints engine.new)) }
+        (E.state engine.new).basics (E.state engine.new).waypoints) }
 {
     let _size = lp.number_of_variables();
     for c in 0..lp.cols {
@@ -208,11 +208,10 @@ fn fill<E: Engine>(
 /// The rates of a basis, made anew, or the dependency of its basics. Any basis will do, also one whose basics are singular.
 pub fn install<E: Engine>(alloc: Global, lp: &Lp, basis: &Basis) -> Result<E, InstallStop<E>>
     requires { IsBasis lp.now basis.now }
-    ensures rates { IfOk result (λ engine. HasRates (E.matrix engine) (E.basics engine) lp.now
-        basis.now) }
+    ensures rates { IfOk result (λ engine. IsAtBasis (E.state engine) lp.now basis.now) }
     ensures within { IfOk result (λ engine. All (λ way. HasColumnsWithin lp.now.matrix way
-        (basics_of basis.now)) (E.waypoints engine)) }
-    ensures stops { IfErr result (InstallStops E.matrix E.basics E.waypoints lp.now basis.now) }
+        (basics_of basis.now)) (E.state engine).waypoints) }
+    ensures stops { IfErr result (InstallStops E.state lp.now basis.now) }
 {
     let size = lp.number_of_variables() as usize;
     let Ok(mut direction) = vec![in alloc; Frac::whole(0); size] else {

@@ -1,6 +1,8 @@
 -- What the calls at a basis ask and give.
 --     HasRates a b p s             the rates have the basics of the basis, for the matrix of the program
 --     KeepsRates a b p s before after      the rates are still those of the basis after a call there
+--     IsAtBasis r p s, StaysAt before after p s    the same of how the rates stand, and before and after a call
+--     MovesTo before after p s next      where the waypoints lie after a call that took the basis s to next
 --     LieIn a ways bases           every waypoint lies in one of the bases
 --     job_of p change              the statement that a call on a program counts as
 --     StopsAt                      the evidence of a call that stays at one basis
@@ -9,6 +11,7 @@ use Rattle.std.specs.Prelude.{◌≡◌, ℕ, ◌≤◌, Bool, ◌||◌, List, [
 use Rattle.lp_definitions.specs.LinearProgram.{Matrix, LinearProgram}
 use Rattle.lp_definitions.specs.Basis.{Basics, basics_of, IsBasis, IsNonsingular}
 use Rattle.lp_definitions.specs.Waypoints.{IsWithinOne, KeepsWaypoints, waypoint}
+use Rattle.lp_model.specs.RatesState.{RatesState}
 use Rattle.lp_definitions.specs.declared.Evidence.{Evidence}
 use Rattle.lp_definitions.specs.declared.Status.{Status}
 use Rattle.lp_definitions.specs.declared.Change.{Change}
@@ -25,6 +28,17 @@ pub record HasRates (a : Matrix) (b : Basics) (p : LinearProgram) (s : List Stat
 -- the rates still have the basics of the basis, and each of their waypoints was there before or lies in the basis
 abbrev pub KeepsRates : Matrix → Basics → LinearProgram → List Status → List Basics → List Basics → Type 0
 KeepsRates a b p s before after = HasRates a b p s × KeepsWaypoints p.matrix (basics_of s) before (basics_of s) after
+
+-- the same of how the rates stand
+abbrev pub IsAtBasis : RatesState → LinearProgram → List Status → Type 0
+IsAtBasis r p s = HasRates r.matrix r.basics p s
+
+abbrev pub StaysAt : RatesState → RatesState → LinearProgram → List Status → Type 0
+StaysAt before after p s = KeepsRates after.matrix after.basics p s before.waypoints after.waypoints
+
+-- each waypoint was there before the call, or lies in the basis before it or after it
+abbrev pub MovesTo : RatesState → RatesState → LinearProgram → List Status → List Status → Type 0
+MovesTo before after p s next = KeepsWaypoints p.matrix (basics_of s) before.waypoints (basics_of next) after.waypoints
 
 abbrev pub LieIn : Matrix → List Basics → List (List Status) → Type 0
 LieIn a ways bases = All (λ w. IsWithinOne a w (map basics_of bases)) ways

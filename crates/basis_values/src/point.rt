@@ -5,8 +5,7 @@ ghost use Rattle.exact_values.specs.Rational.{◌+ℚ◌, ◌*ℚ◌};
 ghost use Rattle.lp_definitions.specs.LinearProgram.{size, value_at, IsVariable, IsLinearProgram};
 ghost use Rattle.lp_definitions.specs.Basis.{basics_of, is_in, IsBasis, IsPointOf};
 ghost use Rattle.lp_laws.specs.Points.{standing};
-ghost use Rattle.lp_model.specs.RatesCalls.{IfOverflow};
-ghost use Rattle.basis_values.specs.Calls.{HasRates, KeepsRates, PointRefused};
+ghost use Rattle.basis_values.specs.Calls.{IsAtBasis, StaysAt};
 ghost use Rattle.basis_values.specs.Stops.{PointOverflow};
 ghost use Rattle.basis_values.specs.Formulas.{IsTermRefusal};
 ghost use Rattle.basis_values.specs.Points.{ColumnTermRefused, IsSoFar, AreAdded, nonbasics_to, term_of};
@@ -137,7 +136,7 @@ fn add_direction<R: Rates>(
     column: &mut [Frac],
     point: &mut [Frac],
 ) -> Result<(), Stop>
-    requires rates { HasRates (R.matrix rates.old) (R.basics rates.old) lp.now basis.now }
+    requires rates { IsAtBasis (R.state rates.old) lp.now basis.now }
     requires lawful { IsLinearProgram lp.now }
     requires variable { IsVariable lp.now.matrix summand.now.j }
     requires before { summand.now.before ≡ length (nonbasics_to (basics_of basis.now)
@@ -149,10 +148,9 @@ fn add_direction<R: Rates>(
         (summand.now.j - 1) (value_at point.old) }
     ensures so_far { OnOk result (IsSoFar lp.now.matrix (basics_of basis.now)
         (standing lp.now basis.now) summand.now.j (value_at point.new)) }
-    ensures rates { KeepsRates (R.matrix rates.new) (R.basics rates.new) lp.now basis.now
-        (R.waypoints rates.old) (R.waypoints rates.new) }
-    ensures overflow { PointOverflow result lp.now basis.now (R.waypoints rates.old)
-        (R.waypoints rates.new) }
+    ensures rates { StaysAt (R.state rates.old) (R.state rates.new) lp.now basis.now }
+    ensures overflow { PointOverflow result lp.now basis.now (R.state rates.old)
+        (R.state rates.new) }
 {
     if stands_basic(basis, summand.j) {
         return Ok(());
@@ -175,17 +173,16 @@ fn add_directions<R: Rates>(
     column: &mut [Frac],
     point: &mut [Frac],
 ) -> Result<(), Stop>
-    requires rates { HasRates (R.matrix rates.old) (R.basics rates.old) lp.now basis.now }
+    requires rates { IsAtBasis (R.state rates.old) lp.now basis.now }
     requires lawful { IsLinearProgram lp.now }
     requires column { length column.old ≡ size lp.now.matrix }
     requires places { length point.old ≡ size lp.now.matrix }
     requires begins { (k : ℕ) → IsVariable lp.now.matrix k → value_at point.old k ≡ standing lp.now
         basis.now k }
     ensures point { OnOk result (IsPointOf lp.now basis.now (value_at point.new)) }
-    ensures rates { KeepsRates (R.matrix rates.new) (R.basics rates.new) lp.now basis.now
-        (R.waypoints rates.old) (R.waypoints rates.new) }
-    ensures overflow { PointOverflow result lp.now basis.now (R.waypoints rates.old)
-        (R.waypoints rates.new) }
+    ensures rates { StaysAt (R.state rates.old) (R.state rates.new) lp.now basis.now }
+    ensures overflow { PointOverflow result lp.now basis.now (R.state rates.old)
+        (R.state rates.new) }
 {
     let mut nonbasics = 0;
     for k in 0..lp.number_of_variables() {
@@ -208,14 +205,13 @@ pub fn point_of<R: Rates>(
     rates: &mut R,
     out: &mut [Frac],
 ) -> Result<(), Stop>
-    requires rates { HasRates (R.matrix rates.old) (R.basics rates.old) lp.now basis.now }
+    requires rates { IsAtBasis (R.state rates.old) lp.now basis.now }
     requires places { length out.old ≡ size lp.now.matrix }
     ensures point { OnOk result (IsPointOf lp.now basis.now (value_at out.new)) }
     ensures unchanged { OnErr result (out.new ≡ out.old) }
-    ensures rates { KeepsRates (R.matrix rates.new) (R.basics rates.new) lp.now basis.now
-        (R.waypoints rates.old) (R.waypoints rates.new) }
-    ensures overflow { PointOverflow result lp.now basis.now (R.waypoints rates.old)
-        (R.waypoints rates.new) }
+    ensures rates { StaysAt (R.state rates.old) (R.state rates.new) lp.now basis.now }
+    ensures overflow { PointOverflow result lp.now basis.now (R.state rates.old)
+        (R.state rates.new) }
 {
     let size = lp.number_of_variables() as usize;
     let mut column = vec![in alloc; Frac::whole(0); size].map_err(|_| NoMemory)?;
@@ -232,13 +228,12 @@ pub fn point_at<R: Rates>(
     basis: &Basis,
     rates: &mut R,
 ) -> Result<Point, Stop>
-    requires rates { HasRates (R.matrix rates.old) (R.basics rates.old) lp.now basis.now }
+    requires rates { IsAtBasis (R.state rates.old) lp.now basis.now }
     ensures places { IfOk result (λ point. length point ≡ size lp.now.matrix) }
     ensures point { IfOk result (λ point. IsPointOf lp.now basis.now (value_at point)) }
-    ensures rates { KeepsRates (R.matrix rates.new) (R.basics rates.new) lp.now basis.now
-        (R.waypoints rates.old) (R.waypoints rates.new) }
-    ensures overflow { IfErr result (λ stop. IfOverflow stop
-        (PointRefused lp.now (R.waypoints rates.old) basis.now (R.waypoints rates.new))) }
+    ensures rates { StaysAt (R.state rates.old) (R.state rates.new) lp.now basis.now }
+    ensures overflow { PointOverflow result lp.now basis.now (R.state rates.old)
+        (R.state rates.new) }
 {
     let size = lp.number_of_variables() as usize;
     let mut values = vec![in alloc; Frac::whole(0); size].map_err(|_| NoMemory)?;

@@ -4,8 +4,8 @@ ghost use Rattle.std.specs.Prelude.{◌≡◌, ◌≢◌, ◌<◌, ◌^◌, Some
 ghost use Rattle.exact_values.specs.Rational.{zero_ℚ, ◌+ℚ◌, ◌*ℚ◌};
 ghost use Rattle.lp_definitions.specs.LinearProgram.{size, value_at, IsLinearProgram};
 ghost use Rattle.lp_definitions.specs.Basis.{basics_of, ArePricesOf};
-ghost use Rattle.lp_model.specs.RatesCalls.{IsRowOf, IfOverflow};
-ghost use Rattle.basis_values.specs.Calls.{HasRates, KeepsRates, PointRefused};
+ghost use Rattle.lp_model.specs.RatesCalls.{IsRowOf};
+ghost use Rattle.basis_values.specs.Calls.{IsAtBasis, StaysAt};
 ghost use Rattle.basis_values.specs.Stops.{PointOverflow};
 ghost use Rattle.basis_values.specs.Prices.{SomeChangedRefused, AreChanged, price_formula};
 
@@ -56,7 +56,7 @@ fn add_change_row<R: Rates>(
     change: &mut [Frac],
     prices: &mut [Frac],
 ) -> Result<(), Stop>
-    requires rates { HasRates (R.matrix rates.old) (R.basics rates.old) lp.now basis.now }
+    requires rates { IsAtBasis (R.state rates.old) lp.now basis.now }
     requires lawful { IsLinearProgram lp.now }
     requires added { lp.now.change ≡ Some added }
     requires change { length change.old ≡ size lp.now.matrix }
@@ -64,10 +64,9 @@ fn add_change_row<R: Rates>(
     requires objective { IsRowOf lp.now.matrix (basics_of basis.now) lp.now.objective
         (value_at prices.old) }
     ensures prices { OnOk result (ArePricesOf lp.now basis.now (value_at prices.new)) }
-    ensures rates { KeepsRates (R.matrix rates.new) (R.basics rates.new) lp.now basis.now
-        (R.waypoints rates.old) (R.waypoints rates.new) }
-    ensures overflow { PointOverflow result lp.now basis.now (R.waypoints rates.old)
-        (R.waypoints rates.new) }
+    ensures rates { StaysAt (R.state rates.old) (R.state rates.new) lp.now basis.now }
+    ensures overflow { PointOverflow result lp.now basis.now (R.state rates.old)
+        (R.state rates.new) }
 {
     if added.theta.is_zero() {
         return Ok(());
@@ -87,15 +86,14 @@ pub fn fill_prices<R: Rates>(
     change: &mut [Frac],
     prices: &mut [Frac],
 ) -> Result<(), Stop>
-    requires rates { HasRates (R.matrix rates.old) (R.basics rates.old) lp.now basis.now }
+    requires rates { IsAtBasis (R.state rates.old) lp.now basis.now }
     requires lawful { IsLinearProgram lp.now }
     requires change { length change.old ≡ size lp.now.matrix }
     requires places { length prices.old ≡ size lp.now.matrix }
     ensures prices { OnOk result (ArePricesOf lp.now basis.now (value_at prices.new)) }
-    ensures rates { KeepsRates (R.matrix rates.new) (R.basics rates.new) lp.now basis.now
-        (R.waypoints rates.old) (R.waypoints rates.new) }
-    ensures overflow { PointOverflow result lp.now basis.now (R.waypoints rates.old)
-        (R.waypoints rates.new) }
+    ensures rates { StaysAt (R.state rates.old) (R.state rates.new) lp.now basis.now }
+    ensures overflow { PointOverflow result lp.now basis.now (R.state rates.old)
+        (R.state rates.new) }
 {
     rates.row(lp.objective, prices)?;
     match lp.change {
@@ -113,14 +111,13 @@ pub fn prices_of<R: Rates>(
     rates: &mut R,
     out: &mut [Frac],
 ) -> Result<(), Stop>
-    requires rates { HasRates (R.matrix rates.old) (R.basics rates.old) lp.now basis.now }
+    requires rates { IsAtBasis (R.state rates.old) lp.now basis.now }
     requires places { length out.old ≡ size lp.now.matrix }
     ensures prices { OnOk result (ArePricesOf lp.now basis.now (value_at out.new)) }
     ensures unchanged { OnErr result (out.new ≡ out.old) }
-    ensures rates { KeepsRates (R.matrix rates.new) (R.basics rates.new) lp.now basis.now
-        (R.waypoints rates.old) (R.waypoints rates.new) }
-    ensures overflow { PointOverflow result lp.now basis.now (R.waypoints rates.old)
-        (R.waypoints rates.new) }
+    ensures rates { StaysAt (R.state rates.old) (R.state rates.new) lp.now basis.now }
+    ensures overflow { PointOverflow result lp.now basis.now (R.state rates.old)
+        (R.state rates.new) }
 {
     let size = lp.number_of_variables() as usize;
     let mut change = vec![in alloc; Frac::whole(0); size].map_err(|_| NoMemory)?;
@@ -137,13 +134,12 @@ pub fn prices_at<R: Rates>(
     basis: &Basis,
     rates: &mut R,
 ) -> Result<Prices, Stop>
-    requires rates { HasRates (R.matrix rates.old) (R.basics rates.old) lp.now basis.now }
+    requires rates { IsAtBasis (R.state rates.old) lp.now basis.now }
     ensures places { IfOk result (λ prices. length prices ≡ size lp.now.matrix) }
     ensures prices { IfOk result (λ prices. ArePricesOf lp.now basis.now (value_at prices)) }
-    ensures rates { KeepsRates (R.matrix rates.new) (R.basics rates.new) lp.now basis.now
-        (R.waypoints rates.old) (R.waypoints rates.new) }
-    ensures overflow { IfErr result (λ stop. IfOverflow stop
-        (PointRefused lp.now (R.waypoints rates.old) basis.now (R.waypoints rates.new))) }
+    ensures rates { StaysAt (R.state rates.old) (R.state rates.new) lp.now basis.now }
+    ensures overflow { PointOverflow result lp.now basis.now (R.state rates.old)
+        (R.state rates.new) }
 {
     let size = lp.number_of_variables() as usize;
     let mut values = vec![in alloc; Frac::whole(0); size].map_err(|_| NoMemory)?;

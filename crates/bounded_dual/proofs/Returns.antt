@@ -10,7 +10,7 @@ use Rattle.basis_values.specs.Calls.{HasRates}
 use Rattle.bounded_primal.specs.Calls.{RuleNeverReturned, RuleWaypointsFollow}
 use Rattle.termination_laws.specs.Laws.{lists_of}
 use Rattle.termination_laws.proofs.Ending.{dual_apart, dual_limited}
-use Rattle.bounded_dual.specs.Stops.{DualStops}
+use Rattle.bounded_dual.specs.Stops.{DualStopsAlong}
 use Rattle.bounded_dual.specs.declared.moves.DualStop.{DualStop}
 use Rattle.bounded_dual.specs.declared.moves.DualStop.TheVariants.{NotDualFeasible, Limit, Overflow, NoMemory}
 
@@ -22,7 +22,7 @@ module _ (p : LinearProgram) (lawful : IsLinearProgram p) (no_change : p.change 
   never_returned now before after h right = record { bases = h.bases; is_path = h.is_path; reaches = h.reaches; apart = dual_apart p lawful no_change s h.bases begun right h.is_path }
 
   -- a path that goes on after as many steps as the limit allows
-  pub limit_below : {T : Type 0} (now : List Status) (limit : ℕ) (before after : List Basics) (result : Result T DualStop) → IfErr result (DualStops p s now limit before after) → IsErrOf result Limit → limit < lists_of p
+  pub limit_below : {T : Type 0} (now : List Status) (limit : ℕ) (before after : List Basics) (result : Result T DualStop) → IfErr result (DualStopsAlong p s now limit before after) → IsErrOf result Limit → limit < lists_of p
   limit_below now limit before after (Ok value) h is = cc
   limit_below now limit before after (Err (NotDualFeasible j)) h is = cc
   limit_below now limit before after (Err Limit) h is = let few = dual_limited p lawful no_change s limit begun h.0 h.1.goes_on in omega (arith, few)

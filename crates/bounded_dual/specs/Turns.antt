@@ -8,6 +8,7 @@ use Rattle.lp_definitions.specs.LinearProgram.{LinearProgram, Vector}
 use Rattle.lp_definitions.specs.Basis.{Basics, basics_of, IsBasic, IsNonbasic, IsDirectionOf}
 use Rattle.lp_definitions.specs.declared.Status.{Status}
 use Rattle.lp_definitions.specs.declared.Status.TheVariants.{Bs}
+use Rattle.lp_model.specs.RatesState.{RatesState}
 use Rattle.lp_model.specs.RatesCalls.{IsRowOf}
 use Rattle.simplex_definitions.specs.DualPath.{dual_turn, IsDualStep}
 use Rattle.simplex_definitions.specs.Statements.{Dual, RuleMoves}
@@ -40,7 +41,7 @@ DualTurnStops p s left before after (Overflow e) = EvidenceHere (Dual p) p.matri
 DualTurnStops p s left before after NoMemory = Unit {0}
 
 -- after so many steps, where so many more are allowed
-abbrev pub DualTurnFound : Result Turn DualStop → LinearProgram → List Status → ℕ → ℕ → Vector → Vector → List Basics → List Basics → Type 0
+abbrev pub DualTurnFound : Result Turn DualStop → LinearProgram → List Status → ℕ → ℕ → Vector → Vector → RatesState → RatesState → Type 0
 DualTurnFound (Ok (Ends outcome)) p s steps left d xs before after = RuleEndsHere dual_turn p s steps outcome
 DualTurnFound (Ok (Moves q by)) p s steps left d xs before after = DualMovesOn p s d xs q by left
-DualTurnFound (Err stop) p s steps left d xs before after = DualTurnStops p s left before after stop
+DualTurnFound (Err stop) p s steps left d xs before after = DualTurnStops p s left before.waypoints after.waypoints stop

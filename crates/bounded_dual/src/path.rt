@@ -7,15 +7,15 @@ ghost use Rattle.lp_definitions.specs.declared.Status.{Status};
 ghost use Rattle.simplex_definitions.specs.Path.{PathEnding};
 ghost use Rattle.simplex_definitions.specs.DualPath.{dual_turn, HasRightPrices};
 ghost use Rattle.simplex_definitions.specs.Statements.{Dual};
-ghost use Rattle.basis_values.specs.Calls.{HasRates, KeepsRates};
+ghost use Rattle.basis_values.specs.Calls.{IsAtBasis, StaysAt};
 ghost use Rattle.basis_values.specs.Stops.{PointOverflow};
-ghost use Rattle.bounded_primal.specs.Calls.{RuleCallEnds, RuleNeverReturned, RuleWaypointsFollow};
+ghost use Rattle.bounded_primal.specs.Calls.{RuleCallEnds, RuleNeverReturned};
 ghost use Rattle.bounded_primal.specs.Complete.{RuleEndsOverflowFree, IsEndOr};
 ghost use Rattle.bounded_primal.specs.Outcomes.{IsTrueOutcome};
 ghost use Rattle.bounded_primal.specs.Turns.{IsUncrossed};
 ghost use Rattle.bounded_primal.specs.Workspaces.{AreSized};
 ghost use Rattle.termination_laws.specs.Laws.{lists_of};
-ghost use Rattle.bounded_dual.specs.Stops.{DualEnds, DualStops, IsNotUnbounded};
+ghost use Rattle.bounded_dual.specs.Stops.{DualEnds, DualStops, IsNotUnbounded, DualWaypointsFollow};
 
 use crate::moves::DualStop;
 use crate::turns::next_turn;
@@ -37,15 +37,14 @@ fn kept_prices<R: Rates>(
     carried: bool,
 ) -> Result<(), Stop>
     requires lawful { IsLinearProgram lp.now }
-    requires rates { HasRates (R.matrix rates.old) (R.basics rates.old) lp.now basis.now }
+    requires rates { IsAtBasis (R.state rates.old) lp.now basis.now }
     requires workspace { length workspace.old ≡ size lp.now.matrix }
     requires places { length prices.old ≡ size lp.now.matrix }
     requires carried { IsTrue carried → ArePricesOf lp.now basis.now (value_at prices.old) }
     ensures prices { OnOk result (ArePricesOf lp.now basis.now (value_at prices.new)) }
-    ensures rates { KeepsRates (R.matrix rates.new) (R.basics rates.new) lp.now basis.now
-        (R.waypoints rates.old) (R.waypoints rates.new) }
-    ensures overflow { PointOverflow result lp.now basis.now (R.waypoints rates.old)
-        (R.waypoints rates.new) }
+    ensures rates { StaysAt (R.state rates.old) (R.state rates.new) lp.now basis.now }
+    ensures overflow { PointOverflow result lp.now basis.now (R.state rates.old)
+        (R.state rates.new) }
 {
     if carried {
         return Ok(());
@@ -64,17 +63,17 @@ fn walk<R: Rates>(
 ) -> Result<Outcome, DualStop>
     requires lawful { IsLinearProgram lp.now }
     requires no_change { lp.now.change ≡ None }
-    requires rates { HasRates (R.matrix rates.old) (R.basics rates.old) lp.now basis.old }
+    requires rates { IsAtBasis (R.state rates.old) lp.now basis.old }
     requires sized { AreSized (size lp.now.matrix) workspace.old }
     requires prices { ArePricesOf lp.now basis.old (value_at workspace.old.prices.items) }
     requires right { HasRightPrices lp.now basis.old }
     requires uncrossed { IsUncrossed lp.now }
     ensures ends { IfOk result (RuleCallEnds dual_turn lp.now basis.old basis.new limit) }
-    ensures stops { IfErr result (DualStops lp.now basis.old basis.new limit
-        (R.waypoints rates.old) (R.waypoints rates.new)) }
-    ensures rates { HasRates (R.matrix rates.new) (R.basics rates.new) lp.now basis.new }
-    ensures waypoints { RuleWaypointsFollow dual_turn lp.now basis.old basis.new
-        (R.waypoints rates.old) (R.waypoints rates.new) }
+    ensures stops { IfErr result (DualStops lp.now basis.old basis.new limit (R.state rates.old)
+        (R.state rates.new)) }
+    ensures rates { IsAtBasis (R.state rates.new) lp.now basis.new }
+    ensures waypoints { DualWaypointsFollow lp.now basis.old basis.new (R.state rates.old)
+        (R.state rates.new) }
 {
     let alloc = workspace.alloc;
     let point = workspace.point.as_mut_slice();
@@ -123,14 +122,14 @@ pub fn dual<R: Rates>(
     rates: &mut R,
     limit: u32,
 ) -> Result<Outcome, DualStop>
-    requires rates { HasRates (R.matrix rates.old) (R.basics rates.old) lp.now basis.old }
+    requires rates { IsAtBasis (R.state rates.old) lp.now basis.old }
     requires no_change { lp.now.change ≡ None }
     ensures ends { IfOk result (DualEnds lp.now basis.old basis.new limit) }
-    ensures stops { IfErr result (DualStops lp.now basis.old basis.new limit
-        (R.waypoints rates.old) (R.waypoints rates.new)) }
-    ensures rates { HasRates (R.matrix rates.new) (R.basics rates.new) lp.now basis.new }
-    ensures waypoints { RuleWaypointsFollow dual_turn lp.now basis.old basis.new
-        (R.waypoints rates.old) (R.waypoints rates.new) }
+    ensures stops { IfErr result (DualStops lp.now basis.old basis.new limit (R.state rates.old)
+        (R.state rates.new)) }
+    ensures rates { IsAtBasis (R.state rates.new) lp.now basis.new }
+    ensures waypoints { DualWaypointsFollow lp.now basis.old basis.new (R.state rates.old)
+        (R.state rates.new) }
     ensures truth { IfOk result (IsTrueOutcome lp.now) }
     ensures bounded { IfOk result IsNotUnbounded }
     // From right prices no basis comes twice, and so no path has as many steps as there are status lists, three for each variable.
@@ -139,8 +138,9 @@ pub fn dual<R: Rates>(
     ensures limited { IsErrOf result DualStop.Limit → limit < lists_of lp.now }
     ensures complete { (bases : List (List Status)) (ending : PathEnding) →
         HasRightPrices lp.now basis.old →
-        RuleEndsOverflowFree dual_turn (Dual lp.now) lp.now basis.old limit (R.waypoints rates.old)
-        bases ending → IsEndOr DualStop.NoMemory basis.old bases ending basis.new result }
+        RuleEndsOverflowFree dual_turn (Dual lp.now) lp.now basis.old limit
+        (R.state rates.old).waypoints bases ending → IsEndOr DualStop.NoMemory basis.old bases
+        ending basis.new result }
 {
     let _size = lp.number_of_variables();
     let mut workspace = Workspace::new(alloc, lp)?;

@@ -4,7 +4,7 @@ ghost use Rattle.std.specs.Prelude.{◌≡◌, ℕ, None, Some, length, OnOk, Is
 ghost use Rattle.exact_values.specs.Rational.{ℚ};
 ghost use Rattle.lp_definitions.specs.LinearProgram.{size, value_at, IsLinearProgram};
 ghost use Rattle.lp_definitions.specs.Basis.{ArePricesOf, IsPointOf};
-ghost use Rattle.basis_values.specs.Calls.{HasRates, KeepsRates};
+ghost use Rattle.basis_values.specs.Calls.{IsAtBasis, StaysAt};
 ghost use Rattle.bounded_primal.specs.KeptPoints.{all_kept, AgreesWithPoint};
 ghost use Rattle.bounded_primal.specs.Turns.{IsUncrossed, least_outside};
 ghost use Rattle.bounded_dual.specs.Turns.{DualTurnFound};
@@ -28,7 +28,7 @@ fn restore_feasibility<R: Rates>(
 ) -> Result<Turn, DualStop>
     requires lawful { IsLinearProgram at.now.lp.now }
     requires no_change { at.now.lp.now.change ≡ None }
-    requires rates { HasRates (R.matrix rates.old) (R.basics rates.old) at.now.lp.now at.now.basis.now }
+    requires rates { IsAtBasis (R.state rates.old) at.now.lp.now at.now.basis.now }
     requires price_places { length prices.now ≡ size at.now.lp.now.matrix }
     requires row_places { length row.old ≡ size at.now.lp.now.matrix }
     requires direction_places { length direction.old ≡ size at.now.lp.now.matrix }
@@ -36,11 +36,10 @@ fn restore_feasibility<R: Rates>(
     requires prices { ArePricesOf at.now.lp.now at.now.basis.now (value_at prices.now) }
     requires uncrossed { IsUncrossed at.now.lp.now }
     requires outside { least_outside at.now.lp.now at.now.basis.now (value_at at.now.point.now) ≡ Some r }
-    ensures turn { DualTurnFound result at.now.lp.now at.now.basis.now at.now.steps at.now.left (value_at direction.new)
-        (value_at row.new) (R.waypoints rates.old) (R.waypoints rates.new) }
+    ensures turn { DualTurnFound result at.now.lp.now at.now.basis.now at.now.steps at.now.left
+        (value_at direction.new) (value_at row.new) (R.state rates.old) (R.state rates.new) }
     ensures direction_places { OnOk result (length direction.new ≡ size at.now.lp.now.matrix) }
-    ensures rates { KeepsRates (R.matrix rates.new) (R.basics rates.new) at.now.lp.now at.now.basis.now
-        (R.waypoints rates.old) (R.waypoints rates.new) }
+    ensures rates { StaysAt (R.state rates.old) (R.state rates.new) at.now.lp.now at.now.basis.now }
 {
     let below = lies_below(at.lp, at.point, r);
     read_row(at.lp, at.basis, rates, r, row)?;
@@ -65,17 +64,16 @@ fn restore_feasibility<R: Rates>(
 /// The end, where no basic is outside its limits: the point, and the prices at hand.
 fn optimal<R: Rates>(at: &Position<'_>, rates: &mut R, prices: &[Frac]) -> Result<Turn, DualStop>
     requires no_change { at.now.lp.now.change ≡ None }
-    requires rates { HasRates (R.matrix rates.old) (R.basics rates.old) at.now.lp.now at.now.basis.now }
+    requires rates { IsAtBasis (R.state rates.old) at.now.lp.now at.now.basis.now }
     requires price_places { length prices.now ≡ size at.now.lp.now.matrix }
     requires point { AgreesWithPoint at.now.lp.now at.now.basis.now (value_at at.now.point.now) }
     requires kept { IsTrue (all_kept at.now.kept) → IsPointOf at.now.lp.now at.now.basis.now (value_at at.now.point.now) }
     requires prices { ArePricesOf at.now.lp.now at.now.basis.now (value_at prices.now) }
     requires uncrossed { IsUncrossed at.now.lp.now }
     requires inside { least_outside at.now.lp.now at.now.basis.now (value_at at.now.point.now) ≡ None }
-    ensures turn { (d xs : ℕ → ℚ) → DualTurnFound result at.now.lp.now at.now.basis.now at.now.steps at.now.left d xs
-        (R.waypoints rates.old) (R.waypoints rates.new) }
-    ensures rates { KeepsRates (R.matrix rates.new) (R.basics rates.new) at.now.lp.now at.now.basis.now
-        (R.waypoints rates.old) (R.waypoints rates.new) }
+    ensures turn { (d xs : ℕ → ℚ) → DualTurnFound result at.now.lp.now at.now.basis.now at.now.steps
+        at.now.left d xs (R.state rates.old) (R.state rates.new) }
+    ensures rates { StaysAt (R.state rates.old) (R.state rates.new) at.now.lp.now at.now.basis.now }
 {
     let point = whole_point(at, rates)?;
     Ok(Turn::Ends(best(at.alloc, point, prices, at.steps)?))
@@ -92,7 +90,7 @@ pub fn next_turn<R: Rates>(
 ) -> Result<Turn, DualStop>
     requires lawful { IsLinearProgram at.now.lp.now }
     requires no_change { at.now.lp.now.change ≡ None }
-    requires rates { HasRates (R.matrix rates.old) (R.basics rates.old) at.now.lp.now at.now.basis.now }
+    requires rates { IsAtBasis (R.state rates.old) at.now.lp.now at.now.basis.now }
     requires price_places { length prices.now ≡ size at.now.lp.now.matrix }
     requires row_places { length row.old ≡ size at.now.lp.now.matrix }
     requires direction_places { length direction.old ≡ size at.now.lp.now.matrix }
@@ -101,11 +99,10 @@ pub fn next_turn<R: Rates>(
     requires prices { ArePricesOf at.now.lp.now at.now.basis.now (value_at prices.now) }
     requires uncrossed { IsUncrossed at.now.lp.now }
     requires broken { at.now.broken ≡ least_outside at.now.lp.now at.now.basis.now (value_at at.now.point.now) }
-    ensures turn { DualTurnFound result at.now.lp.now at.now.basis.now at.now.steps at.now.left (value_at direction.new)
-        (value_at row.new) (R.waypoints rates.old) (R.waypoints rates.new) }
+    ensures turn { DualTurnFound result at.now.lp.now at.now.basis.now at.now.steps at.now.left
+        (value_at direction.new) (value_at row.new) (R.state rates.old) (R.state rates.new) }
     ensures direction_places { OnOk result (length direction.new ≡ size at.now.lp.now.matrix) }
-    ensures rates { KeepsRates (R.matrix rates.new) (R.basics rates.new) at.now.lp.now at.now.basis.now
-        (R.waypoints rates.old) (R.waypoints rates.new) }
+    ensures rates { StaysAt (R.state rates.old) (R.state rates.new) at.now.lp.now at.now.basis.now }
 {
     match at.broken {
         Some(r) => restore_feasibility(at, rates, prices, row, direction, r),

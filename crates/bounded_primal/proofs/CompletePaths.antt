@@ -14,7 +14,7 @@ use Rattle.simplex_laws.proofs.OnePath.{one_path, not_both}
 use Rattle.termination_laws.specs.Laws.{lists_of}
 use Rattle.basis_values.specs.Calls.{HasRates}
 use Rattle.bounded_primal.specs.Calls.{CallEnds, RuleCallEnds, outcome_of}
-use Rattle.bounded_primal.specs.Stops.{PrimalStops, FreeStops}
+use Rattle.bounded_primal.specs.Stops.{PrimalStopsAlong, primal_stop_of}
 use Rattle.bounded_primal.specs.Complete.{EndsOverflowFree, EndsFreely, IsEndOr, IsEndOrMemory, IsFreeEndOrMemory}
 use Rattle.bounded_primal.specs.declared.moves.PrimalStop.{PrimalStop}
 use Rattle.bounded_primal.specs.declared.moves.PrimalStop.TheVariants.{Limit, Overflow, NoMemory}
@@ -36,7 +36,7 @@ module _ (p : LinearProgram) (lawful : IsLinearProgram p) (a : Matrix) (b : Basi
   begun : IsNonsingularBasis p s
   begun = record { is_basis = has.is_basis; nonsingular = has.nonsingular }
 
-  pub path_answered : (limit : ℕ) (before after : List Basics) (result : Result Outcome PrimalStop) → IfOk result (CallEnds p s now limit) → IfErr result (PrimalStops p s now limit before after) →
+  pub path_answered : (limit : ℕ) (before after : List Basics) (result : Result Outcome PrimalStop) → IfOk result (CallEnds p s now limit) → IfErr result (PrimalStopsAlong p s now limit before after) →
       EndsOverflowFree p s limit before bases ending → IsEndOrMemory s bases ending now result
   path_answered limit before after (Ok outcome) ends stops goes = answers_end turn p (one_path p lawful) s begun now bases ending limit NoMemory outcome goes.ends ends
   path_answered limit before after (Err Limit) ends stops goes =
@@ -44,7 +44,7 @@ module _ (p : LinearProgram) (lawful : IsLinearProgram p) (a : Matrix) (b : Basi
   path_answered limit before after (Err (Overflow e)) ends stops goes = absurd (goes.no_evidence now after e stops)
   path_answered limit before after (Err NoMemory) ends stops goes = inr refl
 
-  pub free_path_answered : (before after : List Basics) (result : Result Outcome Stop) → IfOk result (CallEnds p s now (lists_of p)) → IfErr result (FreeStops p s now before after) →
+  pub free_path_answered : (before after : List Basics) (result : Result Outcome Stop) → IfOk result (CallEnds p s now (lists_of p)) → IfErr result (λ why. PrimalStopsAlong p s now (lists_of p) before after (primal_stop_of why)) →
       EndsFreely p s before bases ending → IsFreeEndOrMemory s bases ending now result
   free_path_answered before after (Ok outcome) ends stops goes = answers_end turn p (one_path p lawful) s begun now bases ending (lists_of p) stop.NoMemory outcome goes.ends ends
   free_path_answered before after (Err (stop.Overflow e)) ends stops goes = absurd (goes.no_evidence now after e stops)

@@ -15,8 +15,8 @@ use Rattle.simplex_definitions.specs.Counts.{counted_steps}
 use Rattle.simplex_definitions.specs.Statements.{SolvingStatement}
 use Rattle.simplex_definitions.specs.Evidence.{IsAhead}
 use Rattle.basis_values.specs.Calls.{HasRates, job_of}
-use Rattle.bounded_primal.specs.Calls.{CallEnds, NeverReturned, WaypointsFollow}
-use Rattle.bounded_primal.specs.Stops.{primal_stop_of, PrimalStops, FreeStops}
+use Rattle.bounded_primal.specs.Calls.{CallEnds, NeverReturned, RuleWaypointsFollow}
+use Rattle.bounded_primal.specs.Stops.{primal_stop_of, PrimalStopsAlong}
 use Rattle.bounded_primal.specs.Turns.{EndsHere, EvidenceAt, TurnStops}
 use Rattle.bounded_primal.specs.declared.moves.PrimalStop.{PrimalStop}
 use Rattle.bounded_primal.specs.declared.moves.PrimalStop.TheVariants.{Limit, Overflow, NoMemory}
@@ -32,11 +32,11 @@ module _ (p : LinearProgram) (lawful : IsLinearProgram p) (a : Matrix) (b : Basi
   reached_short before now ways steps h = subst (λ n. n < lists_of p) h.taken (short p lawful s h.bases begun h.path.0)
 
   -- no basis comes twice on the path of a call
-  pub never_returned : (now : List Status) (before after : List Basics) → WaypointsFollow p s now before after → NeverReturned p s now
+  pub never_returned : (now : List Status) (before after : List Basics) → RuleWaypointsFollow turn p s now before after → NeverReturned p s now
   never_returned now before after h = record { bases = h.bases; is_path = h.is_path; reaches = h.reaches; apart = apart p lawful s h.bases begun h.is_path }
 
   -- a path that goes on after as many steps as the limit allows
-  pub limit_below : {T : Type 0} (now : List Status) (limit : ℕ) (before after : List Basics) (result : Result T PrimalStop) → IfErr result (PrimalStops p s now limit before after) → IsErrOf result Limit → limit < lists_of p
+  pub limit_below : {T : Type 0} (now : List Status) (limit : ℕ) (before after : List Basics) (result : Result T PrimalStop) → IfErr result (PrimalStopsAlong p s now limit before after) → IsErrOf result Limit → limit < lists_of p
   limit_below now limit before after (Ok value) h is = cc
   limit_below now limit before after (Err Limit) h is = let few = limited p lawful s limit begun h.goes_on in omega (arith, few)
   limit_below now limit before after (Err (Overflow e)) h is = cc
@@ -72,7 +72,7 @@ module _ (p : LinearProgram) (lawful : IsLinearProgram p) (a : Matrix) (b : Basi
   fewer : steps < lists_of p
   fewer = reached_short p lawful a b s has before now ways steps h
 
-  pub free_stops : (more : List Basics) (why : Stop) → TurnStops p now 1 ways more (primal_stop_of why) → FreeStops p s now before more why
+  pub free_stops : (more : List Basics) (why : Stop) → TurnStops p now 1 ways more (primal_stop_of why) → PrimalStopsAlong p s now (lists_of p) before more (primal_stop_of why)
   free_stops more why stops =
       let few = fewer in
       stops_there p s before now ways steps h (lists_of p) more (primal_stop_of why) (omega (arith, few)) (stops_free p now ways more (lists_of p - steps) why (omega (arith, few)) stops)

@@ -16,7 +16,7 @@ use Rattle.simplex_definitions.specs.Statements.{SolvingStatement}
 use Rattle.simplex_definitions.specs.Evidence.{EvidenceHolds}
 use Rattle.basis_values.specs.Calls.{LieIn, job_of}
 use Rattle.bounded_primal.specs.Calls.{RuleCallEnds, RuleCallGoesOn, RuleWaypointsFollow, RuleStopsOnPath, outcome_of}
-use Rattle.bounded_primal.specs.Stops.{PrimalStops}
+use Rattle.bounded_primal.specs.Stops.{PrimalStopsAlong}
 use Rattle.bounded_primal.specs.Turns.{RuleEndsHere, TurnStops}
 use Rattle.bounded_primal.specs.declared.moves.PrimalStop.{PrimalStop}
 use Rattle.bounded_primal.specs.declared.moves.PrimalStop.TheVariants.{Limit, Overflow, NoMemory}
@@ -171,7 +171,7 @@ module _ (rule : Rule) (p : LinearProgram) (s : List Status) (before : List Basi
 -- ---- a stop of the simplex path
 
 module _ (p : LinearProgram) (s : List Status) (before : List Basics) (now : List Status) (ways : List Basics) (steps : ℕ) (h : HasReached turn p s before now ways steps) where
-  pub stops_there : (limit : ℕ) (more : List Basics) (stop : PrimalStop) → steps ≤ limit → TurnStops p now (limit - steps) ways more stop → PrimalStops p s now limit before more stop
+  pub stops_there : (limit : ℕ) (more : List Basics) (stop : PrimalStop) → steps ≤ limit → TurnStops p now (limit - steps) ways more stop → PrimalStopsAlong p s now limit before more stop
   stops_there limit more Limit within t = goes_on_there turn p s before now ways steps h limit (omega (arith, t.0, within)) t.1.0 t.1.1
   stops_there limit more NoMemory within t = (h.bases, (h.path.0, h.path.1), omega (arith, h.taken, within))
   stops_there limit more (Overflow e) within t = overflows_there turn p s before now ways steps h (job_of p p.change) limit more e within t.is_way t.shows

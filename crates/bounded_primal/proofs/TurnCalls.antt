@@ -9,6 +9,7 @@ use Rattle.lp_definitions.specs.declared.Evidence.{Evidence}
 use Rattle.lp_definitions.specs.declared.Status.{Status}
 use Rattle.lp_definitions.specs.declared.Status.TheVariants.{Ll, Ul}
 use Rattle.lp_model.specs.RatesCalls.{IsRowOf}
+use Rattle.lp_model.specs.RatesState.{RatesState}
 use Rattle.lp_laws.proofs.WaypointLaws.{within_itself, within_by}
 use Rattle.simplex_definitions.specs.Moves.{is_below, is_outside, entering}
 use Rattle.simplex_definitions.specs.Path.{Move, after, IsStep}
@@ -49,10 +50,11 @@ module _ (p : LinearProgram) (s : List Status) (before mid now : List Basics) (k
   stops_later left NoMemory h = h
   stops_later left (Overflow e) h = record { is_way = h.is_way; shows = λ earlier lie. h.shows earlier (lie_later earlier lie) }
 
-  pub found_later : (result : Result Turn PrimalStop) (steps left : ℕ) (d : Vector) → TurnFound result p s steps left d mid now → TurnFound result p s steps left d before now
-  found_later (Ok (Ends outcome)) steps left d h = h
-  found_later (Ok (Moves q by)) steps left d h = h
-  found_later (Err stop) steps left d h = stops_later left stop h
+pub found_later : (p : LinearProgram) (s : List Status) (before mid now : RatesState) → KeepsWaypoints p.matrix (basics_of s) before.waypoints (basics_of s) mid.waypoints →
+    (result : Result Turn PrimalStop) (steps left : ℕ) (d : Vector) → TurnFound result p s steps left d mid now → TurnFound result p s steps left d before now
+found_later p s before mid now keeps (Ok (Ends outcome)) steps left d h = h
+found_later p s before mid now keeps (Ok (Moves q by)) steps left d h = h
+found_later p s before mid now keeps (Err stop) steps left d h = stops_later p s before.waypoints mid.waypoints now.waypoints keeps left stop h
 
 -- ---- evidence of a phase
 

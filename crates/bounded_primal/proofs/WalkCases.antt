@@ -10,7 +10,7 @@ use Rattle.lp_laws.proofs.WaypointLaws.{keeps_then}
 use Rattle.simplex_definitions.specs.Path.{turn, after}
 use Rattle.basis_values.specs.Calls.{PointRefused}
 use Rattle.bounded_primal.specs.Moves.{move_by, StepRefused}
-use Rattle.bounded_primal.specs.Stops.{primal_stop_of, PrimalStops}
+use Rattle.bounded_primal.specs.Stops.{primal_stop_of, PrimalStopsAlong}
 use Rattle.bounded_primal.specs.Turns.{MovesOn, TurnStops}
 use Rattle.bounded_primal.specs.declared.moves.Stopper.{Stopper}
 use Rattle.bounded_primal.proofs.StepFacts.{ReachesLimit, step_reaches, limit_apart}
@@ -19,7 +19,7 @@ use Rattle.bounded_primal.proofs.TurnCases.{point_stops}
 use Rattle.bounded_primal.proofs.PathWalk.{HasReached, begins, goes_over, stops_there}
 
 -- the point of the first basis could not be made
-pub stops_at_once : (p : LinearProgram) (s : List Status) (limit : ℕ) (before now : List Basics) (why : Stop) → IfOverflow why (PointRefused p before s now) → PrimalStops p s s limit before now (primal_stop_of why)
+pub stops_at_once : (p : LinearProgram) (s : List Status) (limit : ℕ) (before now : List Basics) (why : Stop) → IfOverflow why (PointRefused p before s now) → PrimalStopsAlong p s s limit before now (primal_stop_of why)
 stops_at_once p s limit before now why h = stops_there p s before s before 0 (begins turn p s before) limit now (primal_stop_of why) (omega arith) (point_stops p s (limit - 0) before now why h)
 
 module _ (p : LinearProgram) (now : List Status) (d : Vector) (q : ℕ) (by : Stopper) (left : ℕ) (h : MovesOn p now d q by left) where
@@ -38,7 +38,7 @@ module _ (p : LinearProgram) (now : List Status) (d : Vector) (q : ℕ) (by : St
         goes_over turn p s before now ways steps reached next more (record { tableau = h.moves.0; is_tableau = h.moves.1; move = move_by q by; turns = h.moves.2; is_next = is })
         (keeps_then p.matrix (basics_of now) ways (basics_of next) mid more first second)
 
-    pub walk_stops : (mid more : List Basics) (why : Stop) (limit : ℕ) → steps ≤ limit → left ≡ limit - steps → KeepsWaypoints p.matrix (basics_of now) ways (basics_of now) mid → IfOverflow why (StepRefused p mid now q by more) → PrimalStops p s now limit before more (primal_stop_of why)
+    pub walk_stops : (mid more : List Basics) (why : Stop) (limit : ℕ) → steps ≤ limit → left ≡ limit - steps → KeepsWaypoints p.matrix (basics_of now) ways (basics_of now) mid → IfOverflow why (StepRefused p mid now q by more) → PrimalStopsAlong p s now limit before more (primal_stop_of why)
     walk_stops mid more why limit within is_left keeps refused =
         stops_there p s before now ways steps reached limit more (primal_stop_of why) within
         (subst (λ n. TurnStops p now n ways more (primal_stop_of why)) is_left (step_stops ways mid more why keeps refused))

@@ -17,6 +17,7 @@ use Rattle.simplex_definitions.specs.Path.{PathEnding, EndsOptimal, EndsCrossed,
 use Rattle.simplex_definitions.specs.Counts.{counted_steps}
 use Rattle.simplex_definitions.specs.Statements.{SolvingStatement}
 use Rattle.simplex_definitions.specs.Evidence.{EvidenceHolds}
+use Rattle.lp_model.specs.RatesState.{RatesState}
 use Rattle.basis_values.specs.Calls.{LieIn, job_of}
 use Rattle.termination_laws.specs.Laws.{NeverReturns}
 
@@ -82,8 +83,8 @@ CallEnds = RuleCallEnds turn
 abbrev pub PathGoesOn : LinearProgram → List Status → List Status → ℕ → Type 0
 PathGoesOn = RuleCallGoesOn turn
 
-abbrev pub WaypointsFollow : LinearProgram → List Status → List Status → List Basics → List Basics → Type 0
-WaypointsFollow = RuleWaypointsFollow turn
+abbrev pub WaypointsFollow : LinearProgram → List Status → List Status → RatesState → RatesState → Type 0
+WaypointsFollow p s now before after = RuleWaypointsFollow turn p s now before.waypoints after.waypoints
 
 abbrev pub NeverReturned : LinearProgram → List Status → List Status → Type 0
 NeverReturned = RuleNeverReturned turn

@@ -12,6 +12,7 @@ use Rattle.lp_definitions.specs.Solutions.{IsFeasible}
 use Rattle.lp_definitions.specs.Basis.{Basics, basics_of, exchanged, IsBasic, IsPointOf, IsDirectionOf}
 use Rattle.lp_definitions.specs.declared.Evidence.{Evidence}
 use Rattle.lp_definitions.specs.declared.Status.{Status}
+use Rattle.lp_model.specs.RatesState.{RatesState}
 use Rattle.lp_model.specs.declared.Stop.{Stop}
 use Rattle.lp_model.specs.RatesCalls.{IfOverflow}
 use Rattle.simplex_definitions.specs.Moves.{signed, step_length, stopper, reached}
@@ -63,5 +64,5 @@ pub record StepRefused (p : LinearProgram) (before : List Basics) (s : List Stat
   pub leaves : IsTrue (is_between 8 9 e.formula) → e.p ≡ by.p
   pub stops : StopsAt (λ to. to ≡ by.to) p (basics_of s ∷ exchanged (basics_of s) by.p q ∷ before) s after e
 
-abbrev pub StepOverflow : Result (Unit {0}) Stop → LinearProgram → List Status → ℕ → Stopper → List Basics → List Basics → Type 0
-StepOverflow result p s q by before after = IfErr result (λ stop. IfOverflow stop (StepRefused p before s q by after))
+abbrev pub StepOverflow : {T : Type 0} → Result T Stop → LinearProgram → List Status → ℕ → Stopper → RatesState → RatesState → Type 0
+StepOverflow result p s q by before after = IfErr result (λ stop. IfOverflow stop (StepRefused p before.waypoints s q by after.waypoints))

@@ -16,6 +16,7 @@ use Rattle.lp_definitions.specs.Basis.{Basics, basics_of, is_in, IsNonbasic, IsD
 use Rattle.lp_definitions.specs.Waypoints.{waypoint}
 use Rattle.lp_definitions.specs.declared.Evidence.{Evidence}
 use Rattle.lp_definitions.specs.declared.Status.{Status}
+use Rattle.lp_model.specs.RatesState.{RatesState}
 use Rattle.lp_model.specs.RatesCalls.{IsRowOf}
 use Rattle.lp_model.specs.declared.reports.Outcome.{Outcome}
 use Rattle.lp_model.specs.declared.reports.Outcome.TheVariants.{Unbounded}
@@ -123,12 +124,12 @@ TurnStops p s left before after (Overflow e) = EvidenceAt p s left before after 
 TurnStops p s left before after NoMemory = Unit {0}
 
 -- after so many steps, where so many more are allowed
-abbrev pub TurnFound : Result Turn PrimalStop → LinearProgram → List Status → ℕ → ℕ → Vector → List Basics → List Basics → Type 0
+abbrev pub TurnFound : Result Turn PrimalStop → LinearProgram → List Status → ℕ → ℕ → Vector → RatesState → RatesState → Type 0
 TurnFound (Ok (Ends outcome)) p s steps left d before after = EndsHere p s steps outcome
 TurnFound (Ok (Moves q by)) p s steps left d before after = MovesOn p s d q by left
-TurnFound (Err stop) p s steps left d before after = TurnStops p s left before after stop
+TurnFound (Err stop) p s steps left d before after = TurnStops p s left before.waypoints after.waypoints stop
 
 -- the same where a step is always left
-abbrev pub FreeTurnFound : Result Turn Stop → LinearProgram → List Status → ℕ → Vector → List Basics → List Basics → Type 0
+abbrev pub FreeTurnFound : Result Turn Stop → LinearProgram → List Status → ℕ → Vector → RatesState → RatesState → Type 0
 FreeTurnFound (Ok turn) p s steps d before after = TurnFound (Ok turn) p s steps 1 d before after
-FreeTurnFound (Err stop) p s steps d before after = TurnStops p s 1 before after (primal_stop_of stop)
+FreeTurnFound (Err stop) p s steps d before after = TurnStops p s 1 before.waypoints after.waypoints (primal_stop_of stop)

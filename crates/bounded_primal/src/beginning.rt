@@ -2,7 +2,7 @@
 
 ghost use Rattle.std.specs.Prelude.{◌≡◌, [], ◌∷◌, IfOk};
 ghost use Rattle.lp_definitions.specs.Basis.{opening_statuses};
-ghost use Rattle.basis_values.specs.Calls.{HasRates, LieIn};
+ghost use Rattle.basis_values.specs.Calls.{LieIn, IsAtBasis};
 
 use lp_model::{Basis, Engine, Lp, NoMemory};
 use std::alloc::Global;
@@ -10,9 +10,8 @@ use std::alloc::Global;
 /// The opening basis, in which every row is basic, and the rates of its basics, whose waypoints lie in it.
 pub fn opening<R: Engine>(alloc: Global, lp: &Lp) -> Result<(Basis, R), NoMemory>
     ensures basis { IfOk result (λ opened. opened.0 ≡ opening_statuses lp.now) }
-    ensures rates { IfOk result (λ opened. HasRates (R.matrix opened.1) (R.basics opened.1)
-        lp.now opened.0) }
-    ensures waypoints { IfOk result (λ opened. LieIn lp.now.matrix (R.waypoints opened.1)
+    ensures rates { IfOk result (λ opened. IsAtBasis (R.state opened.1) lp.now opened.0) }
+    ensures waypoints { IfOk result (λ opened. LieIn lp.now.matrix (R.state opened.1).waypoints
         (opened.0 ∷ [])) }
 {
     let basis = Basis::opening(alloc, lp)?;

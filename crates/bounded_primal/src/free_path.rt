@@ -6,7 +6,7 @@ ghost use Rattle.lp_definitions.specs.Basis.{IsPointOf};
 ghost use Rattle.lp_definitions.specs.declared.Status.{Status};
 ghost use Rattle.simplex_definitions.specs.Path.{PathEnding};
 ghost use Rattle.termination_laws.specs.Laws.{lists_of};
-ghost use Rattle.basis_values.specs.Calls.{HasRates, KeepsRates};
+ghost use Rattle.basis_values.specs.Calls.{IsAtBasis, StaysAt};
 ghost use Rattle.basis_values.specs.Wants.{AreWants};
 ghost use Rattle.bounded_primal.specs.Calls.{CallEnds, NeverReturned, WaypointsFollow};
 ghost use Rattle.bounded_primal.specs.KeptPoints.{all_kept, AgreesWithPoint};
@@ -53,7 +53,7 @@ fn free_turn<R: Rates>(
     direction: &mut SparseVector,
 ) -> Result<Turn, Stop>
     requires lawful { IsLinearProgram at.now.lp.now }
-    requires rates { HasRates (R.matrix rates.old) (R.basics rates.old) at.now.lp.now at.now.basis.now }
+    requires rates { IsAtBasis (R.state rates.old) at.now.lp.now at.now.basis.now }
     requires wants { AreWants at.now.lp.now at.now.basis.now wanted.now }
     requires price_places { length prices.old ≡ size at.now.lp.now.matrix }
     requires row_places { length row.old ≡ size at.now.lp.now.matrix }
@@ -63,11 +63,10 @@ fn free_turn<R: Rates>(
     requires uncrossed { IsUncrossed at.now.lp.now }
     requires left { at.now.left ≡ 1 }
     requires broken { at.now.broken ≡ least_outside at.now.lp.now at.now.basis.now (value_at at.now.point.now) }
-    ensures turn { FreeTurnFound result at.now.lp.now at.now.basis.now at.now.steps (value_at direction.new)
-        (R.waypoints rates.old) (R.waypoints rates.new) }
+    ensures turn { FreeTurnFound result at.now.lp.now at.now.basis.now at.now.steps
+        (value_at direction.new) (R.state rates.old) (R.state rates.new) }
     ensures direction_places { OnOk result (length direction.new ≡ size at.now.lp.now.matrix) }
-    ensures rates { KeepsRates (R.matrix rates.new) (R.basics rates.new) at.now.lp.now at.now.basis.now
-        (R.waypoints rates.old) (R.waypoints rates.new) }
+    ensures rates { StaysAt (R.state rates.old) (R.state rates.new) at.now.lp.now at.now.basis.now }
 {
     match next_turn(at, rates, wanted, prices, row, direction) {
         Ok(turn) => Ok(turn),
@@ -90,16 +89,16 @@ fn walk_free<R: Rates, L: Ledger>(
     requires parts { blank.parts ≡ L.parts }
     requires some { 0 < blank.parts }
     requires lawful { IsLinearProgram lp.now }
-    requires rates { HasRates (R.matrix rates.old) (R.basics rates.old) lp.now basis.old }
+    requires rates { IsAtBasis (R.state rates.old) lp.now basis.old }
     requires wants { AreWants lp.now basis.old wanted.old }
     requires sized { AreSized (size lp.now.matrix) workspace.old }
     requires uncrossed { IsUncrossed lp.now }
     ensures ends { IfOk result (CallEnds lp.now basis.old basis.new (lists_of lp.now)) }
-    ensures stops { IfErr result (FreeStops lp.now basis.old basis.new
-        (R.waypoints rates.old) (R.waypoints rates.new)) }
-    ensures rates { HasRates (R.matrix rates.new) (R.basics rates.new) lp.now basis.new }
-    ensures waypoints { WaypointsFollow lp.now basis.old basis.new
-        (R.waypoints rates.old) (R.waypoints rates.new) }
+    ensures stops { IfErr result (FreeStops lp.now basis.old basis.new (R.state rates.old)
+        (R.state rates.new)) }
+    ensures rates { IsAtBasis (R.state rates.new) lp.now basis.new }
+    ensures waypoints { WaypointsFollow lp.now basis.old basis.new (R.state rates.old)
+        (R.state rates.new) }
 {
     let (mut book, mut share) = blank.open::<L>();
     let alloc = workspace.alloc;
@@ -146,18 +145,18 @@ pub fn primal_free<R: Rates>(
     basis: &mut Basis,
     rates: &mut R,
 ) -> Result<Outcome, Stop>
-    requires { HasRates (R.matrix rates.old) (R.basics rates.old) lp.now basis.old }
+    requires { IsAtBasis (R.state rates.old) lp.now basis.old }
     ensures ends { IfOk result (CallEnds lp.now basis.old basis.new (lists_of lp.now)) }
-    ensures stops { IfErr result (FreeStops lp.now basis.old basis.new
-        (R.waypoints rates.old) (R.waypoints rates.new)) }
-    ensures rates { HasRates (R.matrix rates.new) (R.basics rates.new) lp.now basis.new }
-    ensures waypoints { WaypointsFollow lp.now basis.old basis.new
-        (R.waypoints rates.old) (R.waypoints rates.new) }
+    ensures stops { IfErr result (FreeStops lp.now basis.old basis.new (R.state rates.old)
+        (R.state rates.new)) }
+    ensures rates { IsAtBasis (R.state rates.new) lp.now basis.new }
+    ensures waypoints { WaypointsFollow lp.now basis.old basis.new (R.state rates.old)
+        (R.state rates.new) }
     ensures truth { IfOk result (IsTrueOutcome lp.now) }
     // No basis comes twice.
     ensures apart { NeverReturned lp.now basis.old basis.new }
     ensures complete { (bases : List (List Status)) (ending : PathEnding) →
-        EndsFreely lp.now basis.old (R.waypoints rates.old) bases ending →
+        EndsFreely lp.now basis.old (R.state rates.old).waypoints bases ending →
         IsFreeEndOrMemory basis.old bases ending basis.new result }
 {
     let _size = lp.number_of_variables();

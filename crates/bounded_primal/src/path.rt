@@ -4,7 +4,7 @@ ghost use Rattle.std.specs.Prelude.{◌≡◌, ◌<◌, None, List, length, IfOk
 ghost use Rattle.lp_definitions.specs.LinearProgram.{size, value_at, IsLinearProgram};
 ghost use Rattle.lp_definitions.specs.declared.Status.{Status};
 ghost use Rattle.simplex_definitions.specs.Path.{PathEnding};
-ghost use Rattle.basis_values.specs.Calls.{HasRates};
+ghost use Rattle.basis_values.specs.Calls.{IsAtBasis};
 ghost use Rattle.basis_values.specs.Wants.{AreWants};
 ghost use Rattle.bounded_primal.specs.Calls.{CallEnds, NeverReturned, WaypointsFollow};
 ghost use Rattle.bounded_primal.specs.Complete.{EndsOverflowFree, IsEndOrMemory};
@@ -49,16 +49,16 @@ fn walk<R: Rates>(
     limit: u32,
 ) -> Result<Outcome, PrimalStop>
     requires lawful { IsLinearProgram lp.now }
-    requires rates { HasRates (R.matrix rates.old) (R.basics rates.old) lp.now basis.old }
+    requires rates { IsAtBasis (R.state rates.old) lp.now basis.old }
     requires wants { AreWants lp.now basis.old wanted.old }
     requires sized { AreSized (size lp.now.matrix) workspace.old }
     requires uncrossed { IsUncrossed lp.now }
     ensures ends { IfOk result (CallEnds lp.now basis.old basis.new limit) }
-    ensures stops { IfErr result (PrimalStops lp.now basis.old basis.new limit
-        (R.waypoints rates.old) (R.waypoints rates.new)) }
-    ensures rates { HasRates (R.matrix rates.new) (R.basics rates.new) lp.now basis.new }
-    ensures waypoints { WaypointsFollow lp.now basis.old basis.new (R.waypoints rates.old)
-        (R.waypoints rates.new) }
+    ensures stops { IfErr result (PrimalStops lp.now basis.old basis.new limit (R.state rates.old)
+        (R.state rates.new)) }
+    ensures rates { IsAtBasis (R.state rates.new) lp.now basis.new }
+    ensures waypoints { WaypointsFollow lp.now basis.old basis.new (R.state rates.old)
+        (R.state rates.new) }
 {
     let alloc = workspace.alloc;
     let point = workspace.point.as_mut_slice();
@@ -105,20 +105,20 @@ pub fn primal<R: Rates>(
     rates: &mut R,
     limit: u32,
 ) -> Result<Outcome, PrimalStop>
-    requires { HasRates (R.matrix rates.old) (R.basics rates.old) lp.now basis.old }
+    requires { IsAtBasis (R.state rates.old) lp.now basis.old }
     ensures ends { IfOk result (CallEnds lp.now basis.old basis.new limit) }
-    ensures stops { IfErr result (PrimalStops lp.now basis.old basis.new limit
-        (R.waypoints rates.old) (R.waypoints rates.new)) }
-    ensures rates { HasRates (R.matrix rates.new) (R.basics rates.new) lp.now basis.new }
-    ensures waypoints { WaypointsFollow lp.now basis.old basis.new (R.waypoints rates.old)
-        (R.waypoints rates.new) }
+    ensures stops { IfErr result (PrimalStops lp.now basis.old basis.new limit (R.state rates.old)
+        (R.state rates.new)) }
+    ensures rates { IsAtBasis (R.state rates.new) lp.now basis.new }
+    ensures waypoints { WaypointsFollow lp.now basis.old basis.new (R.state rates.old)
+        (R.state rates.new) }
     ensures truth { IfOk result (IsTrueOutcome lp.now) }
     // No basis comes twice.
     ensures apart { NeverReturned lp.now basis.old basis.new }
     // No path has as many steps as there are status lists, three for each variable.
     ensures limited { IsErrOf result PrimalStop.Limit → limit < lists_of lp.now }
     ensures complete { (bases : List (List Status)) (ending : PathEnding) →
-        EndsOverflowFree lp.now basis.old limit (R.waypoints rates.old) bases ending →
+        EndsOverflowFree lp.now basis.old limit (R.state rates.old).waypoints bases ending →
         IsEndOrMemory basis.old bases ending basis.new result }
 {
     let _size = lp.number_of_variables();

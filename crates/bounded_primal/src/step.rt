@@ -4,13 +4,11 @@ ghost use Rattle.std.specs.Prelude.{◌≡◌, ◌≢◌, ◌||◌, length, OnOk
 ghost use Rattle.exact_values.specs.Rational.{zero_ℚ, ◌+ℚ◌, ◌*ℚ◌};
 ghost use Rattle.lp_definitions.specs.LinearProgram.{size, value_at, IsVariable};
 ghost use Rattle.lp_definitions.specs.Basis.{basics_of, IsNonbasic, IsPointOf, IsDirectionOf};
-ghost use Rattle.lp_definitions.specs.Waypoints.{KeepsWaypoints};
 ghost use Rattle.simplex_definitions.specs.Path.{after};
 ghost use Rattle.simplex_definitions.specs.Formulas.{limit_numbered, number_of_limit};
-ghost use Rattle.basis_values.specs.Calls.{HasRates};
-ghost use Rattle.lp_model.specs.RatesCalls.{IfOverflow};
+ghost use Rattle.basis_values.specs.Calls.{IsAtBasis, MovesTo};
 ghost use Rattle.bounded_primal.specs.KeptPoints.{all_kept, all_needed, has_limit as is_limited, AgreesWithPoint};
-ghost use Rattle.bounded_primal.specs.Moves.{StepsFromPoint, move_by, return_by, StepRefused, StepOverflow};
+ghost use Rattle.bounded_primal.specs.Moves.{StepsFromPoint, move_by, return_by, StepOverflow};
 ghost use Rattle.bounded_primal.specs.Steps.{IsMoved, IsMovedAtLimits, MovedRefused, SomeMovedRefused, ReturnRefused, step_formula};
 
 use crate::kept::Kept;
@@ -190,7 +188,7 @@ fn change_basis<R: Rates>(
     rates: &mut R,
     step: &Move<'_>,
 ) -> Result<(), Stop>
-    requires rates { HasRates (R.matrix rates.old) (R.basics rates.old) lp.now basis.old }
+    requires rates { IsAtBasis (R.state rates.old) lp.now basis.old }
     requires nonbasic { IsNonbasic lp.now.matrix (basics_of basis.old) step.now.q }
     requires direction { IsDirectionOf lp.now.matrix (basics_of basis.old) step.now.q
         (value_at step.now.direction.now) }
@@ -199,11 +197,10 @@ fn change_basis<R: Rates>(
     requires moves { value_at step.now.direction.now step.now.by.now.p ≢ zero_ℚ }
     ensures basis { OnOk result (basis.new ≡ after basis.old (move_by step.now.q step.now.by.now)) }
     ensures unchanged { OnErr result (basis.new ≡ basis.old) }
-    ensures rates { HasRates (R.matrix rates.new) (R.basics rates.new) lp.now basis.new }
-    ensures waypoints { KeepsWaypoints lp.now.matrix (basics_of basis.old) (R.waypoints rates.old)
-        (basics_of basis.new) (R.waypoints rates.new) }
-    ensures overflow { StepOverflow result lp.now basis.old step.now.q step.now.by.now (R.waypoints rates.old)
-        (R.waypoints rates.new) }
+    ensures rates { IsAtBasis (R.state rates.new) lp.now basis.new }
+    ensures waypoints { MovesTo (R.state rates.old) (R.state rates.new) lp.now basis.old basis.new }
+    ensures overflow { StepOverflow result lp.now basis.old step.now.q step.now.by.now
+        (R.state rates.old) (R.state rates.new) }
 {
     let Move { q, by, direction } = *step;
     if by.p == q {
@@ -227,7 +224,7 @@ pub fn step_over<R: Rates>(
     step: &Move<'_>,
     kept: Kept,
 ) -> Result<Kept, Stop>
-    requires rates { HasRates (R.matrix rates.old) (R.basics rates.old) lp.now basis.old }
+    requires rates { IsAtBasis (R.state rates.old) lp.now basis.old }
     requires point_places { length point.old ≡ size lp.now.matrix }
     requires direction_places { length step.now.direction.now ≡ size lp.now.matrix }
     requires nonbasic { IsNonbasic lp.now.matrix (basics_of basis.old) step.now.q }
@@ -243,11 +240,10 @@ pub fn step_over<R: Rates>(
         IsPointOf lp.now basis.new (value_at point.new)) }
     ensures needed { IfOk result (λ still. IsTrue (all_needed kept) → IsTrue (all_kept still)) }
     ensures unchanged { OnErr result (basis.new ≡ basis.old) }
-    ensures rates { HasRates (R.matrix rates.new) (R.basics rates.new) lp.now basis.new }
-    ensures waypoints { KeepsWaypoints lp.now.matrix (basics_of basis.old) (R.waypoints rates.old)
-        (basics_of basis.new) (R.waypoints rates.new) }
-    ensures overflow { IfErr result (λ stop. IfOverflow stop (StepRefused lp.now
-        (R.waypoints rates.old) basis.old step.now.q step.now.by.now (R.waypoints rates.new))) }
+    ensures rates { IsAtBasis (R.state rates.new) lp.now basis.new }
+    ensures waypoints { MovesTo (R.state rates.old) (R.state rates.new) lp.now basis.old basis.new }
+    ensures overflow { StepOverflow result lp.now basis.old step.now.q step.now.by.now
+        (R.state rates.old) (R.state rates.new) }
 {
     let still = match move_point(lp, step, point, kept) {
         Ok(still) => still,

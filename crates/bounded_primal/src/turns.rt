@@ -8,7 +8,8 @@ ghost use Rattle.lp_definitions.specs.Basis.{basics_of, IsBasic, IsNonbasic, IsD
 ghost use Rattle.lp_model.specs.RatesCalls.{IfOverflow};
 ghost use Rattle.simplex_definitions.specs.Moves.{signed};
 ghost use Rattle.simplex_definitions.specs.Formulas.{limit_numbered, number_of_limit};
-ghost use Rattle.basis_values.specs.Calls.{HasRates, KeepsRates, PointRefused};
+ghost use Rattle.basis_values.specs.Stops.{PointOverflow};
+ghost use Rattle.basis_values.specs.Calls.{IsAtBasis, StaysAt};
 ghost use Rattle.basis_values.specs.Motions.{may_move, motion};
 ghost use Rattle.basis_values.specs.Wants.{AreWants};
 ghost use Rattle.bounded_primal.specs.KeptPoints.{all_kept, AgreesWithPoint};
@@ -112,15 +113,14 @@ fn restoring<R: Rates>(
     r: u32,
     below: bool,
 ) -> Result<Option<u32>, Stop>
-    requires rates { HasRates (R.matrix rates.old) (R.basics rates.old) at.now.lp.now at.now.basis.now }
+    requires rates { IsAtBasis (R.state rates.old) at.now.lp.now at.now.basis.now }
     requires wants { AreWants at.now.lp.now at.now.basis.now wanted.now }
     requires places { length row.old ≡ size at.now.lp.now.matrix }
     requires basic { IsBasic at.now.lp.now.matrix (basics_of at.now.basis.now) r }
     ensures found { IfOk result (IsRestoring at.now.lp.now at.now.basis.now r below (value_at row.new)) }
-    ensures rates { KeepsRates (R.matrix rates.new) (R.basics rates.new) at.now.lp.now at.now.basis.now
-        (R.waypoints rates.old) (R.waypoints rates.new) }
-    ensures overflow { IfErr result (λ stop. IfOverflow stop
-        (PointRefused at.now.lp.now (R.waypoints rates.old) at.now.basis.now (R.waypoints rates.new))) }
+    ensures rates { StaysAt (R.state rates.old) (R.state rates.new) at.now.lp.now at.now.basis.now }
+    ensures overflow { PointOverflow result at.now.lp.now at.now.basis.now (R.state rates.old)
+        (R.state rates.new) }
 {
     let _size = at.lp.number_of_variables();
     match rates.first_wanted(r, wanted, !below, row) {
@@ -138,7 +138,7 @@ pub fn return_along<R: Rates>(
     p: u32,
     to: Status,
 ) -> Result<Stopper, Stop>
-    requires rates { HasRates (R.matrix rates.old) (R.basics rates.old) at.now.lp.now at.now.basis.now }
+    requires rates { IsAtBasis (R.state rates.old) at.now.lp.now at.now.basis.now }
     requires direction_places { length direction.old ≡ size at.now.lp.now.matrix }
     requires nonbasic { IsNonbasic at.now.lp.now.matrix (basics_of at.now.basis.now) q }
     requires basic { IsBasic at.now.lp.now.matrix (basics_of at.now.basis.now) p }
@@ -150,11 +150,10 @@ pub fn return_along<R: Rates>(
     ensures stopper { IfOk result (λ by. by ≡ return_by at.now.lp.now (value_at at.now.point.now)
         (value_at direction.new) p to) }
     ensures direction_places { OnOk result (length direction.new ≡ size at.now.lp.now.matrix) }
-    ensures rates { KeepsRates (R.matrix rates.new) (R.basics rates.new) at.now.lp.now at.now.basis.now
-        (R.waypoints rates.old) (R.waypoints rates.new) }
-    ensures overflow { IfErr result
-        (λ stop. IfOverflow stop (ReturnStops at.now.lp.now at.now.basis.now (value_at at.now.point.now) q p to
-        (R.waypoints rates.old) (R.waypoints rates.new))) }
+    ensures rates { StaysAt (R.state rates.old) (R.state rates.new) at.now.lp.now at.now.basis.now }
+    ensures overflow { IfErr result (λ stop. IfOverflow stop (ReturnStops at.now.lp.now
+        at.now.basis.now (value_at at.now.point.now) q p to (R.state rates.old).waypoints
+        (R.state rates.new).waypoints)) }
 {
     let _size = at.lp.number_of_variables();
     rates.direction(q, direction)?;
@@ -172,7 +171,7 @@ fn stopper_of<R: Rates>(
     q: u32,
     up: bool,
 ) -> Result<Option<Stopper>, Stop>
-    requires rates { HasRates (R.matrix rates.old) (R.basics rates.old) at.now.lp.now at.now.basis.now }
+    requires rates { IsAtBasis (R.state rates.old) at.now.lp.now at.now.basis.now }
     requires direction_places { length direction.old ≡ size at.now.lp.now.matrix }
     requires point { AgreesWithPoint at.now.lp.now at.now.basis.now (value_at at.now.point.now) }
     requires within { IsWithinLimits at.now.lp.now (value_at at.now.point.now) }
@@ -183,11 +182,9 @@ fn stopper_of<R: Rates>(
     ensures stopper { IfOk result (λ found. found ≡ stopper_by at.now.lp.now (value_at at.now.point.now)
         (value_at direction.new) up) }
     ensures direction_places { OnOk result (length direction.new ≡ size at.now.lp.now.matrix) }
-    ensures rates { KeepsRates (R.matrix rates.new) (R.basics rates.new) at.now.lp.now at.now.basis.now
-        (R.waypoints rates.old) (R.waypoints rates.new) }
-    ensures overflow { IfErr result
-        (λ stop. IfOverflow stop (RunStopsAtPoint at.now.lp.now at.now.basis.now q up
-        (R.waypoints rates.old) (R.waypoints rates.new))) }
+    ensures rates { StaysAt (R.state rates.old) (R.state rates.new) at.now.lp.now at.now.basis.now }
+    ensures overflow { IfErr result (λ stop. IfOverflow stop (RunStopsAtPoint at.now.lp.now
+        at.now.basis.now q up (R.state rates.old).waypoints (R.state rates.new).waypoints)) }
 {
     let _size = at.lp.number_of_variables();
     rates.direction(q, direction)?;
@@ -232,15 +229,14 @@ fn entering_variable_by_prices<R: Rates>(
     row: &mut [Frac],
     prices: &mut [Frac],
 ) -> Result<Option<EnteringVariable>, Stop>
-    requires rates { HasRates (R.matrix rates.old) (R.basics rates.old) at.now.lp.now at.now.basis.now }
+    requires rates { IsAtBasis (R.state rates.old) at.now.lp.now at.now.basis.now }
     requires lawful { IsLinearProgram at.now.lp.now }
     requires row_places { length row.old ≡ size at.now.lp.now.matrix }
     requires price_places { length prices.old ≡ size at.now.lp.now.matrix }
     ensures found { IfOk result (IsEnteringVariableFound at.now.lp.now at.now.basis.now (value_at prices.new)) }
-    ensures rates { KeepsRates (R.matrix rates.new) (R.basics rates.new) at.now.lp.now at.now.basis.now
-        (R.waypoints rates.old) (R.waypoints rates.new) }
-    ensures overflow { IfErr result (λ stop. IfOverflow stop
-        (PointRefused at.now.lp.now (R.waypoints rates.old) at.now.basis.now (R.waypoints rates.new))) }
+    ensures rates { StaysAt (R.state rates.old) (R.state rates.new) at.now.lp.now at.now.basis.now }
+    ensures overflow { PointOverflow result at.now.lp.now at.now.basis.now (R.state rates.old)
+        (R.state rates.new) }
 {
     match fill_prices(at.lp, at.basis, rates, row, prices) {
         Ok(()) => Ok(improving(at.lp, at.basis, prices)),
@@ -255,16 +251,15 @@ fn entering_variable_by_row<R: Rates>(
     wanted: &[Wanted],
     prices: &mut [Frac],
 ) -> Result<Option<EnteringVariable>, Stop>
-    requires rates { HasRates (R.matrix rates.old) (R.basics rates.old) at.now.lp.now at.now.basis.now }
+    requires rates { IsAtBasis (R.state rates.old) at.now.lp.now at.now.basis.now }
     requires lawful { IsLinearProgram at.now.lp.now }
     requires wants { AreWants at.now.lp.now at.now.basis.now wanted.now }
     requires unchanged { at.now.lp.now.change ≡ None }
     requires places { length prices.old ≡ size at.now.lp.now.matrix }
     ensures found { IfOk result (IsEnteringVariableFound at.now.lp.now at.now.basis.now (value_at prices.new)) }
-    ensures rates { KeepsRates (R.matrix rates.new) (R.basics rates.new) at.now.lp.now at.now.basis.now
-        (R.waypoints rates.old) (R.waypoints rates.new) }
-    ensures overflow { IfErr result (λ stop. IfOverflow stop
-        (PointRefused at.now.lp.now (R.waypoints rates.old) at.now.basis.now (R.waypoints rates.new))) }
+    ensures rates { StaysAt (R.state rates.old) (R.state rates.new) at.now.lp.now at.now.basis.now }
+    ensures overflow { PointOverflow result at.now.lp.now at.now.basis.now (R.state rates.old)
+        (R.state rates.new) }
 {
     let lp = at.lp;
     match rates.first_wanted(lp.objective, wanted, is_minimized(lp), prices) {
@@ -282,16 +277,15 @@ fn entering_variable_of<R: Rates>(
     row: &mut [Frac],
     prices: &mut [Frac],
 ) -> Result<Option<EnteringVariable>, Stop>
-    requires rates { HasRates (R.matrix rates.old) (R.basics rates.old) at.now.lp.now at.now.basis.now }
+    requires rates { IsAtBasis (R.state rates.old) at.now.lp.now at.now.basis.now }
     requires lawful { IsLinearProgram at.now.lp.now }
     requires wants { AreWants at.now.lp.now at.now.basis.now wanted.now }
     requires row_places { length row.old ≡ size at.now.lp.now.matrix }
     requires price_places { length prices.old ≡ size at.now.lp.now.matrix }
     ensures found { IfOk result (IsEnteringVariableFound at.now.lp.now at.now.basis.now (value_at prices.new)) }
-    ensures rates { KeepsRates (R.matrix rates.new) (R.basics rates.new) at.now.lp.now at.now.basis.now
-        (R.waypoints rates.old) (R.waypoints rates.new) }
-    ensures overflow { IfErr result (λ stop. IfOverflow stop
-        (PointRefused at.now.lp.now (R.waypoints rates.old) at.now.basis.now (R.waypoints rates.new))) }
+    ensures rates { StaysAt (R.state rates.old) (R.state rates.new) at.now.lp.now at.now.basis.now }
+    ensures overflow { PointOverflow result at.now.lp.now at.now.basis.now (R.state rates.old)
+        (R.state rates.new) }
 {
     let lp = at.lp;
     match lp.change {
@@ -316,7 +310,7 @@ fn first_phase<R: Rates>(
     direction: &mut SparseVector,
     r: u32,
 ) -> Result<Turn, PrimalStop>
-    requires rates { HasRates (R.matrix rates.old) (R.basics rates.old) at.now.lp.now at.now.basis.now }
+    requires rates { IsAtBasis (R.state rates.old) at.now.lp.now at.now.basis.now }
     requires wants { AreWants at.now.lp.now at.now.basis.now wanted.now }
     requires row_places { length row.old ≡ size at.now.lp.now.matrix }
     requires direction_places { length direction.old ≡ size at.now.lp.now.matrix }
@@ -324,10 +318,9 @@ fn first_phase<R: Rates>(
     requires uncrossed { IsUncrossed at.now.lp.now }
     requires outside { least_outside at.now.lp.now at.now.basis.now (value_at at.now.point.now) ≡ Some r }
     ensures turn { TurnFound result at.now.lp.now at.now.basis.now at.now.steps at.now.left
-        (value_at direction.new) (R.waypoints rates.old) (R.waypoints rates.new) }
+        (value_at direction.new) (R.state rates.old) (R.state rates.new) }
     ensures direction_places { OnOk result (length direction.new ≡ size at.now.lp.now.matrix) }
-    ensures rates { KeepsRates (R.matrix rates.new) (R.basics rates.new) at.now.lp.now at.now.basis.now
-        (R.waypoints rates.old) (R.waypoints rates.new) }
+    ensures rates { StaysAt (R.state rates.old) (R.state rates.new) at.now.lp.now at.now.basis.now }
 {
     let below = lies_below(at.lp, at.point, r);
     let Some(q) = restoring(at, rates, wanted, row, r, below)? else {
@@ -346,14 +339,13 @@ fn first_phase<R: Rates>(
 
 /// The point of the basis: a copy where all its values are kept, and else made anew.
 pub fn whole_point<R: Rates>(at: &Position<'_>, rates: &mut R) -> Result<Vec<Frac>, Stop>
-    requires rates { HasRates (R.matrix rates.old) (R.basics rates.old) at.now.lp.now at.now.basis.now }
+    requires rates { IsAtBasis (R.state rates.old) at.now.lp.now at.now.basis.now }
     requires kept { IsTrue (all_kept at.now.kept) → IsPointOf at.now.lp.now at.now.basis.now (value_at at.now.point.now) }
     ensures places { IfOk result (λ made. length made.items ≡ size at.now.lp.now.matrix) }
     ensures point { IfOk result (λ made. IsPointOf at.now.lp.now at.now.basis.now (value_at made.items)) }
-    ensures rates { KeepsRates (R.matrix rates.new) (R.basics rates.new) at.now.lp.now at.now.basis.now
-        (R.waypoints rates.old) (R.waypoints rates.new) }
-    ensures overflow { IfErr result (λ stop. IfOverflow stop
-        (PointRefused at.now.lp.now (R.waypoints rates.old) at.now.basis.now (R.waypoints rates.new))) }
+    ensures rates { StaysAt (R.state rates.old) (R.state rates.new) at.now.lp.now at.now.basis.now }
+    ensures overflow { PointOverflow result at.now.lp.now at.now.basis.now (R.state rates.old)
+        (R.state rates.new) }
 {
     let mut values = copied(at.alloc, at.point)?;
     if at.kept.has_all() {
@@ -409,7 +401,7 @@ fn run<R: Rates>(
     direction: &mut SparseVector,
     moved: EnteringVariable,
 ) -> Result<Turn, PrimalStop>
-    requires rates { HasRates (R.matrix rates.old) (R.basics rates.old) at.now.lp.now at.now.basis.now }
+    requires rates { IsAtBasis (R.state rates.old) at.now.lp.now at.now.basis.now }
     requires direction_places { length direction.old ≡ size at.now.lp.now.matrix }
     requires point { AgreesWithPoint at.now.lp.now at.now.basis.now (value_at at.now.point.now) }
     requires kept { IsTrue (all_kept at.now.kept) → IsPointOf at.now.lp.now at.now.basis.now (value_at at.now.point.now) }
@@ -417,10 +409,9 @@ fn run<R: Rates>(
     requires inside { least_outside at.now.lp.now at.now.basis.now (value_at at.now.point.now) ≡ None }
     requires moves { Improves at.now.lp.now at.now.basis.now moved }
     ensures turn { TurnFound result at.now.lp.now at.now.basis.now at.now.steps at.now.left
-        (value_at direction.new) (R.waypoints rates.old) (R.waypoints rates.new) }
+        (value_at direction.new) (R.state rates.old) (R.state rates.new) }
     ensures direction_places { OnOk result (length direction.new ≡ size at.now.lp.now.matrix) }
-    ensures rates { KeepsRates (R.matrix rates.new) (R.basics rates.new) at.now.lp.now at.now.basis.now
-        (R.waypoints rates.old) (R.waypoints rates.new) }
+    ensures rates { StaysAt (R.state rates.old) (R.state rates.new) at.now.lp.now at.now.basis.now }
 {
     match stopper_of(at, rates, direction, moved.q, moved.up)? {
         None => {
@@ -455,7 +446,7 @@ fn second_phase<R: Rates>(
     direction: &mut SparseVector,
 ) -> Result<Turn, PrimalStop>
     requires lawful { IsLinearProgram at.now.lp.now }
-    requires rates { HasRates (R.matrix rates.old) (R.basics rates.old) at.now.lp.now at.now.basis.now }
+    requires rates { IsAtBasis (R.state rates.old) at.now.lp.now at.now.basis.now }
     requires wants { AreWants at.now.lp.now at.now.basis.now wanted.now }
     requires price_places { length prices.old ≡ size at.now.lp.now.matrix }
     requires row_places { length row.old ≡ size at.now.lp.now.matrix }
@@ -465,10 +456,9 @@ fn second_phase<R: Rates>(
     requires uncrossed { IsUncrossed at.now.lp.now }
     requires inside { least_outside at.now.lp.now at.now.basis.now (value_at at.now.point.now) ≡ None }
     ensures turn { TurnFound result at.now.lp.now at.now.basis.now at.now.steps at.now.left
-        (value_at direction.new) (R.waypoints rates.old) (R.waypoints rates.new) }
+        (value_at direction.new) (R.state rates.old) (R.state rates.new) }
     ensures direction_places { OnOk result (length direction.new ≡ size at.now.lp.now.matrix) }
-    ensures rates { KeepsRates (R.matrix rates.new) (R.basics rates.new) at.now.lp.now at.now.basis.now
-        (R.waypoints rates.old) (R.waypoints rates.new) }
+    ensures rates { StaysAt (R.state rates.old) (R.state rates.new) at.now.lp.now at.now.basis.now }
 {
     match entering_variable_of(at, rates, wanted, row, prices)? {
         None => {
@@ -490,7 +480,7 @@ pub fn next_turn<R: Rates>(
     direction: &mut SparseVector,
 ) -> Result<Turn, PrimalStop>
     requires lawful { IsLinearProgram at.now.lp.now }
-    requires rates { HasRates (R.matrix rates.old) (R.basics rates.old) at.now.lp.now at.now.basis.now }
+    requires rates { IsAtBasis (R.state rates.old) at.now.lp.now at.now.basis.now }
     requires wants { AreWants at.now.lp.now at.now.basis.now wanted.now }
     requires price_places { length prices.old ≡ size at.now.lp.now.matrix }
     requires row_places { length row.old ≡ size at.now.lp.now.matrix }
@@ -500,10 +490,9 @@ pub fn next_turn<R: Rates>(
     requires uncrossed { IsUncrossed at.now.lp.now }
     requires broken { at.now.broken ≡ least_outside at.now.lp.now at.now.basis.now (value_at at.now.point.now) }
     ensures turn { TurnFound result at.now.lp.now at.now.basis.now at.now.steps at.now.left
-        (value_at direction.new) (R.waypoints rates.old) (R.waypoints rates.new) }
+        (value_at direction.new) (R.state rates.old) (R.state rates.new) }
     ensures direction_places { OnOk result (length direction.new ≡ size at.now.lp.now.matrix) }
-    ensures rates { KeepsRates (R.matrix rates.new) (R.basics rates.new) at.now.lp.now at.now.basis.now
-        (R.waypoints rates.old) (R.waypoints rates.new) }
+    ensures rates { StaysAt (R.state rates.old) (R.state rates.new) at.now.lp.now at.now.basis.now }
 {
     match at.broken {
         Some(r) => first_phase(at, rates, wanted, row, direction, r),

@@ -4,7 +4,7 @@ ghost use Rattle.std.specs.Prelude.{◌≡◌, length, replicate, IfOk, OnOk};
 ghost use Rattle.exact_values.specs.Rational.{zero_ℚ};
 ghost use Rattle.lp_definitions.specs.LinearProgram.{size, value_at, IsLinearProgram};
 ghost use Rattle.lp_definitions.specs.Basis.{ArePricesOf};
-ghost use Rattle.basis_values.specs.Calls.{HasRates, KeepsRates};
+ghost use Rattle.basis_values.specs.Calls.{IsAtBasis, StaysAt};
 ghost use Rattle.basis_values.specs.Stops.{PointOverflow};
 ghost use Rattle.bounded_primal.specs.Workspaces.{AreSized};
 
@@ -54,15 +54,14 @@ impl Workspace {
         basis: &Basis,
         rates: &mut R,
     ) -> Result<(), Stop>
-        requires rates { HasRates (R.matrix rates.old) (R.basics rates.old) lp.now basis.now }
+        requires rates { IsAtBasis (R.state rates.old) lp.now basis.now }
         requires lawful { IsLinearProgram lp.now }
         requires sized { AreSized (size lp.now.matrix) self.old }
         ensures sized { AreSized (size lp.now.matrix) self.new }
         ensures prices { OnOk result (ArePricesOf lp.now basis.now (value_at self.new.prices.items)) }
-        ensures rates { KeepsRates (R.matrix rates.new) (R.basics rates.new) lp.now basis.now
-            (R.waypoints rates.old) (R.waypoints rates.new) }
-        ensures overflow { PointOverflow result lp.now basis.now (R.waypoints rates.old)
-            (R.waypoints rates.new) }
+        ensures rates { StaysAt (R.state rates.old) (R.state rates.new) lp.now basis.now }
+        ensures overflow { PointOverflow result lp.now basis.now (R.state rates.old)
+            (R.state rates.new) }
     {
         fill_prices(lp, basis, rates, &mut self.row, &mut self.prices)
     }

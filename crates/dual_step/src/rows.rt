@@ -4,7 +4,7 @@ ghost use Rattle.std.specs.Prelude.{◌≡◌, length, OnOk};
 ghost use Rattle.lp_definitions.specs.LinearProgram.{size, value_at};
 ghost use Rattle.lp_definitions.specs.Basis.{basics_of, IsBasic};
 ghost use Rattle.lp_model.specs.RatesCalls.{IsRowOf};
-ghost use Rattle.basis_values.specs.Calls.{HasRates, KeepsRates};
+ghost use Rattle.basis_values.specs.Calls.{IsAtBasis, StaysAt};
 ghost use Rattle.basis_values.specs.Stops.{PointOverflow};
 
 use frac128::Frac;
@@ -18,14 +18,13 @@ pub fn read_row<R: Rates>(
     i: u32,
     out: &mut [Frac],
 ) -> Result<(), Stop>
-    requires rates { HasRates (R.matrix rates.old) (R.basics rates.old) lp.now basis.now }
+    requires rates { IsAtBasis (R.state rates.old) lp.now basis.now }
     requires basic { IsBasic lp.now.matrix (basics_of basis.now) i }
     requires places { length out.old ≡ size lp.now.matrix }
     ensures row { OnOk result (IsRowOf lp.now.matrix (basics_of basis.now) i (value_at out.new)) }
-    ensures rates { KeepsRates (R.matrix rates.new) (R.basics rates.new) lp.now basis.now
-        (R.waypoints rates.old) (R.waypoints rates.new) }
-    ensures overflow { PointOverflow result lp.now basis.now
-        (R.waypoints rates.old) (R.waypoints rates.new) }
+    ensures rates { StaysAt (R.state rates.old) (R.state rates.new) lp.now basis.now }
+    ensures overflow { PointOverflow result lp.now basis.now (R.state rates.old)
+        (R.state rates.new) }
 {
     rates.row(i, out)
 }

@@ -12,12 +12,13 @@ use Rattle.lp_laws.proofs.Uniqueness.{one_direction}
 use Rattle.lp_laws.proofs.Values.{clash}
 use Rattle.lp_definitions.specs.Waypoints.{KeepsWaypoints, IsKept}
 use Rattle.lp_model.specs.RatesCalls.{IsRowOf, IfOverflow}
+use Rattle.lp_model.specs.RatesState.{KeepsBasics}
 use Rattle.lp_laws.proofs.Opening.{length-row_basics, AreRates-opening}
 use Rattle.lp_laws.proofs.WaypointLaws.{within_itself, keeps_same}
 use Rattle.lp_laws.specs.Rates.{opening_rate}
 use Rattle.lp_laws.proofs.Places.{value_at_place}
 use Rattle.eta_file.specs.Prefixes.{Passed, after, prefixes}
-use Rattle.eta_file.specs.Inverse.{Inverse, ways_of, IsAppended, IsRateAt, IsColumnStop}
+use Rattle.eta_file.specs.Inverse.{Inverse, ways_of, file_state, IsAppended, IsRateAt, IsColumnStop}
 use Rattle.eta_file.proofs.PrefixLaws.{prefixes-append, rates_after}
 
 -- and so does one with one eta more
@@ -80,6 +81,10 @@ rate_read f i k v xs one is_i is_k basic is_mark out counted direction read = re
 pub row_stop : (f : Inverse) (stop : Stop) → IsColumnStop f stop → IfOverflow stop (RowRefused f.matrix (f.basics ∷ ways_of f) f.basics (ways_of f))
 row_stop f (Overflow e) h = inl h
 row_stop f NoMemory h = h
+
+-- a call that leaves the file
+pub keeps_itself : (f : Inverse) → KeepsBasics (file_state f) (file_state f)
+keeps_itself f = record { same_matrix = refl; same_basics = refl; waypoints = keeps_same f.matrix f.basics (ways_of f) }
 
 pub keeps_exchange : (r : Result (Unit {0}) Stop) (f : Inverse) (p q : ℕ) (g : Inverse) → f.basics ≡ after (row_basics f.matrix) f.etas → OnOk r (IsAppended f p q g) → OnErr r (g ≡ f)
     → KeepsWaypoints f.matrix f.basics (ways_of f) g.basics (ways_of g)

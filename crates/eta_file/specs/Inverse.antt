@@ -1,6 +1,7 @@
 -- What an eta file stands for.
 --     Inverse                      a matrix, a set of basics, and the exchanges that led to it from the rows
 --     ways_of f                    the sets of basics that the file has passed through: number w is the one after the first w - 1 etas
+--     file_state f                 how the rates of the file stand
 --     IsDirectionAfter f n j xs    xs is the direction of j at the set after the first n etas
 --     IsNextEta f p q v es         an exchange of p for q is one at the basics of f, with the pivot v and the entries es
 --     IsRateAt f i k v            v is the rate of i at k, and 0 where k is basic
@@ -12,6 +13,7 @@ use Rattle.lp_definitions.specs.LinearProgram.{Matrix, Vector, value_at}
 use Rattle.lp_definitions.specs.Basis.{Basics, is_in, IsBasic, IsNonbasic, IsDirectionOf, exchanged, row_basics}
 use Rattle.lp_definitions.specs.RatesEvidence.{ExchangeRefused}
 use Rattle.lp_model.specs.RatesCalls.{IfOverflow}
+use Rattle.lp_model.specs.RatesState.{RatesState}
 use Rattle.lp_model.specs.declared.Stop.{Stop}
 use Rattle.eta_file.specs.Prefixes.{entries_to, prefixes, after}
 use Rattle.eta_file.specs.declared.eta.EtaEntry.{EtaEntry}
@@ -24,6 +26,9 @@ pub record Inverse : Type 0 where
 
 abbrev pub ways_of : Inverse → List Basics
 ways_of f = prefixes (row_basics f.matrix) f.etas
+
+abbrev pub file_state : Inverse → RatesState
+file_state f = record { matrix = f.matrix; basics = f.basics; waypoints = ways_of f }
 
 abbrev pub IsDirectionAfter : Inverse → ℕ → ℕ → List ℚ → Type 0
 IsDirectionAfter f n j xs = IsDirectionOf f.matrix (after (row_basics f.matrix) (take n f.etas)) j (value_at xs)

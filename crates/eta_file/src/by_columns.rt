@@ -3,9 +3,10 @@
 ghost use Rattle.std.specs.Prelude.{◌≡◌, ◌≢◌, ◌≤◌, length, All, IfOk, IfErr, OnOk, OnErr};
 ghost use Rattle.lp_definitions.specs.LinearProgram.{IsVariable, size, value_at};
 ghost use Rattle.lp_definitions.specs.Basis.{IsBasic, IsNonbasic, IsDirectionOf, exchanged, row_basics};
-ghost use Rattle.lp_definitions.specs.Waypoints.{KeepsWaypoints, waypoint};
+ghost use Rattle.lp_definitions.specs.Waypoints.{waypoint};
+ghost use Rattle.lp_model.specs.RatesState.{KeepsBasics, LeavesWaypoints};
 ghost use Rattle.lp_model.specs.RatesCalls.{IsRowOf, HasPivot, ColumnOverflow, RowOverflow, ExchangeOverflow};
-ghost use Rattle.eta_file.specs.Inverse.{ways_of, IsAppended, IsRateAt, IsColumnStop};
+ghost use Rattle.eta_file.specs.Inverse.{ways_of, IsAppended, IsRateAt, IsColumnStop, file_state};
 ghost use Rattle.eta_file.specs.Workspaces.{IsWorkspaceFor};
 
 use crate::file::EtaFile;
@@ -91,8 +92,7 @@ fn row_by_columns(
     requires places { length out.old ≡ size file.now.matrix }
     requires workspace { IsWorkspaceFor (size file.now.matrix) workspace.old }
     ensures rates { OnOk result (IsRowOf file.now.matrix file.now.basics i (value_at out.new)) }
-    ensures overflow { RowOverflow result file.now.matrix file.now.basics (ways_of file.now)
-        (ways_of file.now) }
+    ensures overflow { RowOverflow result (file_state file.now) (file_state file.now) }
     ensures never { IfErr result (λ stop. stop ≢ Stop.NoMemory) }
     ensures workspace { IsWorkspaceFor (size file.now.matrix) workspace.new }
 {
@@ -103,11 +103,7 @@ fn row_by_columns(
 }
 
 impl Rates for ByColumns {
-    ghost matrix = { λ rates. rates.matrix };
-
-    ghost basics = { λ rates. rates.basics };
-
-    ghost waypoints = { ways_of };
+    ghost state = { file_state };
 
     /// Takes no memory.
     fn column(&mut self, j: u32, out: &mut [Frac]) -> Result<(), Stop>
@@ -115,12 +111,10 @@ impl Rates for ByColumns {
         requires places { length out.old ≡ size self.old.matrix }
         ensures direction { OnOk result (IsDirectionOf self.old.matrix self.old.basics j
             (value_at out.new)) }
-        ensures overflow { ColumnOverflow result self.old.matrix self.old.basics (ways_of self.old)
-            (ways_of self.old) }
+        ensures overflow { ColumnOverflow result (file_state self.old) (file_state self.old) }
         ensures never { IfErr result (λ stop. stop ≢ Stop.NoMemory) }
         ensures same { self.new ≡ self.old }
-        ensures waypoints { KeepsWaypoints self.old.matrix self.old.basics (ways_of self.old)
-            self.new.basics (ways_of self.new) }
+        ensures kept { KeepsBasics (file_state self.old) (file_state self.new) }
     {
         let _size = self.file.size();
         self.file.column(j, &mut self.workspace.wholes, out)
@@ -131,11 +125,9 @@ impl Rates for ByColumns {
         requires basic { IsBasic self.old.matrix self.old.basics i }
         requires places { length out.old ≡ size self.old.matrix }
         ensures rates { OnOk result (IsRowOf self.old.matrix self.old.basics i (value_at out.new)) }
-        ensures overflow { RowOverflow result self.old.matrix self.old.basics (ways_of self.old)
-            (ways_of self.old) }
+        ensures overflow { RowOverflow result (file_state self.old) (file_state self.old) }
         ensures same { self.new ≡ self.old }
-        ensures waypoints { KeepsWaypoints self.old.matrix self.old.basics (ways_of self.old)
-            self.new.basics (ways_of self.new) }
+        ensures kept { KeepsBasics (file_state self.old) (file_state self.new) }
     {
         row_by_columns(&self.file, i, out, &mut self.workspace)
     }
@@ -149,10 +141,8 @@ impl Rates for ByColumns {
         ensures err { OnErr result (self.new ≡ self.old) }
         ensures ok { OnOk result (self.new.basics ≡ exchanged self.old.basics p q) }
         ensures same_matrix { self.new.matrix ≡ self.old.matrix }
-        ensures waypoints { KeepsWaypoints self.old.matrix self.old.basics (ways_of self.old)
-            self.new.basics (ways_of self.new) }
-        ensures overflow { ExchangeOverflow result self.old.matrix self.old.basics p q
-            (ways_of self.old) (ways_of self.new) }
+        ensures waypoints { LeavesWaypoints (file_state self.old) (file_state self.new) }
+        ensures overflow { ExchangeOverflow result p q (file_state self.old) (file_state self.new) }
     {
         let _size = self.file.size();
         self.file.append_in(p, q, &mut self.workspace)

@@ -11,7 +11,7 @@ ghost use Rattle.lp_model.specs.RatesCalls.{HasPivot, ColumnOverflow, ExchangeOv
 ghost use Rattle.eta_file.specs.Transformations.{AreZero, NoneLater, LeftAt};
 ghost use Rattle.eta_file.specs.Prefixes.{Passed, entry_of, entries_to, IsLent, IsLentScaled, IsExchangeOf, basic_columns, after, entry_count};
 ghost use Rattle.eta_file.specs.declared.eta.StoredEta.{StoredEta};
-ghost use Rattle.eta_file.specs.Inverse.{ways_of, IsAppended, IsNextEta, IsDirectionAfter};
+ghost use Rattle.eta_file.specs.Inverse.{ways_of, IsAppended, IsNextEta, IsDirectionAfter, file_state};
 ghost use Rattle.eta_file.specs.WordColumns.{AreWordsOf};
 ghost use Rattle.eta_file.specs.Workspaces.{IsWorkspaceFor};
 ghost use Rattle.whole_vectors.specs.Quotients.{Represent};
@@ -312,8 +312,7 @@ impl EtaFile {
         requires places { length out.old ≡ size self.now.matrix }
         ensures direction { OnOk result (IsDirectionOf self.now.matrix self.now.basics j
             (value_at out.new)) }
-        ensures overflow { ColumnOverflow result self.now.matrix self.now.basics (ways_of self.now)
-            (ways_of self.now) }
+        ensures overflow { ColumnOverflow result (file_state self.now) (file_state self.now) }
         ensures never { IfErr result (λ stop. stop ≢ Stop.NoMemory) }
         ensures cost { steps.new ≤ steps.old + 2 * entry_count self.now.etas }
     {
@@ -332,8 +331,7 @@ impl EtaFile {
         requires some { 0 < L.parts }
         ensures direction { OnOk result (IsDirectionOf self.now.matrix self.now.basics j
             (value_at out.new)) }
-        ensures overflow { ColumnOverflow result self.now.matrix self.now.basics (ways_of self.now)
-            (ways_of self.now) }
+        ensures overflow { ColumnOverflow result (file_state self.now) (file_state self.now) }
         ensures never { IfErr result (λ stop. stop ≢ Stop.NoMemory) }
     {
         let mut steps = Steps::<L>::new(blank);
@@ -440,8 +438,7 @@ impl EtaFile {
         requires zero { AreZero out.old }
         ensures direction { OnOk result (IsDirectionOf self.now.matrix self.now.basics j
             (value_at out.new)) }
-        ensures overflow { ColumnOverflow result self.now.matrix self.now.basics (ways_of self.now)
-            (ways_of self.now) }
+        ensures overflow { ColumnOverflow result (file_state self.now) (file_state self.now) }
         ensures never { IfErr result (λ stop. stop ≢ Stop.NoMemory) }
         ensures wholes { length wholes.new ≡ length wholes.old }
     {
@@ -458,8 +455,7 @@ impl EtaFile {
         requires places { length out.old ≡ size self.now.matrix }
         ensures direction { OnOk result (IsDirectionOf self.now.matrix self.now.basics j
             (value_at out.new)) }
-        ensures overflow { ColumnOverflow result self.now.matrix self.now.basics (ways_of self.now)
-            (ways_of self.now) }
+        ensures overflow { ColumnOverflow result (file_state self.now) (file_state self.now) }
         ensures never { IfErr result (λ stop. stop ≢ Stop.NoMemory) }
         ensures wholes { length wholes.new ≡ length wholes.old }
     {
@@ -473,8 +469,7 @@ impl EtaFile {
         requires places { IsWorkspaceFor (size self.now.matrix) workspace.old }
         ensures direction { OnOk result (IsDirectionOf self.now.matrix self.now.basics j
             (value_at workspace.new.direction.items)) }
-        ensures overflow { ColumnOverflow result self.now.matrix self.now.basics (ways_of self.now)
-            (ways_of self.now) }
+        ensures overflow { ColumnOverflow result (file_state self.now) (file_state self.now) }
         ensures never { IfErr result (λ stop. stop ≢ Stop.NoMemory) }
         ensures places { IsWorkspaceFor (size self.now.matrix) workspace.new }
     {
@@ -513,8 +508,7 @@ impl EtaFile {
         ensures direction { OnOk result (IsDirectionOf self.now.matrix self.now.basics j
             (value_at out.new)) }
         ensures places { OnOk result (length out.new ≡ size self.now.matrix) }
-        ensures overflow { ColumnOverflow result self.now.matrix self.now.basics (ways_of self.now)
-            (ways_of self.now) }
+        ensures overflow { ColumnOverflow result (file_state self.now) (file_state self.now) }
         ensures wholes { length wholes.new ≡ length wholes.old }
     {
         let mut values = out.take();
@@ -596,8 +590,7 @@ impl EtaFile {
         requires pivot { HasPivot self.old.matrix self.old.basics p q }
         ensures ok { OnOk result (IsAppended self.old p q self.new) }
         ensures err { OnErr result (self.new ≡ self.old) }
-        ensures overflow { ExchangeOverflow result self.old.matrix self.old.basics p q
-            (ways_of self.old) (ways_of self.old) }
+        ensures overflow { ExchangeOverflow result p q (file_state self.old) (file_state self.old) }
     {
         let size = self.size();
         let mut workspace = ColumnWorkspace::zeros(self.alloc, size as usize)?;
@@ -612,8 +605,7 @@ impl EtaFile {
         requires places { IsWorkspaceFor (size self.old.matrix) workspace.old }
         ensures ok { OnOk result (IsAppended self.old p q self.new) }
         ensures err { OnErr result (self.new ≡ self.old) }
-        ensures overflow { ExchangeOverflow result self.old.matrix self.old.basics p q
-            (ways_of self.old) (ways_of self.old) }
+        ensures overflow { ExchangeOverflow result p q (file_state self.old) (file_state self.old) }
         ensures places { IsWorkspaceFor (size self.old.matrix) workspace.new }
     {
         let _size = self.size();

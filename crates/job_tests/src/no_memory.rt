@@ -1,5 +1,5 @@
 // An engine that runs out of memory whenever it is asked for something.
-ghost use Rattle.std.specs.Prelude.{[]};
+ghost use Rattle.rates_dense.specs.Inverse.{table_state};
 
 use frac128::Frac;
 use lp_model::{Engine, Lp, NoMemory, Rates, Stop};
@@ -13,11 +13,7 @@ pub struct Starved {
 }
 
 impl Rates for Starved {
-    ghost matrix = { λ engine. engine.table.matrix };
-
-    ghost basics = { λ engine. engine.table.basics };
-
-    ghost waypoints = { λ _. [] };
+    ghost state = { λ engine. table_state engine.table };
 
     fn column(&mut self, _j: u32, _out: &mut [Frac]) -> Result<(), Stop> {
         Err(Stop::NoMemory)

@@ -10,7 +10,7 @@ use Rattle.lp_definitions.specs.declared.Status.{Status}
 use Rattle.simplex_definitions.specs.ObjectiveRun.{objective_family, IsObjectiveFace}
 use Rattle.simplex_definitions.specs.Statements.{Paraobj}
 use Rattle.simplex_definitions.specs.Evidence.{Formula, by_exchange, by_entry, by_carried, by_point, by_slack, by_move, by_ratio, by_range, by_objective, by_slope, ShowsRefusal, GoesTo, IsAhead, with_ahead, EvidenceHolds}
-use Rattle.bounded_primal.specs.Stops.{PrimalStops}
+use Rattle.bounded_primal.specs.Stops.{PrimalStopsAlong}
 use Rattle.bounded_primal.specs.declared.moves.PrimalStop.{PrimalStop}
 use Rattle.bounded_primal.specs.declared.moves.PrimalStop.TheVariants.{Limit, Overflow, NoMemory}
 use Rattle.parametric_laws.proofs.ObjectiveGrowth.{objective_grows}
@@ -70,7 +70,7 @@ holds_of p h x from left bases s w e r = record {
 -- ---- the opening path
 
 module _ (p : LinearProgram) (h : ℕ) (span : Span) (s now : List Status) (before after : List Basics) where
-  pub opening_stops : (why : PrimalStop) → PrimalStops (objective_family p h span.from) s now span.limit before after why → MethodStops (objective_problem p h) span s now before after why
+  pub opening_stops : (why : PrimalStop) → PrimalStopsAlong (objective_family p h span.from) s now span.limit before after why → MethodStops (objective_problem p h) span s now before after why
   opening_stops Limit t = opening_goes_on (objective_family p h) (IsObjectiveFace p h) span.from span.to p.matrix s before now span.limit t
   opening_stops (Overflow e) t = inl (record {
     stands = opening_stands (objective_family p h) (IsObjectiveFace p h) span.from span.to p.matrix s before now span.limit t.bases t.is_path t.reaches t.within;

@@ -5,6 +5,7 @@ use Rattle.std.specs.Prelude.{List}
 use Rattle.lp_definitions.specs.LinearProgram.{LinearProgram}
 use Rattle.lp_definitions.specs.Basis.{Basics}
 use Rattle.lp_definitions.specs.declared.Status.{Status}
+use Rattle.lp_model.specs.RatesState.{RatesState}
 use Rattle.lp_model.specs.declared.reports.ParaReport.{ParaReport}
 use Rattle.simplex_definitions.specs.Chain.{RunReport}
 use Rattle.bounded_primal.specs.declared.moves.PrimalStop.{PrimalStop}
@@ -25,8 +26,8 @@ module _ (p : LinearProgram) (run : ParaObj) where
       RunStops (family p run) (Face p run) run.from run.to s now run.limit
       (RunOverflows (family p run) (Face p run) run.from run.to s now run.limit (statement p run) p.matrix before after)
 
-  abbrev pub ObjectiveFollows : List Status → List Status → List Basics → List Basics → Type 0
-  ObjectiveFollows s now before after = WaypointsFollowRun (family p run) (Face p run) run.from run.to s now run.limit p.matrix before after
+  abbrev pub ObjectiveFollows : List Status → List Status → RatesState → RatesState → Type 0
+  ObjectiveFollows s now before after = WaypointsFollowRun (family p run) (Face p run) run.from run.to s now run.limit p.matrix before.waypoints after.waypoints
 
   abbrev pub IsTrueObjective : ParaReport → Type 0
   IsTrueObjective = IsTrueReported (family p run) run.from run.to

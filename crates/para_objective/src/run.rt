@@ -4,7 +4,7 @@ ghost use Rattle.std.specs.Prelude.{◌≡◌, List, None, IfOk, IfErr};
 ghost use Rattle.exact_values.specs.Rational.{◌≤ℚ◌};
 ghost use Rattle.lp_definitions.specs.LinearProgram.{IsRow, HasNoLimits};
 ghost use Rattle.lp_definitions.specs.declared.Status.{Status};
-ghost use Rattle.basis_values.specs.Calls.{HasRates};
+ghost use Rattle.basis_values.specs.Calls.{IsAtBasis};
 ghost use Rattle.simplex_definitions.specs.Chain.{RunReport};
 ghost use Rattle.parametric_run.specs.Complete.{IsRunOrMemory};
 ghost use Rattle.para_objective.specs.Runs.{ObjectiveEnds, ObjectiveStops, ObjectiveFollows, ObjectiveOverflowFree, IsTrueObjective};
@@ -30,21 +30,21 @@ pub fn para_obj<R: Rates>(
     rates: &mut R,
     run: &ParaObj,
 ) -> Result<ParaReport, PrimalStop>
-    requires rates { HasRates (R.matrix rates.old) (R.basics rates.old) lp.now basis.old }
+    requires rates { IsAtBasis (R.state rates.old) lp.now basis.old }
     requires no_change { lp.now.change ≡ None }
     requires row { IsRow lp.now.matrix run.now.row }
     requires free { HasNoLimits lp.now run.now.row }
     requires forward { run.now.from ≤ℚ run.now.to }
     ensures ends { IfOk result (ObjectiveEnds lp.now run.now basis.old basis.new
-        (R.waypoints rates.old) (R.waypoints rates.new)) }
+        (R.state rates.old).waypoints (R.state rates.new).waypoints) }
     ensures stops { IfErr result (ObjectiveStops lp.now run.now basis.old basis.new
-        (R.waypoints rates.old) (R.waypoints rates.new)) }
-    ensures rates { HasRates (R.matrix rates.new) (R.basics rates.new) lp.now basis.new }
-    ensures waypoints { ObjectiveFollows lp.now run.now basis.old basis.new
-        (R.waypoints rates.old) (R.waypoints rates.new) }
+        (R.state rates.old).waypoints (R.state rates.new).waypoints) }
+    ensures rates { IsAtBasis (R.state rates.new) lp.now basis.new }
+    ensures waypoints { ObjectiveFollows lp.now run.now basis.old basis.new (R.state rates.old)
+        (R.state rates.new) }
     ensures truth { IfOk result (IsTrueObjective lp.now run.now) }
     ensures complete { (report : RunReport) → (path : List (List Status)) →
-        ObjectiveOverflowFree lp.now run.now basis.old (R.waypoints rates.old) report path →
+        ObjectiveOverflowFree lp.now run.now basis.old (R.state rates.old).waypoints report path →
         IsRunOrMemory basis.old report path basis.new result }
 {
     let _size = lp.number_of_variables();

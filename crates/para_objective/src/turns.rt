@@ -5,7 +5,7 @@ ghost use Rattle.lp_definitions.specs.LinearProgram.{size, value_at, IsVariable}
 ghost use Rattle.lp_definitions.specs.Solutions.{IsFeasible};
 ghost use Rattle.lp_definitions.specs.Basis.{basics_of, IsNonbasic, IsDirectionOf, IsPointOf};
 ghost use Rattle.lp_model.specs.RatesCalls.{IfOverflow};
-ghost use Rattle.basis_values.specs.Calls.{HasRates, KeepsRates};
+ghost use Rattle.basis_values.specs.Calls.{IsAtBasis, StaysAt};
 ghost use Rattle.basis_values.specs.Motions.{may_move, motion};
 ghost use Rattle.bounded_primal.specs.Moves.{stopper_of as stopper_by};
 ghost use Rattle.bounded_primal.specs.Turns.{RunStops};
@@ -72,7 +72,7 @@ pub fn stopper_of<R: Rates>(
     q: u32,
     up: bool,
 ) -> Result<Option<Stopper>, Stop>
-    requires rates { HasRates (R.matrix rates.old) (R.basics rates.old) lp.now basis.now }
+    requires rates { IsAtBasis (R.state rates.old) lp.now basis.now }
     requires sized { AreSized (size lp.now.matrix) workspace.old }
     requires point { IsPointOf lp.now basis.now (value_at workspace.old.point.items) }
     requires feasible { IsFeasible lp.now (value_at workspace.old.point.items) }
@@ -84,11 +84,10 @@ pub fn stopper_of<R: Rates>(
         (value_at workspace.new.point.items) (value_at workspace.new.direction) up) }
     ensures others { workspace.new ≡ record workspace.old { direction = workspace.new.direction } }
     ensures places { OnOk result (length workspace.new.direction ≡ size lp.now.matrix) }
-    ensures rates { KeepsRates (R.matrix rates.new) (R.basics rates.new) lp.now basis.now
-        (R.waypoints rates.old) (R.waypoints rates.new) }
+    ensures rates { StaysAt (R.state rates.old) (R.state rates.new) lp.now basis.now }
     ensures overflow { IfErr result (λ stop. IfOverflow stop (RunStops lp.now basis.now
-        (value_at workspace.old.point.items) q up (R.waypoints rates.old)
-        (R.waypoints rates.new))) }
+        (value_at workspace.old.point.items) q up (R.state rates.old).waypoints
+        (R.state rates.new).waypoints)) }
 {
     workspace.read_direction(lp, basis, rates, q)?;
     match stopper(lp, basis, &workspace.point, &workspace.direction, q, up) {

@@ -19,7 +19,7 @@ use Rattle.simplex_definitions.specs.Statements.{Primal, Pararhs, is_between, sh
 use Rattle.simplex_definitions.specs.Formulas.{PointFormula, f6, f7, f10_product, f10_sum, SlackFormula, f6_slack, MoveFormula, f8, f9, RatioFormula, f14, RangeFormula, f15_limit, f15_nonbasic, f15_basic, ObjectiveFormula, f16, f17_product, f17_sum, SlopeFormula, f18_product, f18_sum, f18_difference, f18_quotient}
 use Rattle.simplex_definitions.specs.Evidence.{Formula, by_exchange, by_entry, by_carried, by_point, by_slack, by_move, by_ratio, by_range, by_objective, by_slope, ShowsRefusal, GoesTo, IsAhead, with_ahead, EvidenceHolds, ShiftHolds}
 use Rattle.basis_values.specs.Calls.{HasRates, job_of}
-use Rattle.bounded_primal.specs.Stops.{PrimalStops, primal_stop_of}
+use Rattle.bounded_primal.specs.Stops.{PrimalStopsAlong, primal_stop_of}
 use Rattle.bounded_primal.specs.declared.moves.PrimalStop.{PrimalStop}
 use Rattle.bounded_primal.specs.declared.moves.PrimalStop.TheVariants.{Limit, Overflow, NoMemory}
 use Rattle.bounded_primal.proofs.TurnEvidence.{step_brings_not}
@@ -166,7 +166,7 @@ module _ (p : LinearProgram) (shift : List ℚ) (from : ℚ) (a : Matrix) (b : B
 -- ---- the opening path
 
 module _ (p : LinearProgram) (shift : List ℚ) (span : Span) (s now : List Status) (before after : List Basics) where
-  pub opening_stops : p.change ≡ None → (why : PrimalStop) → PrimalStops (rhs_family p shift span.from) s now span.limit before after why → MethodStops (rhs_problem p shift) span s now before after (reported_at span.from why)
+  pub opening_stops : p.change ≡ None → (why : PrimalStop) → PrimalStopsAlong (rhs_family p shift span.from) s now span.limit before after why → MethodStops (rhs_problem p shift) span s now before after (reported_at span.from why)
   opening_stops no_change Limit h = opening_goes_on (rhs_family p shift) (IsRhsFace p shift) span.from span.to p.matrix s before now span.limit h
   opening_stops no_change (Overflow e) h = inl (record {
     stands = opening_stands (rhs_family p shift) (IsRhsFace p shift) span.from span.to p.matrix s before now span.limit h.bases h.is_path h.reaches h.within;

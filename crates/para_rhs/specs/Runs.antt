@@ -9,6 +9,7 @@ use Rattle.lp_definitions.specs.LinearProgram.{LinearProgram}
 use Rattle.lp_definitions.specs.Basis.{Basics}
 use Rattle.lp_definitions.specs.declared.Evidence.{Evidence}
 use Rattle.lp_definitions.specs.declared.Status.{Status}
+use Rattle.lp_model.specs.RatesState.{RatesState}
 use Rattle.lp_model.specs.declared.reports.ParaReport.{ParaReport}
 use Rattle.simplex_definitions.specs.Chain.{RunReport}
 use Rattle.simplex_definitions.specs.Evidence.{ShiftHolds}
@@ -42,8 +43,8 @@ module _ (p : LinearProgram) (run : ParaRhs) where
   RhsStops s now before after =
       RunStops (family p run) (Face p run) run.from run.to s now run.limit (Overflows s now before after)
 
-  abbrev pub RhsFollows : List Status → List Status → List Basics → List Basics → Type 0
-  RhsFollows s now before after = WaypointsFollowRun (family p run) (Face p run) run.from run.to s now run.limit p.matrix before after
+  abbrev pub RhsFollows : List Status → List Status → RatesState → RatesState → Type 0
+  RhsFollows s now before after = WaypointsFollowRun (family p run) (Face p run) run.from run.to s now run.limit p.matrix before.waypoints after.waypoints
 
   abbrev pub IsTrueRhs : ParaReport → Type 0
   IsTrueRhs = IsTrueReported (family p run) run.from run.to

@@ -2,7 +2,7 @@
 
 ghost use Rattle.std.specs.Prelude.{◌≡◌, List, None, length, IfOk, IfErr};
 ghost use Rattle.exact_values.specs.Rational.{◌≤ℚ◌};
-ghost use Rattle.basis_values.specs.Calls.{HasRates};
+ghost use Rattle.basis_values.specs.Calls.{IsAtBasis};
 ghost use Rattle.lp_definitions.specs.declared.Status.{Status};
 ghost use Rattle.simplex_definitions.specs.Chain.{RunReport};
 ghost use Rattle.parametric_run.specs.Complete.{IsRunOrMemory};
@@ -32,20 +32,20 @@ pub fn para_rhs<R: Rates>(
     rates: &mut R,
     run: &ParaRhs,
 ) -> Result<ParaReport, PrimalStop>
-    requires rates { HasRates (R.matrix rates.old) (R.basics rates.old) lp.now basis.old }
+    requires rates { IsAtBasis (R.state rates.old) lp.now basis.old }
     requires no_change { lp.now.change ≡ None }
     requires shifts { length run.now.shift.items ≡ lp.now.rows }
     requires forward { run.now.from ≤ℚ run.now.to }
     ensures ends { IfOk result (RhsEnds lp.now run.now basis.old basis.new
-        (R.waypoints rates.old) (R.waypoints rates.new)) }
+        (R.state rates.old).waypoints (R.state rates.new).waypoints) }
     ensures stops { IfErr result (RhsStops lp.now run.now basis.old basis.new
-        (R.waypoints rates.old) (R.waypoints rates.new)) }
-    ensures rates { HasRates (R.matrix rates.new) (R.basics rates.new) lp.now basis.new }
-    ensures waypoints { RhsFollows lp.now run.now basis.old basis.new
-        (R.waypoints rates.old) (R.waypoints rates.new) }
+        (R.state rates.old).waypoints (R.state rates.new).waypoints) }
+    ensures rates { IsAtBasis (R.state rates.new) lp.now basis.new }
+    ensures waypoints { RhsFollows lp.now run.now basis.old basis.new (R.state rates.old)
+        (R.state rates.new) }
     ensures truth { IfOk result (IsTrueRhs lp.now run.now) }
     ensures complete { (report : RunReport) → (path : List (List Status)) →
-        RhsOverflowFree lp.now run.now basis.old (R.waypoints rates.old) report path →
+        RhsOverflowFree lp.now run.now basis.old (R.state rates.old).waypoints report path →
         IsRunOrMemory basis.old report path basis.new result }
 {
     let shift = run.shift.as_slice();

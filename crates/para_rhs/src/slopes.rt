@@ -3,7 +3,7 @@
 ghost use Rattle.std.specs.Prelude.{◌≡◌, None, length, option_map, OnOk, IfOk, IfErr};
 ghost use Rattle.lp_definitions.specs.LinearProgram.{size, value_at, IsVariable, IsLinearProgram};
 ghost use Rattle.lp_model.specs.RatesCalls.{IfOverflow};
-ghost use Rattle.basis_values.specs.Calls.{HasRates, KeepsRates};
+ghost use Rattle.basis_values.specs.Calls.{IsAtBasis, StaysAt};
 ghost use Rattle.simplex_definitions.specs.RhsRun.{shift_of, IsSlope};
 ghost use Rattle.para_rhs.specs.Limits.{limit_on};
 ghost use Rattle.para_rhs.specs.Method.{FitsRhs};
@@ -94,16 +94,14 @@ impl RightHandSide<'_> {
         out: &mut [Frac],
     ) -> Result<(), Stop>
         requires fits { FitsRhs self.now.lp.now self.now.shift.now self.now.moving.now }
-        requires rates { HasRates (R.matrix rates.old) (R.basics rates.old)
-            self.now.lp.now basis.now }
+        requires rates { IsAtBasis (R.state rates.old) self.now.lp.now basis.now }
         requires places { length out.old ≡ size self.now.lp.now.matrix }
         ensures slope { OnOk result (IsSlope self.now.lp.now basis.now self.now.shift.now
             (value_at out.new)) }
-        ensures rates { KeepsRates (R.matrix rates.new) (R.basics rates.new) self.now.lp.now
-            basis.now (R.waypoints rates.old) (R.waypoints rates.new) }
-        ensures overflow { IfErr result (λ stop. IfOverflow stop
-            (RunRefused self.now.lp.now self.now.shift.now basis.now (R.waypoints rates.old)
-            (R.waypoints rates.new))) }
+        ensures rates { StaysAt (R.state rates.old) (R.state rates.new) self.now.lp.now basis.now }
+        ensures overflow { IfErr result (λ stop. IfOverflow stop (RunRefused self.now.lp.now
+            self.now.shift.now basis.now (R.state rates.old).waypoints
+            (R.state rates.new).waypoints)) }
     {
         match point_of(alloc, self.moving, basis, rates, out) {
             Ok(()) => Ok(()),

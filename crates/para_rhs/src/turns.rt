@@ -6,7 +6,7 @@ ghost use Rattle.lp_definitions.specs.LinearProgram.{size, value_at};
 ghost use Rattle.lp_definitions.specs.Basis.{basics_of, IsBasic, IsNonbasic, IsDirectionOf};
 ghost use Rattle.lp_model.specs.RatesCalls.{IsRowOf, IfOverflow};
 ghost use Rattle.simplex_definitions.specs.Formulas.{limit_numbered, number_of_limit};
-ghost use Rattle.basis_values.specs.Calls.{HasRates, KeepsRates};
+ghost use Rattle.basis_values.specs.Calls.{IsAtBasis, StaysAt};
 ghost use Rattle.bounded_primal.specs.Moves.{return_by};
 ghost use Rattle.bounded_primal.specs.Turns.{ReturnStops, ray_from};
 ghost use Rattle.dual_step.specs.Cheapest.{cheapest_by};
@@ -31,7 +31,7 @@ pub fn entering<R: Rates>(
     workspace: &mut Workspace,
     leaver: &Leaver,
 ) -> Result<Option<u32>, Stop>
-    requires rates { HasRates (R.matrix rates.old) (R.basics rates.old) lp.now basis.now }
+    requires rates { IsAtBasis (R.state rates.old) lp.now basis.now }
     requires sized { AreSized (size lp.now.matrix) workspace.old }
     requires basic { IsBasic lp.now.matrix (basics_of basis.now) leaver.now.r }
     ensures row { OnOk result (IsRowOf lp.now.matrix (basics_of basis.now) leaver.now.r
@@ -41,11 +41,10 @@ pub fn entering<R: Rates>(
         (not (is_upper leaver.now.side))) }
     ensures others { workspace.new ≡ record workspace.old { row = workspace.new.row } }
     ensures places { length workspace.new.row.items ≡ length workspace.old.row.items }
-    ensures rates { KeepsRates (R.matrix rates.new) (R.basics rates.new) lp.now basis.now
-        (R.waypoints rates.old) (R.waypoints rates.new) }
+    ensures rates { StaysAt (R.state rates.old) (R.state rates.new) lp.now basis.now }
     ensures overflow { IfErr result (λ stop. IfOverflow stop (EntryRefused lp.now basis.now
-        (value_at workspace.old.prices.items) leaver.now
-        (R.waypoints rates.old) (R.waypoints rates.new))) }
+        (value_at workspace.old.prices.items) leaver.now (R.state rates.old).waypoints
+        (R.state rates.new).waypoints)) }
 {
     workspace.read_row(lp, basis, rates, leaver.r)?;
     let below = is_lower(leaver.side);
@@ -71,7 +70,7 @@ pub fn return_of<R: Rates>(
     q: u32,
     leaver: &Leaver,
 ) -> Result<Stopper, Stop>
-    requires rates { HasRates (R.matrix rates.old) (R.basics rates.old) lp.now basis.now }
+    requires rates { IsAtBasis (R.state rates.old) lp.now basis.now }
     requires sized { AreSized (size lp.now.matrix) workspace.old }
     requires nonbasic { IsNonbasic lp.now.matrix (basics_of basis.now) q }
     requires basic { IsBasic lp.now.matrix (basics_of basis.now) leaver.now.r }
@@ -85,11 +84,10 @@ pub fn return_of<R: Rates>(
         (value_at workspace.new.direction) leaver.now.r (goes_to leaver.now)) }
     ensures others { workspace.new ≡ record workspace.old { direction = workspace.new.direction } }
     ensures places { OnOk result (length workspace.new.direction ≡ size lp.now.matrix) }
-    ensures rates { KeepsRates (R.matrix rates.new) (R.basics rates.new) lp.now basis.now
-        (R.waypoints rates.old) (R.waypoints rates.new) }
+    ensures rates { StaysAt (R.state rates.old) (R.state rates.new) lp.now basis.now }
     ensures overflow { IfErr result (λ stop. IfOverflow stop (ReturnStops lp.now basis.now
         (value_at workspace.old.point.items) q leaver.now.r (goes_to leaver.now)
-        (R.waypoints rates.old) (R.waypoints rates.new))) }
+        (R.state rates.old).waypoints (R.state rates.new).waypoints)) }
 {
     workspace.read_direction(lp, basis, rates, q)?;
     let direction = workspace.direction.values();

@@ -12,19 +12,19 @@ use Rattle.lp_model.specs.declared.reports.ParaReport.{ParaReport}
 use Rattle.lp_model.specs.declared.reports.ParaReport.TheVariants.{Opening, Run}
 use Rattle.lp_model.specs.declared.reports.ParaRun.{ParaRun}
 use Rattle.simplex_definitions.specs.Counts.{last_count, counted_steps}
-use Rattle.simplex_definitions.specs.Path.{PathEnding, EndsOptimal, EndsCrossed, EndsInfeasible, EndsUnbounded, EndsAt, last_of}
+use Rattle.simplex_definitions.specs.Path.{turn, PathEnding, EndsOptimal, EndsCrossed, EndsInfeasible, EndsUnbounded, EndsAt, last_of}
 use Rattle.simplex_laws.specs.Laws.{IsNonsingularBasis}
 use Rattle.simplex_laws.proofs.Ends.{optimal_end}
 use Rattle.simplex_laws.proofs.OnePath.{one_path, path_leads}
 use Rattle.simplex_definitions.specs.Chain.{RunReport, InOpening, IsFailure, IsChain, IsRun, Chain as ChainReport}
 use Rattle.basis_values.specs.Calls.{LieIn}
-use Rattle.bounded_primal.specs.Calls.{CallEnds, WaypointsFollow, outcome_of}
+use Rattle.bounded_primal.specs.Calls.{CallEnds, RuleWaypointsFollow, outcome_of}
 use Rattle.bounded_primal.specs.declared.moves.PrimalStop.{PrimalStop}
 use Rattle.bounded_primal.specs.declared.moves.PrimalStop.TheVariants.{Limit, Overflow, NoMemory}
 use Rattle.parametric_laws.proofs.NotBoth.{same_path}
 use Rattle.parametric_laws.proofs.Runs.{last_of-append}
-use Rattle.parametric_run.specs.Calls.{RunStops, RunOverflows, part_of, end_of}
-use Rattle.parametric_run.specs.Chains.{StandsAt, ChainEnds, OpensFrom, MethodEnds, MethodStops, MethodFollows, MethodOverflowFree, Overflows}
+use Rattle.parametric_run.specs.Calls.{RunStops, RunOverflows, WaypointsFollowRun, part_of, end_of}
+use Rattle.parametric_run.specs.Chains.{StandsAt, ChainEnds, OpensFrom, MethodEnds, MethodStops, MethodOverflowFree, Overflows}
 use Rattle.parametric_run.specs.Complete.{IsRunOrMemory}
 use Rattle.parametric_run.specs.Programs.{ParametricProgram, IsParametric}
 use Rattle.parametric_run.specs.Standing.{IsPointAtSome}
@@ -37,7 +37,8 @@ use Rattle.parametric_run.proofs.Walks.{opening_reaches, opening_run, opens_firs
 
 module _ (m : ParametricProgram) (is_parametric : IsParametric m) (span : Span) (s now : List Status) (before after : List Basics) where
   -- the waypoints lie in the bases of the path, for the matrix of all its programs
-  pub opening_follows : WaypointsFollow (m.family span.from) s now before after → MethodFollows m span s now before after
+  pub opening_follows : RuleWaypointsFollow turn (m.family span.from) s now before after →
+      WaypointsFollowRun m.family m.face span.from span.to s now span.limit m.program.matrix before after
   opening_follows h = record {
     place = InOpening (last_of s h.bases);
     path = h.bases;
@@ -64,7 +65,7 @@ module _ (m : ParametricProgram) (is_parametric : IsParametric m) (span : Span) 
 -- ---- where the opening path has ended
 
 module _ (m : ParametricProgram) (is_parametric : IsParametric m) (span : Span) (s now : List Status) (at : IsNonsingularBasis m.program s) (before after : List Basics) (outcome : Outcome)
-    (ends : CallEnds (m.family span.from) s now span.limit outcome) (follow : WaypointsFollow (m.family span.from) s now before after) where
+    (ends : CallEnds (m.family span.from) s now span.limit outcome) (follow : RuleWaypointsFollow turn (m.family span.from) s now before after) where
   first_lawful : IsLinearProgram (m.family span.from)
   first_lawful = is_parametric.one_face.lawful span.from
 

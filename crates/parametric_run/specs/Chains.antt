@@ -11,6 +11,7 @@ use Rattle.exact_values.specs.Rational.{ℚ}
 use Rattle.lp_definitions.specs.Basis.{Basics}
 use Rattle.lp_definitions.specs.declared.Evidence.{Evidence}
 use Rattle.lp_definitions.specs.declared.Status.{Status}
+use Rattle.lp_model.specs.RatesState.{RatesState}
 use Rattle.lp_model.specs.declared.reports.ParaReport.{ParaReport}
 use Rattle.lp_model.specs.declared.reports.ParaRun.{ParaRun}
 use Rattle.simplex_definitions.specs.Path.{last_of}
@@ -69,8 +70,8 @@ module _ (m : ParametricProgram) (span : Span) where
   MethodStops s now before after =
       RunStops m.family m.face span.from span.to s now span.limit (Overflows s now before after)
 
-  abbrev pub MethodFollows : List Status → List Status → List Basics → List Basics → Type 0
-  MethodFollows s now before after = WaypointsFollowRun m.family m.face span.from span.to s now span.limit m.program.matrix before after
+  abbrev pub MethodFollows : List Status → List Status → RatesState → RatesState → Type 0
+  MethodFollows s now before after = WaypointsFollowRun m.family m.face span.from span.to s now span.limit m.program.matrix before.waypoints after.waypoints
 
   -- the run from s ends within the limit, and wherever the call may be on it, no evidence of an overflow holds, nor any of a program
   -- that could not be made

@@ -9,6 +9,7 @@ use Rattle.exact_values.specs.Rational.{ℚ}
 use Rattle.lp_definitions.specs.Basis.{Basics, IsOptimalBasis}
 use Rattle.lp_definitions.specs.declared.Evidence.{Evidence}
 use Rattle.lp_definitions.specs.declared.Status.{Status}
+use Rattle.lp_model.specs.RatesState.{RatesState}
 use Rattle.lp_model.specs.declared.reports.ParaEnd.{ParaEnd}
 use Rattle.simplex_definitions.specs.Path.{after, last_of}
 use Rattle.simplex_definitions.specs.Chain.{FaceMoves, FaceDone, FaceEnds, IsFacePath, AtBreakpoint}
@@ -37,12 +38,12 @@ module _ (m : ParametricProgram) where
     pub refused : (from : ℚ) (before now : List Basics) (e : Evidence) → StepRefused m.program before s q by now e →
         EvidenceHere (m.statement from) m.program.matrix (Some theta) left s before now e
 
-  abbrev pub FaceFound : Result FaceStep PrimalStop → ℚ → List Status → ℕ → Workspace → List Basics → List Basics → Type 0
+  abbrev pub FaceFound : Result FaceStep PrimalStop → ℚ → List Status → ℕ → Workspace → RatesState → RatesState → Type 0
   FaceFound (Ok turn.Done) theta s left w before now = m.face theta s FaceDone
   FaceFound (Ok (turn.Ends end)) theta s left w before now = m.face theta s (FaceEnds (end_of end))
   FaceFound (Ok (turn.Moves q by)) theta s left w before now = FaceMovesOn theta s w q by left
   FaceFound (Err stop) theta s left w before now =
-      (from : ℚ) → FaceStops m.family m.face (m.statement from) m.program.matrix theta s left before now stop
+      (from : ℚ) → FaceStops m.family m.face (m.statement from) m.program.matrix theta s left before.waypoints now.waypoints stop
 
   pub record FacesReach (theta : ℚ) (s now : List Status) (begun left : ℕ) : Type 0 where
     pub bases : List (List Status)
@@ -79,10 +80,10 @@ module _ (m : ParametricProgram) where
       RunStops m.family m.face span.from span.to start now span.limit
       (RunOverflows m.family m.face span.from span.to start now span.limit (m.statement span.from) m.program.matrix before more) stop
 
-  abbrev pub FacesFound : Result AfterFaces PrimalStop → ℚ → List Status → List Status → ℕ → Workspace → List Basics → List Basics → Type 0
-  FacesFound (Ok (faces.Done left)) theta s now begun w ways more = FacesDone theta s now begun left w ways more
-  FacesFound (Ok (faces.Ends end)) theta s now begun w ways more = FacesEnd theta s now begun end ways more
-  FacesFound (Err stop) theta s now begun w ways more = FacesStop theta s now begun ways more stop
+  abbrev pub FacesFound : Result AfterFaces PrimalStop → ℚ → List Status → List Status → ℕ → Workspace → RatesState → RatesState → Type 0
+  FacesFound (Ok (faces.Done left)) theta s now begun w before after = FacesDone theta s now begun left w before.waypoints after.waypoints
+  FacesFound (Ok (faces.Ends end)) theta s now begun w before after = FacesEnd theta s now begun end before.waypoints after.waypoints
+  FacesFound (Err stop) theta s now begun w before after = FacesStop theta s now begun before.waypoints after.waypoints stop
 
   abbrev pub FacesFollow : ℚ → List Status → List Status → ℕ → List Basics → List Basics → Type 0
   FacesFollow theta s now begun ways more =

@@ -6,7 +6,7 @@ ghost use Rattle.exact_values.specs.Tests.{eq_ℚ};
 ghost use Rattle.lp_definitions.specs.LinearProgram.{size, value_at};
 ghost use Rattle.lp_definitions.specs.Basis.{IsOptimalBasis};
 ghost use Rattle.lp_model.specs.RatesCalls.{IfOverflow};
-ghost use Rattle.basis_values.specs.Calls.{HasRates, KeepsRates};
+ghost use Rattle.basis_values.specs.Calls.{IsAtBasis, StaysAt};
 ghost use Rattle.parametric_run.specs.Chains.{ChainEnds, ChainStops, ChainFollows};
 ghost use Rattle.parametric_run.specs.Programs.{IsParametric};
 ghost use Rattle.parametric_run.specs.Standing.{IsWorkspaceOf, IsPointAtSome, RefusedAt};
@@ -62,15 +62,14 @@ fn begin<M: Parametric, R: Rates>(
     there: &Point,
 ) -> Result<Workspace, Stop>
     requires fits { M.fits method.now }
-    requires rates { HasRates (R.matrix rates.old) (R.basics rates.old)
-        (M.problem method.now).program basis.now }
+    requires rates { IsAtBasis (R.state rates.old) (M.problem method.now).program basis.now }
     requires there { IsPointAtSome (M.problem method.now) basis.now (value_at there.now) }
     requires places { length there.now ≡ size (M.problem method.now).program.matrix }
     ensures workspace { IfOk result (IsWorkspaceOf (M.problem method.now) basis.now) }
-    ensures rates { KeepsRates (R.matrix rates.new) (R.basics rates.new)
-        (M.problem method.now).program basis.now (R.waypoints rates.old) (R.waypoints rates.new) }
+    ensures rates { StaysAt (R.state rates.old) (R.state rates.new) (M.problem method.now).program
+        basis.now }
     ensures overflow { IfErr result (λ stop. IfOverflow stop (RefusedAt (M.problem method.now)
-        basis.now (R.waypoints rates.old) (R.waypoints rates.new))) }
+        basis.now (R.state rates.old).waypoints (R.state rates.new).waypoints)) }
 {
     let point = method.point(alloc, basis, rates, there)?;
     let mut workspace = Workspace::with_point(alloc, point)?;
@@ -89,20 +88,18 @@ pub fn chain<M: Parametric, R: Rates>(
 ) -> Result<ParaRun, PrimalStop>
     requires parametric { IsParametric (M.problem method.now) }
     requires fits { M.fits method.now }
-    requires rates { HasRates (R.matrix rates.old) (R.basics rates.old)
-        (M.problem method.now).program basis.old }
+    requires rates { IsAtBasis (R.state rates.old) (M.problem method.now).program basis.old }
     requires forward { span.now.from ≤ℚ span.now.to }
     requires point { IsPointAtSome (M.problem method.now) basis.old (value_at opened.now.point) }
     requires places { length opened.now.point ≡ size (M.problem method.now).program.matrix }
     requires optimal { IsOptimalBasis ((M.problem method.now).family span.now.from) basis.old }
     ensures ends { IfOk result (ChainEnds (M.problem method.now) span.now basis.old basis.new
-        opened.now.left (R.waypoints rates.old) (R.waypoints rates.new)) }
+        opened.now.left (R.state rates.old).waypoints (R.state rates.new).waypoints) }
     ensures stops { IfErr result (ChainStops (M.problem method.now) span.now basis.old basis.new
-        opened.now.left (R.waypoints rates.old) (R.waypoints rates.new)) }
-    ensures rates { HasRates (R.matrix rates.new) (R.basics rates.new)
-        (M.problem method.now).program basis.new }
+        opened.now.left (R.state rates.old).waypoints (R.state rates.new).waypoints) }
+    ensures rates { IsAtBasis (R.state rates.new) (M.problem method.now).program basis.new }
     ensures waypoints { ChainFollows (M.problem method.now) span.now basis.old basis.new
-        opened.now.left (R.waypoints rates.old) (R.waypoints rates.new) }
+        opened.now.left (R.state rates.old).waypoints (R.state rates.new).waypoints }
 {
     let mut workspace = begin(alloc, method, basis, rates, &opened.point)?;
     let mut parts = Vec::new(alloc);

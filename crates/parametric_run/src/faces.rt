@@ -2,9 +2,8 @@
 
 ghost use Rattle.std.specs.Prelude.{◌≡◌, OnOk, OnErr, IfOk, IfErr};
 ghost use Rattle.lp_definitions.specs.LinearProgram.{size, value_at};
-ghost use Rattle.lp_definitions.specs.Basis.{basics_of, IsOptimalBasis, IsPointOf};
-ghost use Rattle.lp_definitions.specs.Waypoints.{KeepsWaypoints};
-ghost use Rattle.basis_values.specs.Calls.{HasRates};
+ghost use Rattle.lp_definitions.specs.Basis.{IsOptimalBasis, IsPointOf};
+ghost use Rattle.basis_values.specs.Calls.{IsAtBasis, MovesTo};
 ghost use Rattle.simplex_definitions.specs.Path.{after};
 ghost use Rattle.bounded_primal.specs.Moves.{StepOverflow, move_by};
 ghost use Rattle.parametric_run.specs.Faces.{FacesFound, FacesFollow};
@@ -25,8 +24,7 @@ fn take<M: Parametric, R: Rates>(
     q: u32,
     by: &Stopper,
 ) -> Result<(), Stop>
-    requires rates { HasRates (R.matrix rates.old) (R.basics rates.old)
-        (M.problem method.now).program basis.old }
+    requires rates { IsAtBasis (R.state rates.old) (M.problem method.now).program basis.old }
     requires sized { AreSized (size (M.problem method.now).program.matrix) workspace.old }
     requires point { IsPointOf (M.problem method.now).program basis.old
         (value_at workspace.old.point.items) }
@@ -36,12 +34,11 @@ fn take<M: Parametric, R: Rates>(
     ensures point { OnOk result (IsPointOf (M.problem method.now).program basis.new
         (value_at workspace.new.point.items)) }
     ensures unchanged { OnErr result (basis.new ≡ basis.old) }
-    ensures rates { HasRates (R.matrix rates.new) (R.basics rates.new)
-        (M.problem method.now).program basis.new }
-    ensures waypoints { KeepsWaypoints (M.problem method.now).program.matrix (basics_of basis.old)
-        (R.waypoints rates.old) (basics_of basis.new) (R.waypoints rates.new) }
+    ensures rates { IsAtBasis (R.state rates.new) (M.problem method.now).program basis.new }
+    ensures waypoints { MovesTo (R.state rates.old) (R.state rates.new)
+        (M.problem method.now).program basis.old basis.new }
     ensures overflow { StepOverflow result (M.problem method.now).program basis.old q by.now
-        (R.waypoints rates.old) (R.waypoints rates.new) }
+        (R.state rates.old) (R.state rates.new) }
 {
     take_step_in(method.program(), basis, rates, workspace, q, by)
 }
@@ -57,16 +54,14 @@ pub fn faces<M: Parametric, R: Rates>(
     begun: u32,
 ) -> Result<AfterFaces, PrimalStop>
     requires fits { M.fits method.now }
-    requires rates { HasRates (R.matrix rates.old) (R.basics rates.old)
-        (M.problem method.now).program basis.old }
+    requires rates { IsAtBasis (R.state rates.old) (M.problem method.now).program basis.old }
     requires workspace { IsWorkspaceOf (M.problem method.now) basis.old workspace.old }
     requires optimal { IsOptimalBasis ((M.problem method.now).family theta) basis.old }
     ensures found { FacesFound (M.problem method.now) result theta basis.old basis.new begun
-        workspace.new (R.waypoints rates.old) (R.waypoints rates.new) }
-    ensures rates { HasRates (R.matrix rates.new) (R.basics rates.new)
-        (M.problem method.now).program basis.new }
+        workspace.new (R.state rates.old) (R.state rates.new) }
+    ensures rates { IsAtBasis (R.state rates.new) (M.problem method.now).program basis.new }
     ensures waypoints { FacesFollow (M.problem method.now) theta basis.old basis.new begun
-        (R.waypoints rates.old) (R.waypoints rates.new) }
+        (R.state rates.old).waypoints (R.state rates.new).waypoints }
 {
     let mut left = begun;
     'turns: loop {

@@ -7,7 +7,7 @@ ghost use Rattle.lp_definitions.specs.Basis.{Basics, IsOptimalBasis, IsPointOf};
 ghost use Rattle.lp_model.specs.RatesCalls.{IfOverflow};
 ghost use Rattle.simplex_definitions.specs.Chain.{IsPart};
 ghost use Rattle.simplex_laws.specs.Laws.{IsNonsingularBasis};
-ghost use Rattle.basis_values.specs.Calls.{HasRates, KeepsRates};
+ghost use Rattle.basis_values.specs.Calls.{IsAtBasis, StaysAt};
 ghost use Rattle.bounded_primal.specs.Calls.{CallEnds, WaypointsFollow};
 ghost use Rattle.bounded_primal.specs.Outcomes.{IsTrueOutcome};
 ghost use Rattle.parametric_run.specs.Calls.{part_of};
@@ -72,17 +72,15 @@ pub trait Parametric {
         rates: &mut R,
     ) -> Result<Outcome, PrimalStop>
         requires fits { fits self.now }
-        requires rates { HasRates (R.matrix rates.old) (R.basics rates.old)
-            (problem self.now).program basis.old }
+        requires rates { IsAtBasis (R.state rates.old) (problem self.now).program basis.old }
         ensures ends { IfOk result (CallEnds ((problem self.now).family span.now.from)
             basis.old basis.new span.now.limit) }
         ensures truth { IfOk result (IsTrueOutcome ((problem self.now).family span.now.from)) }
         ensures stops { IfErr result (MethodStops (problem self.now) span.now basis.old basis.new
-            (R.waypoints rates.old) (R.waypoints rates.new)) }
-        ensures rates { HasRates (R.matrix rates.new) (R.basics rates.new)
-            (problem self.now).program basis.new }
-        ensures waypoints { WaypointsFollow ((problem self.now).family span.now.from)
-            basis.old basis.new (R.waypoints rates.old) (R.waypoints rates.new) };
+            (R.state rates.old).waypoints (R.state rates.new).waypoints) }
+        ensures rates { IsAtBasis (R.state rates.new) (problem self.now).program basis.new }
+        ensures waypoints { WaypointsFollow ((problem self.now).family span.now.from) basis.old
+            basis.new (R.state rates.old) (R.state rates.new) };
 
     /// The basis's point at 0, from its point at some value.
     fn point<R: Rates>(
@@ -93,18 +91,17 @@ pub trait Parametric {
         there: &Point,
     ) -> Result<Vec<Frac>, Stop>
         requires fits { fits self.now }
-        requires rates { HasRates (R.matrix rates.old) (R.basics rates.old)
-            (problem self.now).program basis.now }
+        requires rates { IsAtBasis (R.state rates.old) (problem self.now).program basis.now }
         requires there { IsPointAtSome (problem self.now) basis.now (value_at there.now) }
         requires places { length there.now ≡ size (problem self.now).program.matrix }
         ensures point { IfOk result (λ point. IsPointOf (problem self.now).program basis.now
             (value_at point.items)) }
         ensures places { IfOk result (λ point. length point.items ≡
             size (problem self.now).program.matrix) }
-        ensures rates { KeepsRates (R.matrix rates.new) (R.basics rates.new)
-            (problem self.now).program basis.now (R.waypoints rates.old) (R.waypoints rates.new) }
+        ensures rates { StaysAt (R.state rates.old) (R.state rates.new) (problem self.now).program
+            basis.now }
         ensures overflow { IfErr result (λ stop. IfOverflow stop (RefusedAt (problem self.now)
-            basis.now (R.waypoints rates.old) (R.waypoints rates.new))) };
+            basis.now (R.state rates.old).waypoints (R.state rates.new).waypoints)) };
 
     /// Fills the basis's prices, and how it moves with the parameter. Its point is there.
     fn refresh<R: Rates>(
@@ -114,17 +111,16 @@ pub trait Parametric {
         workspace: &mut Workspace,
     ) -> Result<(), Stop>
         requires fits { fits self.now }
-        requires rates { HasRates (R.matrix rates.old) (R.basics rates.old)
-            (problem self.now).program basis.now }
+        requires rates { IsAtBasis (R.state rates.old) (problem self.now).program basis.now }
         requires sized { AreSized (size (problem self.now).program.matrix) workspace.old }
         requires point { IsPointOf (problem self.now).program basis.now
             (value_at workspace.old.point.items) }
         ensures workspace { OnOk result
             (IsWorkspaceOf (problem self.now) basis.now workspace.new) }
-        ensures rates { KeepsRates (R.matrix rates.new) (R.basics rates.new)
-            (problem self.now).program basis.now (R.waypoints rates.old) (R.waypoints rates.new) }
+        ensures rates { StaysAt (R.state rates.old) (R.state rates.new) (problem self.now).program
+            basis.now }
         ensures overflow { IfErr result (λ stop. IfOverflow stop (RefusedAt (problem self.now)
-            basis.now (R.waypoints rates.old) (R.waypoints rates.new))) };
+            basis.now (R.state rates.old).waypoints (R.state rates.new).waypoints)) };
 
     /// The interval of the basis that begins at `from`, and ends at `max` at the latest.
     fn interval(
@@ -155,15 +151,13 @@ pub trait Parametric {
         left: u32,
     ) -> Result<FaceStep, PrimalStop>
         requires fits { fits self.now }
-        requires rates { HasRates (R.matrix rates.old) (R.basics rates.old)
-            (problem self.now).program basis.now }
+        requires rates { IsAtBasis (R.state rates.old) (problem self.now).program basis.now }
         requires workspace { IsWorkspaceOf (problem self.now) basis.now workspace.old }
         requires optimal { IsOptimalBasis ((problem self.now).family theta) basis.now }
         ensures turn { FaceFound (problem self.now) result theta basis.now left workspace.new
-            (R.waypoints rates.old) (R.waypoints rates.new) }
+            (R.state rates.old) (R.state rates.new) }
         ensures workspace { OnOk result
             (IsWorkspaceOf (problem self.now) basis.now workspace.new) }
-        ensures rates { KeepsRates (R.matrix rates.new) (R.basics rates.new)
-            (problem self.now).program basis.now (R.waypoints rates.old)
-            (R.waypoints rates.new) };
+        ensures rates { StaysAt (R.state rates.old) (R.state rates.new) (problem self.now).program
+            basis.now };
 }

@@ -3,7 +3,7 @@
 ghost use Rattle.std.specs.Prelude.{◌≡◌, ◌≤◌, List, IfOk, IfErr};
 ghost use Rattle.exact_values.specs.Rational.{◌≤ℚ◌};
 ghost use Rattle.lp_definitions.specs.declared.Status.{Status};
-ghost use Rattle.basis_values.specs.Calls.{HasRates};
+ghost use Rattle.basis_values.specs.Calls.{IsAtBasis};
 ghost use Rattle.simplex_definitions.specs.Chain.{RunReport};
 ghost use Rattle.parametric_run.specs.Chains.{MethodEnds, MethodStops, MethodFollows, MethodOverflowFree};
 ghost use Rattle.parametric_run.specs.Complete.{IsRunOrMemory};
@@ -30,21 +30,20 @@ pub fn follow<M: Parametric, R: Rates>(
 ) -> Result<ParaReport, PrimalStop>
     requires parametric { IsParametric (M.problem method.now) }
     requires fits { M.fits method.now }
-    requires rates { HasRates (R.matrix rates.old) (R.basics rates.old)
-        (M.problem method.now).program basis.old }
+    requires rates { IsAtBasis (R.state rates.old) (M.problem method.now).program basis.old }
     requires forward { span.now.from ≤ℚ span.now.to }
     ensures ends { IfOk result (MethodEnds (M.problem method.now) span.now basis.old basis.new
-        (R.waypoints rates.old) (R.waypoints rates.new)) }
+        (R.state rates.old).waypoints (R.state rates.new).waypoints) }
     ensures stops { IfErr result (MethodStops (M.problem method.now) span.now basis.old basis.new
-        (R.waypoints rates.old) (R.waypoints rates.new)) }
-    ensures rates { HasRates (R.matrix rates.new) (R.basics rates.new)
-        (M.problem method.now).program basis.new }
+        (R.state rates.old).waypoints (R.state rates.new).waypoints) }
+    ensures rates { IsAtBasis (R.state rates.new) (M.problem method.now).program basis.new }
     ensures waypoints { MethodFollows (M.problem method.now) span.now basis.old basis.new
-        (R.waypoints rates.old) (R.waypoints rates.new) }
+        (R.state rates.old) (R.state rates.new) }
     ensures truth { IfOk result (IsTrueReported (M.problem method.now).family span.now.from
         span.now.to) }
     ensures complete { (report : RunReport) → (path : List (List Status)) →
-        MethodOverflowFree (M.problem method.now) span.now basis.old (R.waypoints rates.old) report path →
+        MethodOverflowFree (M.problem method.now) span.now basis.old (R.state rates.old).waypoints
+        report path →
         IsRunOrMemory basis.old report path basis.new result }
 {
     let outcome = method.opening(alloc, span, basis, rates)?;

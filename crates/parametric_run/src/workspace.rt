@@ -4,9 +4,8 @@ ghost use Rattle.std.specs.Prelude.{◌≡◌, ◌≢◌, ℕ, length, replicate
 ghost use Rattle.exact_values.specs.Rational.{zero_ℚ};
 ghost use Rattle.lp_definitions.specs.LinearProgram.{size, value_at};
 ghost use Rattle.lp_definitions.specs.Basis.{basics_of, IsBasic, IsNonbasic, IsDirectionOf, IsPointOf};
-ghost use Rattle.lp_definitions.specs.Waypoints.{KeepsWaypoints};
 ghost use Rattle.lp_model.specs.RatesCalls.{IsRowOf};
-ghost use Rattle.basis_values.specs.Calls.{HasRates, KeepsRates};
+ghost use Rattle.basis_values.specs.Calls.{IsAtBasis, StaysAt, MovesTo};
 ghost use Rattle.basis_values.specs.Stops.{PointOverflow};
 ghost use Rattle.simplex_definitions.specs.Path.{after};
 ghost use Rattle.bounded_primal.specs.Moves.{IsStepBy, StepOverflow, move_by};
@@ -54,17 +53,16 @@ impl Workspace {
         rates: &mut R,
         i: u32,
     ) -> Result<(), Stop>
-        requires rates { HasRates (R.matrix rates.old) (R.basics rates.old) lp.now basis.now }
+        requires rates { IsAtBasis (R.state rates.old) lp.now basis.now }
         requires basic { IsBasic lp.now.matrix (basics_of basis.now) i }
         requires places { length self.old.row.items ≡ size lp.now.matrix }
         ensures row { OnOk result
             (IsRowOf lp.now.matrix (basics_of basis.now) i (value_at self.new.row.items)) }
         ensures others { self.new ≡ record self.old { row = self.new.row } }
         ensures places { length self.new.row.items ≡ length self.old.row.items }
-        ensures rates { KeepsRates (R.matrix rates.new) (R.basics rates.new) lp.now basis.now
-            (R.waypoints rates.old) (R.waypoints rates.new) }
-        ensures overflow { PointOverflow result lp.now basis.now
-            (R.waypoints rates.old) (R.waypoints rates.new) }
+        ensures rates { StaysAt (R.state rates.old) (R.state rates.new) lp.now basis.now }
+        ensures overflow { PointOverflow result lp.now basis.now (R.state rates.old)
+            (R.state rates.new) }
     {
         rates.row(i, &mut self.row)
     }
@@ -77,17 +75,16 @@ impl Workspace {
         rates: &mut R,
         j: u32,
     ) -> Result<(), Stop>
-        requires rates { HasRates (R.matrix rates.old) (R.basics rates.old) lp.now basis.now }
+        requires rates { IsAtBasis (R.state rates.old) lp.now basis.now }
         requires nonbasic { IsNonbasic lp.now.matrix (basics_of basis.now) j }
         requires places { length self.old.direction ≡ size lp.now.matrix }
         ensures direction { OnOk result (IsDirectionOf lp.now.matrix (basics_of basis.now) j
             (value_at self.new.direction)) }
         ensures others { self.new ≡ record self.old { direction = self.new.direction } }
         ensures places { OnOk result (length self.new.direction ≡ size lp.now.matrix) }
-        ensures rates { KeepsRates (R.matrix rates.new) (R.basics rates.new) lp.now basis.now
-            (R.waypoints rates.old) (R.waypoints rates.new) }
-        ensures overflow { PointOverflow result lp.now basis.now
-            (R.waypoints rates.old) (R.waypoints rates.new) }
+        ensures rates { StaysAt (R.state rates.old) (R.state rates.new) lp.now basis.now }
+        ensures overflow { PointOverflow result lp.now basis.now (R.state rates.old)
+            (R.state rates.new) }
     {
         let _size = lp.number_of_variables();
         rates.direction(j, &mut self.direction)
@@ -165,7 +162,7 @@ fn step_along<R: Rates>(
     direction: &SparseVector,
     stopped: &StoppedMove<'_>,
 ) -> Result<(), Stop>
-    requires rates { HasRates (R.matrix rates.old) (R.basics rates.old) lp.now basis.old }
+    requires rates { IsAtBasis (R.state rates.old) lp.now basis.old }
     requires places { length point.old ≡ size lp.now.matrix }
     requires direction_places { length direction.now ≡ size lp.now.matrix }
     requires point { IsPointOf lp.now basis.old (value_at point.old) }
@@ -178,11 +175,10 @@ fn step_along<R: Rates>(
     ensures basis { OnOk result (basis.new ≡ after basis.old (move_by stopped.now.q stopped.now.by.now)) }
     ensures point { OnOk result (IsPointOf lp.now basis.new (value_at point.new)) }
     ensures unchanged { OnErr result (basis.new ≡ basis.old) }
-    ensures rates { HasRates (R.matrix rates.new) (R.basics rates.new) lp.now basis.new }
-    ensures waypoints { KeepsWaypoints lp.now.matrix (basics_of basis.old) (R.waypoints rates.old)
-        (basics_of basis.new) (R.waypoints rates.new) }
-    ensures overflow { StepOverflow result lp.now basis.old stopped.now.q stopped.now.by.now (R.waypoints rates.old)
-        (R.waypoints rates.new) }
+    ensures rates { IsAtBasis (R.state rates.new) lp.now basis.new }
+    ensures waypoints { MovesTo (R.state rates.old) (R.state rates.new) lp.now basis.old basis.new }
+    ensures overflow { StepOverflow result lp.now basis.old stopped.now.q stopped.now.by.now
+        (R.state rates.old) (R.state rates.new) }
 {
     let StoppedMove { q, by } = *stopped;
     let step = Move { q, by, direction };
@@ -202,7 +198,7 @@ pub fn take_step_in<R: Rates>(
     q: u32,
     by: &Stopper,
 ) -> Result<(), Stop>
-    requires rates { HasRates (R.matrix rates.old) (R.basics rates.old) lp.now basis.old }
+    requires rates { IsAtBasis (R.state rates.old) lp.now basis.old }
     requires sized { AreSized (size lp.now.matrix) workspace.old }
     requires point { IsPointOf lp.now basis.old (value_at workspace.old.point.items) }
     requires ready { IsReady lp.now basis.old workspace.old q by.now }
@@ -210,11 +206,10 @@ pub fn take_step_in<R: Rates>(
     ensures sized { AreSized (size lp.now.matrix) workspace.new }
     ensures point { OnOk result (IsPointOf lp.now basis.new (value_at workspace.new.point.items)) }
     ensures unchanged { OnErr result (basis.new ≡ basis.old) }
-    ensures rates { HasRates (R.matrix rates.new) (R.basics rates.new) lp.now basis.new }
-    ensures waypoints { KeepsWaypoints lp.now.matrix (basics_of basis.old) (R.waypoints rates.old)
-        (basics_of basis.new) (R.waypoints rates.new) }
-    ensures overflow { StepOverflow result lp.now basis.old q by.now (R.waypoints rates.old)
-        (R.waypoints rates.new) }
+    ensures rates { IsAtBasis (R.state rates.new) lp.now basis.new }
+    ensures waypoints { MovesTo (R.state rates.old) (R.state rates.new) lp.now basis.old basis.new }
+    ensures overflow { StepOverflow result lp.now basis.old q by.now (R.state rates.old)
+        (R.state rates.new) }
 {
     let Workspace {
         point,

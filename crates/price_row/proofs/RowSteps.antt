@@ -19,7 +19,7 @@ use Rattle.lp_model.specs.RatesCalls.{IsRowOf, RowOverflow}
 use Rattle.lp_model.specs.declared.Stop.{Stop}
 use Rattle.eta_file.specs.declared.eta.StoredEta.{StoredEta}
 use Rattle.eta_file.specs.Prefixes.{Passed, after}
-use Rattle.eta_file.specs.Inverse.{Inverse, ways_of, IsRateAt, IsColumnStop}
+use Rattle.eta_file.specs.Inverse.{Inverse, file_state, IsRateAt, IsColumnStop}
 use Rattle.eta_file.proofs.ColumnLaws.{row_stop}
 use Rattle.eta_file.proofs.PrefixLaws.{rates_after}
 use Rattle.price_row.specs.Sums.{products}
@@ -134,7 +134,7 @@ rows_filled f r xs each = record {
 }
 
 -- a direction that is refused refuses the row
-pub row_refused : {T : Type 0} (f : Inverse) (result : Result T Stop) → IfErr result (IsColumnStop f) → RowOverflow result f.matrix f.basics (ways_of f) (ways_of f)
+pub row_refused : {T : Type 0} (f : Inverse) (result : Result T Stop) → IfErr result (IsColumnStop f) → RowOverflow result (file_state f) (file_state f)
 row_refused f (Ok v) h = tt
 row_refused f (Err stop) h = row_stop f stop h
 

@@ -8,7 +8,7 @@ ghost use Rattle.lp_definitions.specs.Basis.{IsBasic};
 ghost use Rattle.lp_definitions.specs.RatesEvidence.{sum_from};
 ghost use Rattle.lp_model.specs.RatesCalls.{IsRowOf, RowOverflow};
 ghost use Rattle.lp_model.specs.Wanted.{is_wanted, meets, turned, wanted_at, IsLeastWanted, IsFirstWanted};
-ghost use Rattle.eta_file.specs.Inverse.{ways_of, IsColumnStop};
+ghost use Rattle.eta_file.specs.Inverse.{IsColumnStop, file_state};
 ghost use Rattle.eta_file.specs.Workspaces.{IsWorkspaceFor};
 ghost use Rattle.price_row.specs.Known.{IsKnown, HasMultipliers, IsFilledFrom, IsRateOf, IsUnit, IsMultiplierAt, IsMultiplierOf};
 ghost use Rattle.price_row.specs.NumbersOver.{AreNumbersOver};
@@ -89,8 +89,7 @@ impl PriceRow {
         requires places { length out.old ≡ size file.now.matrix }
         requires workspace { self.old ≡ size file.now.matrix }
         ensures rates { OnOk result (IsRowOf file.now.matrix file.now.basics i (value_at out.new)) }
-        ensures overflow { RowOverflow result file.now.matrix file.now.basics (ways_of file.now)
-            (ways_of file.now) }
+        ensures overflow { RowOverflow result (file_state file.now) (file_state file.now) }
         ensures never { IfErr result (λ stop. stop ≢ Stop.NoMemory) }
         ensures same { self.new ≡ self.old }
     {
@@ -123,8 +122,7 @@ impl PriceRow {
         requires workspace { self.old ≡ size file.now.matrix }
         ensures found { IfOk result (IsFirstWanted file.now.matrix file.now.basics i wanted.now up
             (value_at out.new)) }
-        ensures overflow { RowOverflow result file.now.matrix file.now.basics (ways_of file.now)
-            (ways_of file.now) }
+        ensures overflow { RowOverflow result (file_state file.now) (file_state file.now) }
         ensures never { IfErr result (λ stop. stop ≢ Stop.NoMemory) }
         ensures same { self.new ≡ self.old }
     {

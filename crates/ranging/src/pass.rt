@@ -3,7 +3,7 @@
 ghost use Rattle.std.specs.Prelude.{◌≡◌, ◌-◌, length, IfOk, IfErr, OnOk};
 ghost use Rattle.lp_definitions.specs.LinearProgram.{size, value_at, IsVariable};
 ghost use Rattle.lp_definitions.specs.Basis.{basics_of, IsBasic};
-ghost use Rattle.basis_values.specs.Calls.{HasRates, KeepsRates};
+ghost use Rattle.basis_values.specs.Calls.{IsAtBasis, StaysAt};
 ghost use Rattle.basis_values.specs.Stops.{RangeOverflow};
 ghost use Rattle.ranging.specs.Optima.{IsOptimum};
 ghost use Rattle.ranging.specs.Tables.{AreEndsOfRow, AllMet, AllFound};
@@ -25,7 +25,7 @@ fn visit<R: Rates>(
     row: &mut [Frac],
     ends: &mut [Ends],
 ) -> Result<Ends, Stop>
-    requires rates { HasRates (R.matrix rates.old) (R.basics rates.old) at.now.lp.now at.now.basis.now }
+    requires rates { IsAtBasis (R.state rates.old) at.now.lp.now at.now.basis.now }
     requires optimum { IsOptimum at.now }
     requires row_places { length row.old ≡ size at.now.lp.now.matrix }
     requires end_places { length ends.old ≡ size at.now.lp.now.matrix }
@@ -33,10 +33,9 @@ fn visit<R: Rates>(
     requires met { AllMet at.now.lp.now at.now.basis.now (value_at at.now.point.now) (i - 1) ends.old }
     ensures found { IfOk result (AreEndsOfRow at.now.lp.now at.now.basis.now i) }
     ensures met { OnOk result (AllMet at.now.lp.now at.now.basis.now (value_at at.now.point.now) i ends.new) }
-    ensures rates { KeepsRates (R.matrix rates.new) (R.basics rates.new) at.now.lp.now at.now.basis.now
-        (R.waypoints rates.old) (R.waypoints rates.new) }
-    ensures overflow { RangeOverflow result at.now.lp.now at.now.basis.now (R.waypoints rates.old)
-        (R.waypoints rates.new) }
+    ensures rates { StaysAt (R.state rates.old) (R.state rates.new) at.now.lp.now at.now.basis.now }
+    ensures overflow { RangeOverflow result at.now.lp.now at.now.basis.now (R.state rates.old)
+        (R.state rates.new) }
 {
     rates.row(i, row)?;
     match meet_limits(at.lp, at.basis, at.point, i, row, ends) {
@@ -57,7 +56,7 @@ fn visit_basic<R: Rates>(
     found: &mut [Ends],
     ends: &mut [Ends],
 ) -> Result<(), Stop>
-    requires rates { HasRates (R.matrix rates.old) (R.basics rates.old) at.now.lp.now at.now.basis.now }
+    requires rates { IsAtBasis (R.state rates.old) at.now.lp.now at.now.basis.now }
     requires optimum { IsOptimum at.now }
     requires row_places { length row.old ≡ size at.now.lp.now.matrix }
     requires found_places { length found.old ≡ size at.now.lp.now.matrix }
@@ -67,10 +66,9 @@ fn visit_basic<R: Rates>(
     requires found { AllFound at.now.lp.now at.now.basis.now (i - 1) found.old }
     ensures met { OnOk result (AllMet at.now.lp.now at.now.basis.now (value_at at.now.point.now) i ends.new) }
     ensures found { OnOk result (AllFound at.now.lp.now at.now.basis.now i found.new) }
-    ensures rates { KeepsRates (R.matrix rates.new) (R.basics rates.new) at.now.lp.now at.now.basis.now
-        (R.waypoints rates.old) (R.waypoints rates.new) }
-    ensures overflow { RangeOverflow result at.now.lp.now at.now.basis.now (R.waypoints rates.old)
-        (R.waypoints rates.new) }
+    ensures rates { StaysAt (R.state rates.old) (R.state rates.new) at.now.lp.now at.now.basis.now }
+    ensures overflow { RangeOverflow result at.now.lp.now at.now.basis.now (R.state rates.old)
+        (R.state rates.new) }
 {
     if !stands_basic(at.basis, i) {
         return Ok(());
@@ -92,7 +90,7 @@ pub fn pass<R: Rates>(
     found: &mut [Ends],
     ends: &mut [Ends],
 ) -> Result<(), Stop>
-    requires rates { HasRates (R.matrix rates.old) (R.basics rates.old) at.now.lp.now at.now.basis.now }
+    requires rates { IsAtBasis (R.state rates.old) at.now.lp.now at.now.basis.now }
     requires optimum { IsOptimum at.now }
     requires row_places { length row.old ≡ size at.now.lp.now.matrix }
     requires found_places { length found.old ≡ size at.now.lp.now.matrix }
@@ -101,10 +99,9 @@ pub fn pass<R: Rates>(
     ensures met { OnOk result (AllMet at.now.lp.now at.now.basis.now (value_at at.now.point.now)
         (size at.now.lp.now.matrix) ends.new) }
     ensures found { OnOk result (AllFound at.now.lp.now at.now.basis.now (size at.now.lp.now.matrix) found.new) }
-    ensures rates { KeepsRates (R.matrix rates.new) (R.basics rates.new) at.now.lp.now at.now.basis.now
-        (R.waypoints rates.old) (R.waypoints rates.new) }
-    ensures overflow { RangeOverflow result at.now.lp.now at.now.basis.now (R.waypoints rates.old)
-        (R.waypoints rates.new) }
+    ensures rates { StaysAt (R.state rates.old) (R.state rates.new) at.now.lp.now at.now.basis.now }
+    ensures overflow { RangeOverflow result at.now.lp.now at.now.basis.now (R.state rates.old)
+        (R.state rates.new) }
 {
     for k in 0..at.lp.number_of_variables() {
         visit_basic(at, rates, k + 1, row, found, ends)?;

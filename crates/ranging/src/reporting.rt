@@ -4,7 +4,7 @@ ghost use Rattle.std.specs.Prelude.{◌≡◌, None, length, IfOk, IfErr};
 ghost use Rattle.lp_definitions.specs.LinearProgram.{size, value_at};
 ghost use Rattle.lp_definitions.specs.Basis.{IsOptimalBasis};
 ghost use Rattle.simplex_definitions.specs.Ranges.{IsRangeReport};
-ghost use Rattle.basis_values.specs.Calls.{HasRates, KeepsRates};
+ghost use Rattle.basis_values.specs.Calls.{IsAtBasis, StaysAt};
 ghost use Rattle.basis_values.specs.Stops.{RangeOverflow};
 ghost use Rattle.lp_model.specs.RatesCalls.{IfOverflow};
 ghost use Rattle.ranging.specs.LimitEnds.{no_ends};
@@ -63,15 +63,13 @@ fn without_ends() -> Ends
 
 /// The report at an optimal basis whose point and prices are known.
 fn range_at<R: Rates>(alloc: Global, at: &Optimum<'_>, rates: &mut R) -> Result<RangeReport, Stop>
-    requires rates { HasRates (R.matrix rates.old) (R.basics rates.old) at.now.lp.now
-        at.now.basis.now }
+    requires rates { IsAtBasis (R.state rates.old) at.now.lp.now at.now.basis.now }
     requires optimum { IsOptimum at.now }
     ensures report { IfOk result
         (λ report. IsRangeReport at.now.lp.now at.now.basis.now (report_of report)) }
-    ensures rates { KeepsRates (R.matrix rates.new) (R.basics rates.new) at.now.lp.now
-        at.now.basis.now (R.waypoints rates.old) (R.waypoints rates.new) }
-    ensures overflow { RangeOverflow result at.now.lp.now at.now.basis.now
-        (R.waypoints rates.old) (R.waypoints rates.new) }
+    ensures rates { StaysAt (R.state rates.old) (R.state rates.new) at.now.lp.now at.now.basis.now }
+    ensures overflow { RangeOverflow result at.now.lp.now at.now.basis.now (R.state rates.old)
+        (R.state rates.new) }
 {
     let size = at.lp.number_of_variables() as usize;
     let mut row = vec![in alloc; Frac::whole(0); size].map_err(|_| NoMemory)?;
@@ -92,15 +90,14 @@ pub fn range<R: Rates>(
     basis: &Basis,
     rates: &mut R,
 ) -> Result<RangeReport, Stop>
-    requires rates { HasRates (R.matrix rates.old) (R.basics rates.old) lp.now basis.now }
+    requires rates { IsAtBasis (R.state rates.old) lp.now basis.now }
     requires no_change { lp.now.change ≡ None }
     requires optimal { IsOptimalBasis lp.now basis.now }
     ensures report { IfOk result (λ report. IsRangeReport lp.now basis.now (report_of report)) }
-    ensures rates { KeepsRates (R.matrix rates.new) (R.basics rates.new) lp.now basis.now
-        (R.waypoints rates.old) (R.waypoints rates.new) }
-    ensures overflow { RangeOverflow result lp.now basis.now (R.waypoints rates.old)
-        (R.waypoints rates.new) }
-    ensures complete { HasNoEvidence lp.now basis.now (R.waypoints rates.old) →
+    ensures rates { StaysAt (R.state rates.old) (R.state rates.new) lp.now basis.now }
+    ensures overflow { RangeOverflow result lp.now basis.now (R.state rates.old)
+        (R.state rates.new) }
+    ensures complete { HasNoEvidence lp.now basis.now (R.state rates.old).waypoints →
         IsReportOrMemory lp.now basis.now result }
 {
     let _size = lp.number_of_variables();

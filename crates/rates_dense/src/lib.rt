@@ -1,7 +1,7 @@
 //! The rates of a matrix as a table: a line for each basic variable, with a place for each variable.
 #![tactic(auto)]
 
-ghost use Rattle.std.specs.Prelude.{◌≡◌, ◌≢◌, ◌<◌, ◌≤◌, ◌^◌, length, take, All, Contains, IfOk, IfErr, IsOk, OnOk, OnErr, []};
+ghost use Rattle.std.specs.Prelude.{◌≡◌, ◌≢◌, ◌<◌, ◌≤◌, ◌^◌, length, take, All, Contains, IfOk, IfErr, IsOk, OnOk, OnErr};
 ghost use Rattle.std.specs.List.{HoldsAt};
 ghost use Rattle.exact_values.specs.Rational.{zero_ℚ};
 ghost use Rattle.lp_definitions.specs.LinearProgram.{size, value_at, Vector};
@@ -9,6 +9,7 @@ ghost use Rattle.lp_definitions.specs.Basis.{IsBasic, IsNonbasic, IsDirectionOf,
 ghost use Rattle.lp_definitions.specs.Waypoints.{KeepsWaypoints, waypoint};
 ghost use Rattle.lp_model.specs.RatesCalls.{IsRowOf, HasPivot, ExchangeOverflow};
 ghost use Rattle.rates_dense.specs.Lines.{AreQuotients, AreNumbers, HasPlaces, basics_of, HaveRatesAt, IsTakenOver, LineByLine, AreChanging, SameRates, IsReady, IsCommitted, IsExchanged};
+ghost use Rattle.rates_dense.specs.Inverse.{table_state};
 ghost use Rattle.rates_dense.specs.Placed.{IsPlaced};
 ghost use Rattle.rates_dense.specs.Refusals.{SomeLineRefused, LinesRefused, IsOwnOverflow};
 
@@ -198,13 +199,7 @@ impl Dense {
 }
 
 impl Rates for Dense {
-    ghost use Rattle.std.specs.Prelude.{[]};
-
-    ghost matrix = { λ table. table.matrix };
-
-    ghost basics = { λ table. table.basics };
-
-    ghost waypoints = { λ _. [] };
+    ghost state = { table_state };
 
     /// Always answers Ok, and takes no memory.
     fn column(&mut self, j: u32, out: &mut [Frac]) -> Result<(), Stop>
@@ -240,7 +235,7 @@ impl Rates for Dense {
         ensures ok { OnOk result (self.new ≡ record self.old
             { basics = exchanged self.old.basics p q }) }
         ensures err { OnErr result (self.new ≡ self.old) }
-        ensures overflow { ExchangeOverflow result self.old.matrix self.old.basics p q [] [] }
+        ensures overflow { ExchangeOverflow result p q (table_state self.old) (table_state self.new) }
 
         // an overflow by a formula of this exchange, at the present basics; memory never runs out
         ensures own { IfErr result (IsOwnOverflow p q) }

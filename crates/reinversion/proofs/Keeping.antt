@@ -2,6 +2,7 @@
 use Rattle.std.proofs.Common.{◌≡◌, ℕ, zero, suc, ◌≤◌, List, [], ◌∷◌, inl, inr, length, refl, sym, subst, arith, All, Ok, Err, Result}
 use Rattle.exact_values.specs.Rational.{ℚ}
 use Rattle.frac128.specs.declared.Op.{Op}
+use Rattle.std.specs.Prelude.{IfErr}
 use Rattle.lp_definitions.specs.LinearProgram.{Matrix}
 use Rattle.lp_definitions.specs.Basis.{Basics, exchanged}
 use Rattle.lp_definitions.specs.Waypoints.{HasColumnsWithin, KeepsWaypoints, waypoint}
@@ -11,7 +12,7 @@ use Rattle.lp_laws.proofs.WaypointLaws.{keeps_then, within_itself, Covers-all, C
 use Rattle.lp_model.specs.RatesCalls.{IfOverflow, ExchangeOverflow}
 use Rattle.lp_model.specs.declared.Stop.{Stop}
 use Rattle.lp_model.specs.declared.Stop.TheVariants.{Overflow, NoMemory}
-use Rattle.eta_file.specs.Inverse.{Inverse, ways_of}
+use Rattle.eta_file.specs.Inverse.{Inverse, ways_of, file_state}
 use Rattle.reinversion.specs.Rebuilt.{IsRebuilt, IsRemade, KeptRefused, without_way}
 
 module _ (e : Evidence) where
@@ -57,8 +58,12 @@ stop_kept a b c g h NoMemory refused = refused
 pub keeps_remade : (f g : Inverse) → IsRemade f g → KeepsWaypoints f.matrix f.basics (ways_of f) g.basics (ways_of g)
 keeps_remade f g h = record { each = λ k d below. inr (inl (h.ways k d below)) }
 
+-- an exchange that is refused at the basics b
+abbrev ExchangeStops : Result (Unit {0}) Stop → Matrix → Basics → ℕ → ℕ → List Basics → List Basics → Type 0
+ExchangeStops r a b p q ways now = IfErr r (λ stop. IfOverflow stop (ExchangeRefused a (b ∷ exchanged b p q ∷ ways) b now))
+
 -- an exchange after a call that left the basics
-pub overflow_after : (r : Result (Unit {0}) Stop) (a : Matrix) (b : Basics) (p q : ℕ) (ways mid now : List Basics) → KeepsWaypoints a b ways b mid → ExchangeOverflow r a b p q mid now → ExchangeOverflow r a b p q ways now
+overflow_after : (r : Result (Unit {0}) Stop) (a : Matrix) (b : Basics) (p q : ℕ) (ways mid now : List Basics) → KeepsWaypoints a b ways b mid → ExchangeStops r a b p q mid now → ExchangeStops r a b p q ways now
 overflow_after (Ok x) a b p q ways mid now kept h = h
 overflow_after (Err (Overflow e)) a b p q ways mid now kept h =
     ExchangeRefused-covered a (b ∷ exchanged b p q ∷ mid) (b ∷ exchanged b p q ∷ ways) b now e
@@ -74,7 +79,7 @@ module _ (f g h : Inverse) (same_matrix : g.matrix ≡ f.matrix) (same_basics : 
       keeps_then f.matrix f.basics (ways_of f) h.basics (ways_of g) (ways_of h) kept_here
       (subst (λ (m : Matrix). KeepsWaypoints m f.basics (ways_of g) h.basics (ways_of h)) same_matrix (subst (λ b. KeepsWaypoints g.matrix b (ways_of g) h.basics (ways_of h)) same_basics second))
 
-  pub overflow_through : (r : Result (Unit {0}) Stop) (p q : ℕ) → ExchangeOverflow r g.matrix g.basics p q (ways_of g) (ways_of h) → ExchangeOverflow r f.matrix f.basics p q (ways_of f) (ways_of h)
+  pub overflow_through : (r : Result (Unit {0}) Stop) (p q : ℕ) → ExchangeOverflow r p q (file_state g) (file_state h) → ExchangeOverflow r p q (file_state f) (file_state h)
   overflow_through r p q refused =
       overflow_after r f.matrix f.basics p q (ways_of f) (ways_of g) (ways_of h) kept_here
-      (subst (λ (m : Matrix). ExchangeOverflow r m f.basics p q (ways_of g) (ways_of h)) same_matrix (subst (λ b. ExchangeOverflow r g.matrix b p q (ways_of g) (ways_of h)) same_basics refused))
+      (subst (λ (m : Matrix). ExchangeStops r m f.basics p q (ways_of g) (ways_of h)) same_matrix (subst (λ b. ExchangeStops r g.matrix b p q (ways_of g) (ways_of h)) same_basics refused))

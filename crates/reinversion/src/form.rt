@@ -4,11 +4,12 @@ ghost use Rattle.std.specs.Prelude.{◌≡◌, ◌≢◌, ◌+◌, ◌<◌, ◌�
 ghost use Rattle.exact_values.specs.Rational.{zero_ℚ};
 ghost use Rattle.lp_definitions.specs.LinearProgram.{size, value_at};
 ghost use Rattle.lp_definitions.specs.Basis.{IsBasic, IsNonbasic, IsDirectionOf, exchanged, row_basics};
-ghost use Rattle.lp_definitions.specs.Waypoints.{KeepsWaypoints, waypoint};
+ghost use Rattle.lp_definitions.specs.Waypoints.{waypoint};
+ghost use Rattle.lp_model.specs.RatesState.{KeepsBasics, LeavesWaypoints};
 ghost use Rattle.lp_model.specs.RatesCalls.{IsRowOf, HasPivot, ColumnOverflow, RowOverflow, ExchangeOverflow};
 ghost use Rattle.lp_model.specs.Wanted.{IsFirstWanted};
 ghost use Rattle.eta_file.specs.Prefixes.{basic_columns};
-ghost use Rattle.eta_file.specs.Inverse.{ways_of, IsAppended};
+ghost use Rattle.eta_file.specs.Inverse.{ways_of, IsAppended, file_state};
 ghost use Rattle.reinversion.specs.Rebuilt.{KeptRefused};
 ghost use Rattle.reinversion.specs.Form.{IfDone, IfKept, IsShort, IsPrepared, IsTurn};
 
@@ -84,8 +85,7 @@ impl ProductForm {
     pub fn reinvert(&mut self) -> Result<Reinverted, NoMemory>
         ensures same_matrix { self.new.file.matrix ≡ self.old.file.matrix }
         ensures same_basics { self.new.file.basics ≡ self.old.file.basics }
-        ensures waypoints { KeepsWaypoints self.old.file.matrix self.old.file.basics
-            (ways_of self.old.file) self.new.file.basics (ways_of self.new.file) }
+        ensures waypoints { LeavesWaypoints (file_state self.old.file) (file_state self.new.file) }
         ensures done { IfOk result (IfDone (length self.new.file.etas ≤ basic_columns
             self.new.file.matrix self.new.file.basics)) }
         ensures kept { IfOk result (IfKept (KeptRefused self.old.file.matrix
@@ -115,8 +115,7 @@ impl ProductForm {
     fn reinvert_if_due(&mut self) -> Result<(), NoMemory>
         ensures same_matrix { self.new.file.matrix ≡ self.old.file.matrix }
         ensures same_basics { self.new.file.basics ≡ self.old.file.basics }
-        ensures waypoints { KeepsWaypoints self.old.file.matrix self.old.file.basics
-            (ways_of self.old.file) self.new.file.basics (ways_of self.new.file) }
+        ensures waypoints { LeavesWaypoints (file_state self.old.file) (file_state self.new.file) }
         ensures prepared { OnOk result (IsPrepared self.old self.new) }
     {
         if self.since + 1 >= EXCHANGES {
@@ -135,10 +134,9 @@ impl ProductForm {
         ensures err { OnErr result (self.new ≡ self.old) }
         ensures counted { OnOk result (self.new.since ≡ self.old.since + 1) }
         ensures same_matrix { self.new.file.matrix ≡ self.old.file.matrix }
-        ensures waypoints { KeepsWaypoints self.old.file.matrix self.old.file.basics
-            (ways_of self.old.file) self.new.file.basics (ways_of self.new.file) }
-        ensures overflow { ExchangeOverflow result self.old.file.matrix self.old.file.basics p q
-            (ways_of self.old.file) (ways_of self.new.file) }
+        ensures waypoints { LeavesWaypoints (file_state self.old.file) (file_state self.new.file) }
+        ensures overflow { ExchangeOverflow result p q (file_state self.old.file)
+            (file_state self.new.file) }
     {
         let _size = self.file.size();
         self.last.carry(&self.file, q)?;
@@ -168,8 +166,7 @@ impl ProductForm {
         ensures err { OnErr result (self.new ≡ self.old) }
         ensures counted { OnOk result (self.new.since ≡ self.old.since + 1) }
         ensures same_matrix { self.new.file.matrix ≡ self.old.file.matrix }
-        ensures waypoints { KeepsWaypoints self.old.file.matrix self.old.file.basics
-            (ways_of self.old.file) self.new.file.basics (ways_of self.new.file) }
+        ensures waypoints { LeavesWaypoints (file_state self.old.file) (file_state self.new.file) }
     {
         let _size = self.file.size();
         self.file.append_along(p, q, direction)?;
@@ -180,11 +177,7 @@ impl ProductForm {
 }
 
 impl Rates for ProductForm {
-    ghost matrix = { λ form. form.file.matrix };
-
-    ghost basics = { λ form. form.file.basics };
-
-    ghost waypoints = { λ form. ways_of form.file };
+    ghost state = { λ form. file_state form.file };
 
     /// Takes no memory. The direction is kept for the exchange.
     fn column(&mut self, j: u32, out: &mut [Frac]) -> Result<(), Stop>
@@ -192,11 +185,10 @@ impl Rates for ProductForm {
         requires places { length out.old ≡ size self.old.file.matrix }
         ensures direction { OnOk result (IsDirectionOf self.old.file.matrix self.old.file.basics j
             (value_at out.new)) }
-        ensures overflow { ColumnOverflow result self.old.file.matrix self.old.file.basics
-            (ways_of self.old.file) (ways_of self.old.file) }
+        ensures overflow { ColumnOverflow result (file_state self.old.file)
+            (file_state self.old.file) }
         ensures same { self.new ≡ self.old }
-        ensures waypoints { KeepsWaypoints self.old.file.matrix self.old.file.basics
-            (ways_of self.old.file) self.new.file.basics (ways_of self.new.file) }
+        ensures kept { KeepsBasics (file_state self.old.file) (file_state self.new.file) }
     {
         let _size = self.file.size();
         self.last.carry(&self.file, j)?;
@@ -212,11 +204,10 @@ impl Rates for ProductForm {
         ensures direction { OnOk result (IsDirectionOf self.old.file.matrix self.old.file.basics j
             (value_at out.new)) }
         ensures places { OnOk result (length out.new ≡ size self.old.file.matrix) }
-        ensures overflow { ColumnOverflow result self.old.file.matrix self.old.file.basics
-            (ways_of self.old.file) (ways_of self.old.file) }
+        ensures overflow { ColumnOverflow result (file_state self.old.file)
+            (file_state self.old.file) }
         ensures same { self.new ≡ self.old }
-        ensures waypoints { KeepsWaypoints self.old.file.matrix self.old.file.basics
-            (ways_of self.old.file) self.new.file.basics (ways_of self.new.file) }
+        ensures kept { KeepsBasics (file_state self.old.file) (file_state self.new.file) }
     {
         self.file.direction(j, &mut self.last.wholes, out)
     }
@@ -227,11 +218,10 @@ impl Rates for ProductForm {
         requires places { length out.old ≡ size self.old.file.matrix }
         ensures rates { OnOk result (IsRowOf self.old.file.matrix self.old.file.basics i
             (value_at out.new)) }
-        ensures overflow { RowOverflow result self.old.file.matrix self.old.file.basics
-            (ways_of self.old.file) (ways_of self.old.file) }
+        ensures overflow { RowOverflow result (file_state self.old.file)
+            (file_state self.old.file) }
         ensures same { self.new ≡ self.old }
-        ensures waypoints { KeepsWaypoints self.old.file.matrix self.old.file.basics
-            (ways_of self.old.file) self.new.file.basics (ways_of self.new.file) }
+        ensures kept { KeepsBasics (file_state self.old.file) (file_state self.new.file) }
     {
         self.price.row(&self.file, i, out)
     }
@@ -250,11 +240,10 @@ impl Rates for ProductForm {
         requires small { size self.old.file.matrix < 2 ^ 32 }
         ensures found { IfOk result (IsFirstWanted self.old.file.matrix self.old.file.basics i
             wanted.now up (value_at out.new)) }
-        ensures overflow { RowOverflow result self.old.file.matrix self.old.file.basics
-            (ways_of self.old.file) (ways_of self.old.file) }
+        ensures overflow { RowOverflow result (file_state self.old.file)
+            (file_state self.old.file) }
         ensures same { self.new ≡ self.old }
-        ensures waypoints { KeepsWaypoints self.old.file.matrix self.old.file.basics
-            (ways_of self.old.file) self.new.file.basics (ways_of self.new.file) }
+        ensures kept { KeepsBasics (file_state self.old.file) (file_state self.new.file) }
     {
         self.price.first_wanted(&self.file, i, wanted, up, out)
     }
@@ -268,10 +257,9 @@ impl Rates for ProductForm {
         ensures err { OnErr result (self.new.file.basics ≡ self.old.file.basics) }
         ensures turn { OnOk result (IsTurn self.old self.new) }
         ensures same_matrix { self.new.file.matrix ≡ self.old.file.matrix }
-        ensures waypoints { KeepsWaypoints self.old.file.matrix self.old.file.basics
-            (ways_of self.old.file) self.new.file.basics (ways_of self.new.file) }
-        ensures overflow { ExchangeOverflow result self.old.file.matrix self.old.file.basics p q
-            (ways_of self.old.file) (ways_of self.new.file) }
+        ensures waypoints { LeavesWaypoints (file_state self.old.file) (file_state self.new.file) }
+        ensures overflow { ExchangeOverflow result p q (file_state self.old.file)
+            (file_state self.new.file) }
     {
         self.reinvert_if_due()?;
         self.exchange_in_file(p, q)
@@ -289,10 +277,9 @@ impl Rates for ProductForm {
         ensures err { OnErr result (self.new.file.basics ≡ self.old.file.basics) }
         ensures turn { OnOk result (IsTurn self.old self.new) }
         ensures same_matrix { self.new.file.matrix ≡ self.old.file.matrix }
-        ensures waypoints { KeepsWaypoints self.old.file.matrix self.old.file.basics
-            (ways_of self.old.file) self.new.file.basics (ways_of self.new.file) }
-        ensures overflow { ExchangeOverflow result self.old.file.matrix self.old.file.basics p q
-            (ways_of self.old.file) (ways_of self.new.file) }
+        ensures waypoints { LeavesWaypoints (file_state self.old.file) (file_state self.new.file) }
+        ensures overflow { ExchangeOverflow result p q (file_state self.old.file)
+            (file_state self.new.file) }
     {
         self.reinvert_if_due()?;
         self.exchange_in_file_along(p, q, direction)?;

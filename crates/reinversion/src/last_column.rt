@@ -4,7 +4,7 @@ ghost use Rattle.std.specs.Prelude.{◌≡◌, None, length, IfOk, OnOk};
 ghost use Rattle.lp_definitions.specs.LinearProgram.{size, value_at};
 ghost use Rattle.lp_definitions.specs.Basis.{IsNonbasic, IsDirectionOf};
 ghost use Rattle.lp_model.specs.RatesCalls.{ColumnOverflow};
-ghost use Rattle.eta_file.specs.Inverse.{ways_of};
+ghost use Rattle.eta_file.specs.Inverse.{file_state};
 ghost use Rattle.reinversion.specs.Last.{IsLast};
 
 use eta_file::EtaFile;
@@ -53,8 +53,7 @@ impl LastColumn {
         ensures direction { OnOk result (IsDirectionOf file.now.matrix file.now.basics j
             (value_at self.new.direction.items)) }
         ensures last { IsLast file.now self.new }
-        ensures overflow { ColumnOverflow result file.now.matrix file.now.basics (ways_of file.now)
-            (ways_of file.now) }
+        ensures overflow { ColumnOverflow result (file_state file.now) (file_state file.now) }
     {
         if self.of == Some(j) {
             return Ok(());

@@ -135,10 +135,10 @@ fn overflow_end<E: Engine>(
     evidence: Evidence,
     card: u32,
 ) -> Result<End, NoMemory>
-    requires matrix { E.matrix engine.now ≡ lp.now.matrix }
-    requires way { evidence.way ≤ length (E.waypoints engine.now) }
-    ensures { IsOverflowEnd card present.now
-        (waypoint (E.basics engine.now) (E.waypoints engine.now) evidence.way) evidence result }
+    requires matrix { (E.state engine.now).matrix ≡ lp.now.matrix }
+    requires way { evidence.way ≤ length (E.state engine.now).waypoints }
+    ensures { IsOverflowEnd card present.now (waypoint (E.state engine.now).basics
+        (E.state engine.now).waypoints evidence.way) evidence result }
 {
     let place = place_at(alloc, lp, present, engine, evidence.way)?;
     Ok(End::Overflow {

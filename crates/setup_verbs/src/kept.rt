@@ -32,11 +32,7 @@ impl<E: Engine> Model for Setup<E> {
       rhs = s.rhs;
       lp = s.lp;
       basis = s.basis;
-      engine = record {
-        matrix = E.matrix s.engine;
-        basics = E.basics s.engine;
-        waypoints = E.waypoints s.engine;
-      };
+      engine = E.state s.engine;
     } };
 }
 

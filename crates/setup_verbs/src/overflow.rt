@@ -1,7 +1,7 @@
 // Where an operation is refused.
 ghost use Rattle.std.specs.Prelude.{◌≡◌, ◌≤◌, length, IfOk};
 ghost use Rattle.lp_definitions.specs.Waypoints.{waypoint};
-ghost use Rattle.basis_values.specs.Calls.{HasRates};
+ghost use Rattle.basis_values.specs.Calls.{IsAtBasis};
 ghost use Rattle.run_machine.specs.Ends.{place_view};
 ghost use Rattle.setup_verbs.specs.Overflows.{IsOverflowAt};
 
@@ -18,13 +18,13 @@ pub fn place_at<R: Rates>(
     rates: &R,
     way: u32,
 ) -> Result<Place, NoMemory>
-    requires matrix { R.matrix rates.now ≡ lp.now.matrix }
-    requires way { way ≤ length (R.waypoints rates.now) }
+    requires matrix { (R.state rates.now).matrix ≡ lp.now.matrix }
+    requires way { way ≤ length (R.state rates.now).waypoints }
     ensures { IfOk result (λ place. place_view place ≡
         record {
           basis = basis.now;
-          way = waypoint (R.basics rates.now)
-              (R.waypoints rates.now) way;
+          way = waypoint (R.state rates.now).basics
+              (R.state rates.now).waypoints way;
         }) }
 {
     let size = lp.number_of_variables() as usize;
@@ -44,9 +44,9 @@ pub fn overflow_at<R: Rates>(
     rates: &R,
     evidence: Evidence,
 ) -> Result<Finding, Halt>
-    requires rates { HasRates (R.matrix rates.now) (R.basics rates.now) lp.now basis.now }
-    requires way { evidence.way ≤ length (R.waypoints rates.now) }
-    ensures { IsOverflowAt basis.now (R.waypoints rates.now) evidence result }
+    requires rates { IsAtBasis (R.state rates.now) lp.now basis.now }
+    requires way { evidence.way ≤ length (R.state rates.now).waypoints }
+    ensures { IsOverflowAt basis.now (R.state rates.now).waypoints evidence result }
 {
     match place_at(alloc, lp, basis, rates, evidence.way) {
         Ok(place) => Ok(Finding::Overflow {

@@ -7,7 +7,7 @@ ghost use Rattle.lp_definitions.specs.Waypoints.{KeepsWaypoints};
 ghost use Rattle.control_definitions.specs.Program as program;
 ghost use Rattle.listing_tables.specs.Lines.{solution_lines};
 ghost use Rattle.listing_tables.specs.Sheets.{IsSheet};
-ghost use Rattle.basis_values.specs.Calls.{HasRates, KeepsRates};
+ghost use Rattle.basis_values.specs.Calls.{IsAtBasis, StaysAt};
 ghost use Rattle.answer_definitions.specs.Sections.{IsSolutionOf};
 ghost use Rattle.verb_answers.specs.Answers.{sheet_view, AreSolutionValues};
 ghost use Rattle.fitting_answers.specs.Real.{linear_programming_of_128_bits};
@@ -70,13 +70,10 @@ fn show_basis<P: Sink, R: Rates>(
 ) -> Result<Finding, Halt>
     requires sheet { IsSheet sheet }
     requires no_change { sheet.lp.now.change ≡ None }
-    requires rates { HasRates (R.matrix rates.old) (R.basics rates.old) sheet.lp.now basis.now }
+    requires rates { IsAtBasis (R.state rates.old) sheet.lp.now basis.now }
     ensures tells { ReportsFinding (LinesFound (sheet_view sheet.entry) basis.now
-        (R.waypoints rates.old) mark)
-        (P.taken print.old) (P.taken print.new) result }
-    ensures rates { KeepsRates (R.matrix rates.new) (R.basics rates.new)
-        sheet.entry.lp.now basis.now
-        (R.waypoints rates.old) (R.waypoints rates.new) }
+        (R.state rates.old).waypoints mark) (P.taken print.old) (P.taken print.new) result }
+    ensures rates { StaysAt (R.state rates.old) (R.state rates.new) sheet.entry.lp.now basis.now }
 {
     match solution_of(alloc, sheet, basis, rates) {
         Ok(viewed) => print_lines(sheet, basis, mark, &viewed, print),

@@ -5,7 +5,7 @@
 ghost use Rattle.std.specs.Prelude.{◌≡◌, ◌≢◌, ◌≤◌, length, true, IfOk, None};
 ghost use Rattle.lp_definitions.specs.LinearProgram.{size};
 ghost use Rattle.lp_definitions.specs.Basis.{IsBasis};
-ghost use Rattle.basis_values.specs.Calls.{HasRates};
+ghost use Rattle.basis_values.specs.Calls.{IsAtBasis};
 
 use crate::decks::{TESTPROB, program_of};
 use crate::texts::{fraction, values_text};
@@ -83,8 +83,8 @@ fn refusal_text<E: Engine>(
     evidence: &Evidence,
     engine: &E,
 ) -> Result<String, Fail>
-    requires way { evidence.now.way ≤ length (E.waypoints engine.now) }
-    requires matrix { E.matrix engine.now ≡ lp.now.matrix }
+    requires way { evidence.now.way ≤ length (E.state engine.now).waypoints }
+    requires matrix { (E.state engine.now).matrix ≡ lp.now.matrix }
 {
     let mut marks = vec![in alloc; false; lp.number_of_variables() as usize]?;
     engine.way_basics(evidence.way, &mut marks);
@@ -103,7 +103,7 @@ fn direction_text<E: Engine>(
     engine: &mut E,
     j: u32,
 ) -> Result<String, Fail>
-    requires { HasRates (E.matrix engine.old) (E.basics engine.old) lp.now basis.now }
+    requires { IsAtBasis (E.state engine.old) lp.now basis.now }
 {
     let size = lp.number_of_variables();
     if j == 0 || j > size || stands_basic(basis, j) {
@@ -122,7 +122,7 @@ fn row_text<E: Engine>(
     engine: &mut E,
     i: u32,
 ) -> Result<String, Fail>
-    requires { HasRates (E.matrix engine.old) (E.basics engine.old) lp.now basis.now }
+    requires { IsAtBasis (E.state engine.old) lp.now basis.now }
 {
     let size = lp.number_of_variables();
     if i == 0 || i > size || !stands_basic(basis, i) {
@@ -140,7 +140,7 @@ fn path_text<E: Engine>(
     basis: &mut Basis,
     engine: &mut E,
 ) -> Result<String, Fail>
-    requires { HasRates (E.matrix engine.old) (E.basics engine.old) lp.now basis.old }
+    requires { IsAtBasis (E.state engine.old) lp.now basis.old }
 {
     let Ok(Outcome::Optimal { steps, point, .. }) = primal(alloc, lp, basis, engine, 100) else {
         return Err(Fail::from("no optimum"));

@@ -77,7 +77,7 @@ fn transportation_deck(alloc: Global) -> Result<Vec<u8>, Fail> {
 
 /// The steps and the least cost of the path of a deck by an engine, and the rates that it leaves.
 fn solved<E: Engine>(alloc: Global, lp: &Lp) -> Result<(u32, Frac, E), Fail>
-    ensures { IfOk result (λ found. E.matrix found.2 ≡ lp.now.matrix) }
+    ensures { IfOk result (λ found. (E.state found.2).matrix ≡ lp.now.matrix) }
 {
     let (mut basis, mut rates) = opening::<E>(alloc, lp)?;
     let Ok(Outcome::Optimal { steps, point, .. }) = primal(alloc, lp, &mut basis, &mut rates, 1000)

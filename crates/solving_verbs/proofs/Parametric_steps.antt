@@ -46,7 +46,8 @@ use Rattle.run_machine.specs.declared.act.Halt.TheVariants as halt
 use Rattle.run_machine.specs.declared.end.Place.{Place as OwnPlace}
 use Rattle.run_machine.specs.declared.finding.Finding.{Finding}
 use Rattle.run_machine.specs.declared.finding.Finding.TheVariants.{Ended, Overflow, RanThrough}
-use Rattle.setup_verbs.specs.Kept.{Engine, Setup}
+use Rattle.lp_model.specs.RatesState.{RatesState}
+use Rattle.setup_verbs.specs.Kept.{Setup}
 use Rattle.solving_verbs.proofs.Selected_again.{name_kept, options_kept, basis_kept, engine_kept, now_is}
 use Rattle.run_machine.specs.declared.selecting.Refusal.{Refusal}
 use Rattle.run_machine.specs.declared.selecting.Refusal.TheVariants.{Fault, NoMemory}
@@ -236,4 +237,4 @@ module _ (verb : ParametricVerb) (cells : Cells) (file : Filed) (setup : Setup) 
       run_reported verb cells file refl new problem on_file mid.lp (now_is setup seen others file problem cells ok) parametric_run asked print_old print_new result
       (name ∙ name_kept setup seen others) (options ∙ options_kept setup seen others)
       (subst (λ (b : Basis). ReportsFinding (ParametricRunFinds (record { problem = problem; lp = mid.lp }) b new.basis parametric_run setup.engine.waypoints new.engine.waypoints) print_old print_new result) (basis_kept setup seen others)
-      (subst (λ (e : Engine). ReportsFinding (ParametricRunFinds (record { problem = problem; lp = mid.lp }) mid.basis new.basis parametric_run e.waypoints new.engine.waypoints) print_old print_new result) (engine_kept setup seen others) t))
+      (subst (λ (e : RatesState). ReportsFinding (ParametricRunFinds (record { problem = problem; lp = mid.lp }) mid.basis new.basis parametric_run e.waypoints new.engine.waypoints) print_old print_new result) (engine_kept setup seen others) t))

@@ -14,7 +14,7 @@ use Rattle.problem_file.specs.Filed.{Filed, filed_under}
 use Rattle.selection_definitions.specs.Selection.{matrix_of}
 use Rattle.question_definitions.specs.Answers.{Basis}
 use Rattle.basis_values.specs.Calls.{HasRates, LieIn}
-use Rattle.bounded_primal.specs.Calls.{WaypointsFollow, RuleWaypointsFollow}
+use Rattle.bounded_primal.specs.Calls.{RuleWaypointsFollow}
 use Rattle.listing_tables.specs.declared.sheet.Sheet.{Sheet}
 use Rattle.report_text.specs.Verdicts.{verdict_view, check_view}
 use Rattle.verb_answers.specs.declared.path.PathReport.{PathReport}
@@ -57,7 +57,7 @@ module _ (sheet : Sheet) (s now : Basis) (before after : List Basics) (report : 
   begins : IsNonsingularBasis sheet.lp.now s
   begins = record { is_basis = has.is_basis; nonsingular = has.nonsingular }
 
-  pub path_reached : (limit : Option ℕ) (r : IsReached sheet s now limit report) → WaypointsFollow sheet.lp.now s now before after →
+  pub path_reached : (limit : Option ℕ) (r : IsReached sheet s now limit report) → RuleWaypointsFollow turn sheet.lp.now s now before after →
       PathReaches solvers.Primal (sheet_view sheet) s now limit before after r.bases (verdict_view sheet report.outcome) (check_view report.refused)
   path_reached limit r w = record {
     reaches = r.reaches;

@@ -7,7 +7,8 @@ use Rattle.selection_definitions.specs.Selection.{selected}
 use Rattle.basis_values.specs.Calls.{HasRates}
 use Rattle.question_definitions.specs.Answers.{Basis}
 use Rattle.run_definitions.specs.State.{choice_of}
-use Rattle.setup_verbs.specs.Kept.{Engine, Setup}
+use Rattle.lp_model.specs.RatesState.{RatesState}
+use Rattle.setup_verbs.specs.Kept.{Setup}
 use Rattle.setup_verbs.specs.Standing.{IsReady}
 use Rattle.setup_verbs.proofs.Present.{ready_rates}
 
@@ -33,6 +34,6 @@ module _ (setup : Setup) {given mid : Setup} (seen : mid ≡ given) (others : gi
     -- and its rates are of it
     pub rates_again : IsReady file setup → filed_under setup.name file ≡ Some problem → HasRates mid.engine.matrix mid.engine.basics mid.lp mid.basis
     rates_again ready on_file =
-        subst (λ (e : Engine). HasRates e.matrix e.basics mid.lp mid.basis) (sym engine_kept)
+        subst (λ (e : RatesState). HasRates e.matrix e.basics mid.lp mid.basis) (sym engine_kept)
         (subst (λ (b : Basis). HasRates setup.engine.matrix setup.engine.basics mid.lp b) (sym basis_kept)
         (ready_rates file setup ready problem on_file cells mid.lp now_is))

@@ -41,7 +41,8 @@ use Rattle.run_machine.specs.declared.finding.Finding.{Finding}
 use Rattle.run_machine.specs.declared.finding.Finding.TheVariants.{Ended, Overflow}
 use Rattle.fitting_answers.specs.Fitting.{VerdictFits, CheckFits, EvidenceFits}
 use Rattle.basis_values.specs.Calls.{HasRates}
-use Rattle.setup_verbs.specs.Kept.{Engine, Setup}
+use Rattle.lp_model.specs.RatesState.{RatesState}
+use Rattle.setup_verbs.specs.Kept.{Setup}
 use Rattle.setup_verbs.specs.Standing.{IsReady, IsSolved}
 use Rattle.run_machine.specs.declared.selecting.Refusal.{Refusal}
 use Rattle.run_machine.specs.declared.selecting.Refusal.TheVariants.{Fault, NoMemory}
@@ -175,7 +176,7 @@ module _ (verb : SolvingVerb) (cells : Cells) (file : Filed) (setup : Setup) {gi
       path_reported verb cells file refl new problem on_file mid.lp (limit_of verb cells) print_old print_new result refl (now_is setup seen others file problem cells ok)
       (name ∙ name_kept setup seen others) (options ∙ options_kept setup seen others)
       (subst (λ (b : Basis). ReportsFinding (PathFinds (solver_of verb) (record { problem = problem; lp = mid.lp }) b new.basis (limit_of verb cells) setup.engine.waypoints new.engine.waypoints) print_old print_new result) (basis_kept setup seen others)
-      (subst (λ (e : Engine). ReportsFinding (PathFinds (solver_of verb) (record { problem = problem; lp = mid.lp }) mid.basis new.basis (limit_of verb cells) e.waypoints new.engine.waypoints) print_old print_new result) (engine_kept setup seen others) t))
+      (subst (λ (e : RatesState). ReportsFinding (PathFinds (solver_of verb) (record { problem = problem; lp = mid.lp }) mid.basis new.basis (limit_of verb cells) e.waypoints new.engine.waypoints) print_old print_new result) (engine_kept setup seen others) t))
 
   -- with an optimal verdict the basis is optimal in what is selected
   pub again_solved : IsReady file setup → new.lp ≡ mid.lp → IsLinearProgram mid.lp → HasRates new.engine.matrix new.engine.basics mid.lp new.basis →

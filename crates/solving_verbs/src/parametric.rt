@@ -6,7 +6,7 @@ ghost use Rattle.frac128.specs.declared.Refused.{Refused as RefusedOperation};
 ghost use Rattle.lp_definitions.specs.Basis.{Basics};
 ghost use Rattle.lp_model.specs.declared.reports.ParaReport.TheVariants as para_reports;
 ghost use Rattle.question_definitions.specs.Answers as answers;
-ghost use Rattle.basis_values.specs.Calls.{HasRates};
+ghost use Rattle.basis_values.specs.Calls.{IsAtBasis};
 ghost use Rattle.listing_tables.specs.Sheets.{IsSheet};
 ghost use Rattle.report_text.specs.Verdicts.{IsOutcome};
 ghost use Rattle.report_text.specs.Parametric.{IsParametric};
@@ -53,15 +53,15 @@ fn run_from<R: Rates>(
 ) -> Result<RunReport, PrimalStop>
     requires sheet { IsSheet sheet }
     requires no_change { sheet.lp.now.change ≡ None }
-    requires rates { HasRates (R.matrix rates.old) (R.basics rates.old) sheet.lp.now basis.old }
+    requires rates { IsAtBasis (R.state rates.old) sheet.lp.now basis.old }
     requires serves { Serves sheet.problem.now sheet.lp.now parametric_run.now }
-    ensures answered { IfOk result (IsAnswered sheet.entry (parametric_run_view parametric_run.now) basis.old
-        basis.new (R.waypoints rates.old) (R.waypoints rates.new)) }
+    ensures answered { IfOk result (IsAnswered sheet.entry (parametric_run_view parametric_run.now)
+        basis.old basis.new (R.state rates.old).waypoints (R.state rates.new).waypoints) }
     ensures printable { IfOk result (λ answer. IsPrintable sheet.entry answer.report) }
-    ensures stops { IfErr result (StopsParametricRun sheet.entry (parametric_run_view parametric_run.now) basis.old
-        basis.new (R.waypoints rates.old) (R.waypoints rates.new)) }
-    ensures rates { HasRates (R.matrix rates.new) (R.basics rates.new)
-        sheet.entry.lp.now basis.new }
+    ensures stops { IfErr result (StopsParametricRun sheet.entry
+        (parametric_run_view parametric_run.now) basis.old basis.new (R.state rates.old).waypoints
+        (R.state rates.new).waypoints) }
+    ensures rates { IsAtBasis (R.state rates.new) sheet.entry.lp.now basis.new }
 {
     match parametric_run {
         ParametricRun::Row { run, .. } => objective_run_of(alloc, sheet, basis, rates, run),
@@ -163,9 +163,9 @@ fn overflow_in<R: Rates>(
     rates: &R,
     evidence: Evidence,
 ) -> Result<Finding, Halt>
-    requires rates { HasRates (R.matrix rates.now) (R.basics rates.now) lp.now basis.now }
-    requires way { evidence.formula ≢ 13 → evidence.way ≤ length (R.waypoints rates.now) }
-    ensures tells { IsRunOverflow basis.now (R.waypoints rates.now) evidence result }
+    requires rates { IsAtBasis (R.state rates.now) lp.now basis.now }
+    requires way { evidence.formula ≢ 13 → evidence.way ≤ length (R.state rates.now).waypoints }
+    ensures tells { IsRunOverflow basis.now (R.state rates.now).waypoints evidence result }
     ensures fits { EvidenceFits evidence }
 {
     if evidence.formula == LIMIT_FORMULA {
@@ -188,13 +188,12 @@ fn follow<P: Sink, R: Rates>(
 ) -> Result<Finding, Halt>
     requires sheet { IsSheet sheet }
     requires no_change { sheet.lp.now.change ≡ None }
-    requires rates { HasRates (R.matrix rates.old) (R.basics rates.old) sheet.lp.now basis.old }
+    requires rates { IsAtBasis (R.state rates.old) sheet.lp.now basis.old }
     requires serves { Serves sheet.problem.now sheet.lp.now parametric_run.now }
     ensures tells { ReportsFinding (ParametricRunFinds (sheet_view sheet.entry) basis.old basis.new
-        (parametric_run_view parametric_run.now) (R.waypoints rates.old) (R.waypoints rates.new))
-        (P.taken print.old) (P.taken print.new) result }
-    ensures rates { HasRates (R.matrix rates.new) (R.basics rates.new)
-        sheet.entry.lp.now basis.new }
+        (parametric_run_view parametric_run.now) (R.state rates.old).waypoints
+        (R.state rates.new).waypoints) (P.taken print.old) (P.taken print.new) result }
+    ensures rates { IsAtBasis (R.state rates.new) sheet.entry.lp.now basis.new }
 {
     match run_from(alloc, sheet, basis, rates, parametric_run) {
         Ok(answer) => print_run(sheet, parametric_run, &answer, print),

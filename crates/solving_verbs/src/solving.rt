@@ -5,7 +5,7 @@ ghost use Rattle.problem_file.specs.Filed.{filed_under};
 ghost use Rattle.lp_definitions.specs.LinearProgram.{IsLinearProgram};
 ghost use Rattle.lp_definitions.specs.Basis.{Basics};
 ghost use Rattle.question_definitions.specs.Answers as answers;
-ghost use Rattle.basis_values.specs.Calls.{HasRates};
+ghost use Rattle.basis_values.specs.Calls.{IsAtBasis};
 ghost use Rattle.listing_definitions.specs.declared.Solver.TheVariants as solvers;
 ghost use Rattle.listing_tables.specs.declared.sheet.Sheet as sheets;
 ghost use Rattle.listing_tables.specs.Sheets.{IsSheet};
@@ -92,12 +92,11 @@ fn follow_primal<P: Sink, R: Rates>(
     requires sheet { IsSheet sheet }
     requires lawful { IsLinearProgram sheet.lp.now }
     requires no_change { sheet.lp.now.change ≡ None }
-    requires rates { HasRates (R.matrix rates.old) (R.basics rates.old) sheet.lp.now basis.old }
-    ensures tells { ReportsFinding (PathFinds solvers.Primal (sheet_view sheet.entry) basis.old basis.new limit
-        (R.waypoints rates.old) (R.waypoints rates.new))
+    requires rates { IsAtBasis (R.state rates.old) sheet.lp.now basis.old }
+    ensures tells { ReportsFinding (PathFinds solvers.Primal (sheet_view sheet.entry) basis.old
+        basis.new limit (R.state rates.old).waypoints (R.state rates.new).waypoints)
         (P.taken print.old) (P.taken print.new) result }
-    ensures rates { HasRates (R.matrix rates.new) (R.basics rates.new)
-        sheet.entry.lp.now basis.new }
+    ensures rates { IsAtBasis (R.state rates.new) sheet.entry.lp.now basis.new }
 {
     match path_from(alloc, sheet, basis, rates, limit) {
         Ok(report) => print_verdict(Solver::Primal, sheet, &report, print),
@@ -121,12 +120,11 @@ fn follow_dual<P: Sink, R: Rates>(
     requires sheet { IsSheet sheet }
     requires lawful { IsLinearProgram sheet.lp.now }
     requires no_change { sheet.lp.now.change ≡ None }
-    requires rates { HasRates (R.matrix rates.old) (R.basics rates.old) sheet.lp.now basis.old }
-    ensures tells { ReportsFinding (PathFinds solvers.Dual (sheet_view sheet.entry) basis.old basis.new (Some limit)
-        (R.waypoints rates.old) (R.waypoints rates.new))
+    requires rates { IsAtBasis (R.state rates.old) sheet.lp.now basis.old }
+    ensures tells { ReportsFinding (PathFinds solvers.Dual (sheet_view sheet.entry) basis.old
+        basis.new (Some limit) (R.state rates.old).waypoints (R.state rates.new).waypoints)
         (P.taken print.old) (P.taken print.new) result }
-    ensures rates { HasRates (R.matrix rates.new) (R.basics rates.new)
-        sheet.entry.lp.now basis.new }
+    ensures rates { IsAtBasis (R.state rates.new) sheet.entry.lp.now basis.new }
 {
     match dual_from(alloc, sheet, basis, rates, limit) {
         Ok(report) => print_verdict(Solver::Dual, sheet, &report, print),
@@ -156,12 +154,12 @@ fn follow<P: Sink, R: Rates>(
     requires sheet { IsSheet sheet }
     requires lawful { IsLinearProgram sheet.lp.now }
     requires no_change { sheet.lp.now.change ≡ None }
-    requires rates { HasRates (R.matrix rates.old) (R.basics rates.old) sheet.lp.now basis.old }
-    ensures tells { ReportsFinding (PathFinds (solver_of path.entry.verb) (sheet_view sheet.entry) basis.old basis.new
-        (limit_of path.entry.verb path.entry.cells.now) (R.waypoints rates.old) (R.waypoints rates.new))
-        (P.taken print.old) (P.taken print.new) result }
-    ensures rates { HasRates (R.matrix rates.new) (R.basics rates.new)
-        sheet.entry.lp.now basis.new }
+    requires rates { IsAtBasis (R.state rates.old) sheet.lp.now basis.old }
+    ensures tells { ReportsFinding (PathFinds (solver_of path.entry.verb) (sheet_view sheet.entry)
+        basis.old basis.new (limit_of path.entry.verb path.entry.cells.now)
+        (R.state rates.old).waypoints (R.state rates.new).waypoints) (P.taken print.old)
+        (P.taken print.new) result }
+    ensures rates { IsAtBasis (R.state rates.new) sheet.entry.lp.now basis.new }
 {
     let cells = path.cells;
     match path.verb {

@@ -13,10 +13,10 @@ use Rattle.question_definitions.specs.Answers.{Basis}
 use Rattle.listing_tables.specs.declared.sheet.Sheet.{Sheet}
 use Rattle.basis_values.specs.Calls.{job_of}
 use Rattle.bounded_primal.specs.Calls.{PathGoesOn, RuleStopsOnPath}
-use Rattle.bounded_primal.specs.Stops.{PrimalStops}
+use Rattle.bounded_primal.specs.Stops.{PrimalStopsAlong}
 use Rattle.bounded_primal.specs.declared.moves.PrimalStop.{PrimalStop}
 use Rattle.bounded_primal.specs.declared.moves.PrimalStop.TheVariants.{Limit, Overflow, NoMemory}
-use Rattle.bounded_dual.specs.Stops.{DualStops}
+use Rattle.bounded_dual.specs.Stops.{DualStopsAlong}
 use Rattle.bounded_dual.specs.declared.moves.DualStop.{DualStop}
 use Rattle.bounded_dual.specs.declared.moves.DualStop.TheVariants as dual_stop
 use Rattle.verb_answers.specs.Reports.{most_steps, RuleOverflowsThere, PassesLimit, PathStops, DualPathStops}
@@ -63,7 +63,7 @@ module _ (sheet : Sheet) (no_change : sheet.lp.now.change ≡ None) (s now : Bas
   abbrev most : ℕ
   most = most_steps sheet.lp.now limit
 
-  pub stops : (stop : PrimalStop) → PrimalStops sheet.lp.now s now most before after stop → (stop ≡ Limit → IsSome limit) → PathStops sheet s now limit before after stop
+  pub stops : (stop : PrimalStop) → PrimalStopsAlong sheet.lp.now s now most before after stop → (stop ≡ Limit → IsSome limit) → PathStops sheet s now limit before after stop
   stops Limit h some = passes limit h (some refl)
     where
       passes : (limit : Option ℕ) → PathGoesOn sheet.lp.now s now (most_steps sheet.lp.now limit) → IsSome limit → PassesLimit sheet s now limit
@@ -75,7 +75,7 @@ module _ (sheet : Sheet) (no_change : sheet.lp.now.change ≡ None) (s now : Bas
   stops NoMemory h some = (h.0, h.1)
 
 module _ (sheet : Sheet) (s now : Basis) (limit : ℕ) (before after : List Basics) where
-  pub dual_stops : (stop : DualStop) → DualStops sheet.lp.now s now limit before after stop → DualPathStops sheet s now limit before after stop
+  pub dual_stops : (stop : DualStop) → DualStopsAlong sheet.lp.now s now limit before after stop → DualPathStops sheet s now limit before after stop
   dual_stops (dual_stop.NotDualFeasible j) h = h
   dual_stops dual_stop.Limit h = h
   dual_stops (dual_stop.Overflow e) h = overflows dual_turn (Dual sheet.lp.now) sheet s now limit (Some limit) (left_is sheet.lp.now (Some limit)) before after e h

@@ -3,7 +3,7 @@
 ghost use Rattle.std.specs.Prelude.{◌≡◌, None, IfOk, IfErr};
 ghost use Rattle.exact_values.specs.Rational.{◌≤ℚ◌};
 ghost use Rattle.lp_definitions.specs.LinearProgram.{IsRow, HasNoLimits};
-ghost use Rattle.basis_values.specs.Calls.{HasRates};
+ghost use Rattle.basis_values.specs.Calls.{IsAtBasis};
 ghost use Rattle.listing_tables.specs.Sheets.{IsSheet};
 ghost use Rattle.para_objective.specs.Faces.{family};
 ghost use Rattle.para_objective.specs.Runs.{ObjectiveFollows, IsTrueObjective};
@@ -58,21 +58,20 @@ pub fn objective_run_of<R: Rates>(
 ) -> Result<RunReport, PrimalStop>
     requires sheet { IsSheet sheet }
     requires no_change { sheet.lp.now.change ≡ None }
-    requires rates { HasRates (R.matrix rates.old) (R.basics rates.old) sheet.lp.now basis.old }
+    requires rates { IsAtBasis (R.state rates.old) sheet.lp.now basis.old }
     requires row { IsRow sheet.lp.now.matrix run.now.row }
     requires free { HasNoLimits sheet.lp.now run.now.row }
     requires forward { run.now.from ≤ℚ run.now.to }
     ensures answered { IfOk result (IsObjectiveAnswered sheet.entry run.now basis.old basis.new
-        (R.waypoints rates.old) (R.waypoints rates.new)) }
+        (R.state rates.old).waypoints (R.state rates.new).waypoints) }
     ensures truth { IfOk result
         (λ answer. IsTrueObjective sheet.entry.lp.now run.now answer.report) }
     ensures printable { IfOk result (λ answer. IsPrintable sheet.entry answer.report) }
     ensures stops { IfErr result (ObjectiveRunStops sheet.entry run.now basis.old basis.new
-        (R.waypoints rates.old) (R.waypoints rates.new)) }
-    ensures rates { HasRates (R.matrix rates.new) (R.basics rates.new)
-        sheet.entry.lp.now basis.new }
+        (R.state rates.old).waypoints (R.state rates.new).waypoints) }
+    ensures rates { IsAtBasis (R.state rates.new) sheet.entry.lp.now basis.new }
     ensures waypoints { ObjectiveFollows sheet.entry.lp.now run.now basis.old basis.new
-        (R.waypoints rates.old) (R.waypoints rates.new) }
+        (R.state rates.old) (R.state rates.new) }
 {
     let report = para_obj(alloc, sheet.lp, basis, rates, run)?;
     let refused = opening_refusal(alloc, sheet.lp, run, &report)?;

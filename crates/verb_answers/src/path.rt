@@ -1,14 +1,14 @@
 //! The path from the present basis, by the simplex method or by the dual simplex method.
 
 ghost use Rattle.std.specs.Prelude.{◌≡◌, None, IsSome, IfOk, IfErr, IsErrOf};
-ghost use Rattle.simplex_definitions.specs.DualPath.{dual_turn};
-ghost use Rattle.basis_values.specs.Calls.{HasRates};
-ghost use Rattle.bounded_primal.specs.Calls.{CallEnds, WaypointsFollow, RuleWaypointsFollow};
+ghost use Rattle.basis_values.specs.Calls.{IsAtBasis};
+ghost use Rattle.bounded_primal.specs.Calls.{CallEnds, WaypointsFollow};
 ghost use Rattle.bounded_primal.specs.Outcomes.{IsTrueOutcome};
 ghost use Rattle.bounded_primal.specs.Stops.{PrimalStops};
 ghost use Rattle.listing_tables.specs.Sheets.{IsSheet};
 ghost use Rattle.report_text.specs.Verdicts.{IsOutcome};
 ghost use Rattle.verb_answers.specs.Reports.{most_steps, IsReached, PathStops, IsDualReached, DualPathStops};
+ghost use Rattle.bounded_dual.specs.Stops.{DualWaypointsFollow};
 
 use crate::check::{check_of, refused_of};
 use bounded_dual::{DualStop, dual};
@@ -33,14 +33,14 @@ fn outcome_from<R: Rates>(
     rates: &mut R,
     limit: Option<u32>,
 ) -> Result<Outcome, PrimalStop>
-    requires { HasRates (R.matrix rates.old) (R.basics rates.old) lp.now basis.old }
+    requires { IsAtBasis (R.state rates.old) lp.now basis.old }
     ensures ends { IfOk result (CallEnds lp.now basis.old basis.new (most_steps lp.now limit)) }
     ensures stops { IfErr result (PrimalStops lp.now basis.old basis.new (most_steps lp.now limit)
-        (R.waypoints rates.old) (R.waypoints rates.new)) }
+        (R.state rates.old) (R.state rates.new)) }
     ensures limited { IsErrOf result PrimalStop.Limit → IsSome limit }
-    ensures rates { HasRates (R.matrix rates.new) (R.basics rates.new) lp.now basis.new }
-    ensures waypoints { WaypointsFollow lp.now basis.old basis.new (R.waypoints rates.old)
-        (R.waypoints rates.new) }
+    ensures rates { IsAtBasis (R.state rates.new) lp.now basis.new }
+    ensures waypoints { WaypointsFollow lp.now basis.old basis.new (R.state rates.old)
+        (R.state rates.new) }
     ensures truth { IfOk result (IsTrueOutcome lp.now) }
 {
     match limit {
@@ -60,15 +60,14 @@ pub fn path_from<R: Rates>(
 ) -> Result<PathReport, PrimalStop>
     requires sheet { IsSheet sheet }
     requires no_change { sheet.lp.now.change ≡ None }
-    requires rates { HasRates (R.matrix rates.old) (R.basics rates.old) sheet.lp.now basis.old }
+    requires rates { IsAtBasis (R.state rates.old) sheet.lp.now basis.old }
     ensures outcome { IfOk result (λ report. IsOutcome sheet.entry report.outcome) }
     ensures reached { IfOk result (IsReached sheet.entry basis.old basis.new limit) }
     ensures stops { IfErr result (PathStops sheet.entry basis.old basis.new limit
-        (R.waypoints rates.old) (R.waypoints rates.new)) }
-    ensures rates { HasRates (R.matrix rates.new) (R.basics rates.new)
-        sheet.entry.lp.now basis.new }
-    ensures waypoints { WaypointsFollow sheet.entry.lp.now basis.old basis.new
-        (R.waypoints rates.old) (R.waypoints rates.new) }
+        (R.state rates.old).waypoints (R.state rates.new).waypoints) }
+    ensures rates { IsAtBasis (R.state rates.new) sheet.entry.lp.now basis.new }
+    ensures waypoints { WaypointsFollow sheet.entry.lp.now basis.old basis.new (R.state rates.old)
+        (R.state rates.new) }
 {
     let outcome = outcome_from(alloc, sheet.lp, basis, rates, limit)?;
     let refused = refused_of(check_of(sheet.lp, &outcome));
@@ -86,15 +85,14 @@ pub fn dual_from<R: Rates>(
 ) -> Result<PathReport, DualStop>
     requires sheet { IsSheet sheet }
     requires no_change { sheet.lp.now.change ≡ None }
-    requires rates { HasRates (R.matrix rates.old) (R.basics rates.old) sheet.lp.now basis.old }
+    requires rates { IsAtBasis (R.state rates.old) sheet.lp.now basis.old }
     ensures outcome { IfOk result (λ report. IsOutcome sheet.entry report.outcome) }
     ensures reached { IfOk result (IsDualReached sheet.entry basis.old basis.new limit) }
     ensures stops { IfErr result (DualPathStops sheet.entry basis.old basis.new limit
-        (R.waypoints rates.old) (R.waypoints rates.new)) }
-    ensures rates { HasRates (R.matrix rates.new) (R.basics rates.new)
-        sheet.entry.lp.now basis.new }
-    ensures waypoints { RuleWaypointsFollow dual_turn sheet.entry.lp.now basis.old basis.new
-        (R.waypoints rates.old) (R.waypoints rates.new) }
+        (R.state rates.old).waypoints (R.state rates.new).waypoints) }
+    ensures rates { IsAtBasis (R.state rates.new) sheet.entry.lp.now basis.new }
+    ensures waypoints { DualWaypointsFollow sheet.entry.lp.now basis.old basis.new
+        (R.state rates.old) (R.state rates.new) }
 {
     let outcome = dual(alloc, sheet.lp, basis, rates, limit)?;
     let refused = refused_of(check_of(sheet.lp, &outcome));

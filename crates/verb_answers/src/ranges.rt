@@ -2,7 +2,7 @@
 ghost use Rattle.std.specs.Prelude.{◌≡◌, None, IfOk, IfErr};
 ghost use Rattle.lp_definitions.specs.Basis.{IsOptimalBasis};
 ghost use Rattle.lp_model.specs.RatesCalls.{IfOverflow};
-ghost use Rattle.basis_values.specs.Calls.{HasRates, KeepsRates};
+ghost use Rattle.basis_values.specs.Calls.{IsAtBasis, StaysAt};
 ghost use Rattle.answer_definitions.specs.Sections.{IsRanged};
 ghost use Rattle.listing_tables.specs.Lines.{range_lines};
 ghost use Rattle.verb_answers.specs.Answers.{sheet_view, AreRanged};
@@ -30,16 +30,14 @@ pub fn ranges_of<R: Rates>(
 ) -> Result<Ranged, Stop>
     requires no_change { sheet.lp.now.change ≡ None }
     requires optimal { IsOptimalBasis sheet.lp.now basis.now }
-    requires rates { HasRates (R.matrix rates.old) (R.basics rates.old) sheet.lp.now basis.now }
+    requires rates { IsAtBasis (R.state rates.old) sheet.lp.now basis.now }
     ensures listed { IfOk result (AreRanged sheet.entry.lp.now basis.now) }
     ensures ranged { IfOk result (λ ranged. IsRanged (sheet_view sheet.entry) basis.now
         (range_lines sheet.entry.lp.now basis.now ranged.point ranged.report
         sheet.entry.problem.now)) }
     ensures overflow { IfErr result (λ stop. IfOverflow stop (RangesRefused sheet.entry.lp.now
-        (R.waypoints rates.old) basis.now (R.waypoints rates.new))) }
-    ensures rates { KeepsRates (R.matrix rates.new) (R.basics rates.new)
-        sheet.entry.lp.now basis.now
-        (R.waypoints rates.old) (R.waypoints rates.new) }
+        (R.state rates.old).waypoints basis.now (R.state rates.new).waypoints)) }
+    ensures rates { StaysAt (R.state rates.old) (R.state rates.new) sheet.entry.lp.now basis.now }
 {
     let lp = sheet.lp;
     let point = point_at(alloc, lp, basis, rates)?;

@@ -1,7 +1,7 @@
 // What SOLUTION shows of any present basis: its point, its prices, and the slack of each row.
 ghost use Rattle.std.specs.Prelude.{◌≡◌, None, IfOk, IfErr};
 ghost use Rattle.lp_model.specs.RatesCalls.{IfOverflow};
-ghost use Rattle.basis_values.specs.Calls.{HasRates, KeepsRates};
+ghost use Rattle.basis_values.specs.Calls.{IsAtBasis, StaysAt};
 ghost use Rattle.answer_definitions.specs.Sections.{IsSolutionOf};
 ghost use Rattle.listing_tables.specs.Lines.{solution_lines};
 ghost use Rattle.verb_answers.specs.Answers.{sheet_view, AreSolutionValues};
@@ -30,17 +30,14 @@ pub fn solution_of<R: Rates>(
     rates: &mut R,
 ) -> Result<SolutionValues, Stop>
     requires no_change { sheet.lp.now.change ≡ None }
-    requires rates { HasRates (R.matrix rates.old) (R.basics rates.old) sheet.lp.now basis.now }
+    requires rates { IsAtBasis (R.state rates.old) sheet.lp.now basis.now }
     ensures listed { IfOk result (AreSolutionValues sheet.entry.lp.now basis.now) }
     ensures viewed { IfOk result (λ viewed. IsSolutionOf (sheet_view sheet.entry) basis.now
         (solution_lines sheet.entry.problem.now sheet.entry.lp.now basis.now viewed.point
         viewed.prices viewed.slack.items)) }
-    ensures overflow { IfErr result (λ stop. IfOverflow stop
-        (SolutionRefused sheet.entry.lp.now (R.waypoints rates.old) basis.now
-        (R.waypoints rates.new))) }
-    ensures rates { KeepsRates (R.matrix rates.new) (R.basics rates.new)
-        sheet.entry.lp.now basis.now
-        (R.waypoints rates.old) (R.waypoints rates.new) }
+    ensures overflow { IfErr result (λ stop. IfOverflow stop (SolutionRefused sheet.entry.lp.now
+        (R.state rates.old).waypoints basis.now (R.state rates.new).waypoints)) }
+    ensures rates { StaysAt (R.state rates.old) (R.state rates.new) sheet.entry.lp.now basis.now }
 {
     let lp = sheet.lp;
     let point = point_at(alloc, lp, basis, rates)?;

@@ -12,7 +12,7 @@ use Rattle.basis_values.proofs.point.add_directions.Goals as goal
 
 pub loop-k-init : goal.loop-k-init
 loop-k-init g c = record {
-  rates = kept_same (g.R.Rates.waypoints c.args.rates.now) c.requires.rates;
+  rates = kept_same (g.R.Rates.state c.args.rates.now).waypoints c.requires.rates;
   counted = refl;
   few = omega arith;
   so_far = so_far-begins c.args.lp.now c.args.basis.now c.requires.rates.is_basis (value_at c.args.point.now) c.requires.begins;
@@ -28,7 +28,7 @@ pub returns-in_err-add_direction-clause-overflow : goal.returns-in_err-add_direc
 returns-in_err-add_direction-clause-overflow g c =
     let is_err : c.from_residual.result ≡ Err c.in_err-add_direction.field-0.0 = search rules in
     rw is_err (IfOverflow-map c.in_err-add_direction.field-0.0
-    (λ e h. point_refused_later c.args.lp.now (g.R.Rates.waypoints c.args.rates.now) (g.R.Rates.waypoints c.loop-k.rates) (g.R.Rates.waypoints c.add_direction.new.rates) c.args.basis.now e c.loop-k.invariant.rates.1 h)
+    (λ e h. point_refused_later c.args.lp.now (g.R.Rates.state c.args.rates.now).waypoints (g.R.Rates.state c.loop-k.rates).waypoints (g.R.Rates.state c.add_direction.new.rates).waypoints c.args.basis.now e c.loop-k.invariant.rates.1 h)
     c.in_err-add_direction.ensures.overflow)
 
 pub loop-k-preserved : goal.loop-k-preserved

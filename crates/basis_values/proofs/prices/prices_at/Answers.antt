@@ -4,7 +4,7 @@ use Rattle.basis_values.proofs.PriceLaws.{take_all}
 use Rattle.basis_values.proofs.prices.prices_at.Goals as goal
 
 pub returns-in_err-values-clause-rates : goal.returns-in_err-values-clause-rates
-returns-in_err-values-clause-rates g c = kept_same (g.R.Rates.waypoints c.args.rates.now) c.requires.rates
+returns-in_err-values-clause-rates g c = kept_same (g.R.Rates.state c.args.rates.now).waypoints c.requires.rates
 
 pub returns-clause-prices : goal.returns-clause-prices
 returns-clause-prices g c =

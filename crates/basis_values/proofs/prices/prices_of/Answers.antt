@@ -4,10 +4,10 @@ use Rattle.basis_values.proofs.Kept.{kept_same}
 use Rattle.basis_values.proofs.prices.prices_of.Goals as goal
 
 pub returns-in_err-change-clause-rates : goal.returns-in_err-change-clause-rates
-returns-in_err-change-clause-rates g c = kept_same (g.R.Rates.waypoints c.args.rates.now) c.requires.rates
+returns-in_err-change-clause-rates g c = kept_same (g.R.Rates.state c.args.rates.now).waypoints c.requires.rates
 
 pub returns-in_err-prices-clause-rates : goal.returns-in_err-prices-clause-rates
-returns-in_err-prices-clause-rates g c = kept_same (g.R.Rates.waypoints c.args.rates.now) c.requires.rates
+returns-in_err-prices-clause-rates g c = kept_same (g.R.Rates.state c.args.rates.now).waypoints c.requires.rates
 
 pub returns-clause-prices : goal.returns-clause-prices
 returns-clause-prices g c =

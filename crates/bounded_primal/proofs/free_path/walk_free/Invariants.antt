@@ -24,10 +24,10 @@ invariant-loop-share g l = record {
   point_places : length l.point ≡ size l.lp.matrix;
   price_places : length l.prices ≡ size l.lp.matrix;
   row_places : length l.row ≡ size l.lp.matrix;
-  rates : HasRates (g.R.Rates.matrix l.rates) (g.R.Rates.basics l.rates) l.lp l.basis;
+  rates : HasRates (g.R.Rates.state l.rates).matrix (g.R.Rates.state l.rates).basics l.lp l.basis;
   wants : AreWants l.lp l.basis l.wanted;
   point : AgreesWithPoint l.lp l.basis (value_at l.point);
   kept : IsTrue (all_kept l.kept) → IsPointOf l.lp l.basis (value_at l.point);
   broken : l.broken ≡ least_outside l.lp l.basis (value_at l.point);
-  reached : HasReached turn l.lp l.fn.basis (g.R.Rates.waypoints l.fn.rates) l.basis (g.R.Rates.waypoints l.rates) l.book.total;
+  reached : HasReached turn l.lp l.fn.basis (g.R.Rates.state l.fn.rates).waypoints l.basis (g.R.Rates.state l.rates).waypoints l.book.total;
 }

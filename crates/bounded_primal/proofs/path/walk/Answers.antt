@@ -15,7 +15,7 @@ use Rattle.bounded_primal.proofs.path.walk.Goals as goal
 pub returns-in_err-point_of-clause-stops : goal.returns-in_err-point_of-clause-stops
 returns-in_err-point_of-clause-stops g c =
     let p = err_from_is_err_and c.from_residual.result c.from_residual.ensures.1 in
-    rw (p.1, p.2) (stops_at_once c.args.lp.now c.args.basis.now c.args.limit (g.R.Rates.waypoints c.args.rates.now) (g.R.Rates.waypoints c.point_of.new.rates) c.in_err-point_of.field-0.0 c.in_err-point_of.ensures.overflow)
+    rw (p.1, p.2) (stops_at_once c.args.lp.now c.args.basis.now c.args.limit (g.R.Rates.state c.args.rates.now).waypoints (g.R.Rates.state c.point_of.new.rates).waypoints c.in_err-point_of.field-0.0 c.in_err-point_of.ensures.overflow)
 
 pub loop-outcome-init : goal.loop-outcome-init
 loop-outcome-init g c = record {
@@ -29,13 +29,13 @@ loop-outcome-init g c = record {
   kept = λ _. c.in_ok-point_of.ensures.point;
   broken = c.outside-broken.ensures;
   within = omega arith;
-  reached = begins_at turn c.args.lp.now c.args.basis.now (g.R.Rates.waypoints c.args.rates.now) (g.R.Rates.waypoints c.point_of.new.rates) c.in_ok-point_of.ensures.rates.1;
+  reached = begins_at turn c.args.lp.now c.args.basis.now (g.R.Rates.state c.args.rates.now).waypoints (g.R.Rates.state c.point_of.new.rates).waypoints c.in_ok-point_of.ensures.rates.1;
 }
 
 pub returns-in_err-outcome-clause-stops : goal.returns-in_err-outcome-clause-stops
 returns-in_err-outcome-clause-stops g c =
     let p = err_from_is_err_and c.from_residual-in_err-outcome.result c.from_residual-in_err-outcome.ensures.1 in
-    rw (p.1, p.2) (stops_there c.args.lp.now c.args.basis.now (g.R.Rates.waypoints c.args.rates.now) c.loop-outcome.basis (g.R.Rates.waypoints c.loop-outcome.rates) c.loop-outcome.steps c.loop-outcome.invariant.reached c.args.limit (g.R.Rates.waypoints c.next_turn.new.rates) c.in_err-outcome.field-0.0 c.loop-outcome.invariant.within c.in_err-outcome.ensures.turn)
+    rw (p.1, p.2) (stops_there c.args.lp.now c.args.basis.now (g.R.Rates.state c.args.rates.now).waypoints c.loop-outcome.basis (g.R.Rates.state c.loop-outcome.rates).waypoints c.loop-outcome.steps c.loop-outcome.invariant.reached c.args.limit (g.R.Rates.state c.next_turn.new.rates).waypoints c.in_err-outcome.field-0.0 c.loop-outcome.invariant.within c.in_err-outcome.ensures.turn)
 
 pub step_over-requires-clause-step : goal.step_over-requires-clause-step
 step_over-requires-clause-step g c =
@@ -46,12 +46,12 @@ pub returns-in_err-kept-in-Moves-clause-stops : goal.returns-in_err-kept-in-Move
 returns-in_err-kept-in-Moves-clause-stops g c =
     let p = err_from_is_err_and c.from_residual-in_err-kept-in-Moves.result c.from_residual-in_err-kept-in-Moves.ensures.1 in
     let moves = rw c.in-Moves.is at c.in_ok-outcome.ensures.turn in
-    rw (p.1, p.2, c.in_err-kept-in-Moves.ensures.unchanged) (walk_stops c.args.lp.now c.loop-outcome.basis (value_at c.next_turn.new.direction) c.in-Moves.q c.in-Moves.by (c.args.limit - c.loop-outcome.steps) moves c.args.basis.now (g.R.Rates.waypoints c.args.rates.now) (g.R.Rates.waypoints c.loop-outcome.rates) c.loop-outcome.steps c.loop-outcome.invariant.reached (g.R.Rates.waypoints c.next_turn.new.rates) (g.R.Rates.waypoints c.step_over.new.rates) c.in_err-kept-in-Moves.field-0.0 c.args.limit c.loop-outcome.invariant.within refl c.in_ok-outcome.ensures.rates.1 c.in_err-kept-in-Moves.ensures.overflow)
+    rw (p.1, p.2, c.in_err-kept-in-Moves.ensures.unchanged) (walk_stops c.args.lp.now c.loop-outcome.basis (value_at c.next_turn.new.direction) c.in-Moves.q c.in-Moves.by (c.args.limit - c.loop-outcome.steps) moves c.args.basis.now (g.R.Rates.state c.args.rates.now).waypoints (g.R.Rates.state c.loop-outcome.rates).waypoints c.loop-outcome.steps c.loop-outcome.invariant.reached (g.R.Rates.state c.next_turn.new.rates).waypoints (g.R.Rates.state c.step_over.new.rates).waypoints c.in_err-kept-in-Moves.field-0.0 c.args.limit c.loop-outcome.invariant.within refl c.in_ok-outcome.ensures.rates.1 c.in_err-kept-in-Moves.ensures.overflow)
 
 pub outside_after-broken-requires-clause-stays : goal.outside_after-broken-requires-clause-stays
 outside_after-broken-requires-clause-stays g c none =
     let moves = rw c.in-Moves.is at c.in_ok-outcome.ensures.turn in
-    stays_inside c.args.lp.now (g.R.Rates.matrix c.loop-outcome.rates) (g.R.Rates.basics c.loop-outcome.rates) c.loop-outcome.basis c.loop-outcome.invariant.rates (value_at c.loop-outcome.point) c.loop-outcome.invariant.point c.requires.uncrossed (sym c.loop-outcome.invariant.broken ∙ none)
+    stays_inside c.args.lp.now (g.R.Rates.state c.loop-outcome.rates).matrix (g.R.Rates.state c.loop-outcome.rates).basics c.loop-outcome.basis c.loop-outcome.invariant.rates (value_at c.loop-outcome.point) c.loop-outcome.invariant.point c.requires.uncrossed (sym c.loop-outcome.invariant.broken ∙ none)
     c.requires.lawful (value_at c.next_turn.new.direction) c.in-Moves.q c.in-Moves.by (c.args.limit - c.loop-outcome.steps) moves c.step_over.new.basis c.in_ok-kept-in-Moves.ensures.basis (value_at c.step_over.new.point) c.in_ok-kept-in-Moves.ensures.point
 
 pub loop-outcome-preserved : goal.loop-outcome-preserved
@@ -68,36 +68,36 @@ loop-outcome-preserved g c =
       kept = c.in_ok-kept-in-Moves.ensures.kept;
       broken = c.outside_after-broken.ensures;
       within = omega (arith, moves.was_left);
-      reached = walk_more c.args.lp.now c.loop-outcome.basis (value_at c.next_turn.new.direction) c.in-Moves.q c.in-Moves.by (c.args.limit - c.loop-outcome.steps) moves c.args.basis.now (g.R.Rates.waypoints c.args.rates.now) (g.R.Rates.waypoints c.loop-outcome.rates) c.loop-outcome.steps c.loop-outcome.invariant.reached c.step_over.new.basis (g.R.Rates.waypoints c.next_turn.new.rates) (g.R.Rates.waypoints c.step_over.new.rates) c.in_ok-kept-in-Moves.ensures.basis c.in_ok-outcome.ensures.rates.1 c.in_ok-kept-in-Moves.ensures.waypoints;
+      reached = walk_more c.args.lp.now c.loop-outcome.basis (value_at c.next_turn.new.direction) c.in-Moves.q c.in-Moves.by (c.args.limit - c.loop-outcome.steps) moves c.args.basis.now (g.R.Rates.state c.args.rates.now).waypoints (g.R.Rates.state c.loop-outcome.rates).waypoints c.loop-outcome.steps c.loop-outcome.invariant.reached c.step_over.new.basis (g.R.Rates.state c.next_turn.new.rates).waypoints (g.R.Rates.state c.step_over.new.rates).waypoints c.in_ok-kept-in-Moves.ensures.basis c.in_ok-outcome.ensures.rates.1 c.in_ok-kept-in-Moves.ensures.waypoints;
     }
 
 pub returns-in_err-point_of-clause-waypoints : goal.returns-in_err-point_of-clause-waypoints
 returns-in_err-point_of-clause-waypoints g c =
-    follows turn c.args.lp.now c.args.basis.now (g.R.Rates.waypoints c.args.rates.now) c.args.basis.now (g.R.Rates.waypoints c.point_of.new.rates) 0
-    (begins_at turn c.args.lp.now c.args.basis.now (g.R.Rates.waypoints c.args.rates.now) (g.R.Rates.waypoints c.point_of.new.rates) c.in_err-point_of.ensures.rates.1)
+    follows turn c.args.lp.now c.args.basis.now (g.R.Rates.state c.args.rates.now).waypoints c.args.basis.now (g.R.Rates.state c.point_of.new.rates).waypoints 0
+    (begins_at turn c.args.lp.now c.args.basis.now (g.R.Rates.state c.args.rates.now).waypoints (g.R.Rates.state c.point_of.new.rates).waypoints c.in_err-point_of.ensures.rates.1)
 
 pub returns-in_err-outcome-clause-waypoints : goal.returns-in_err-outcome-clause-waypoints
 returns-in_err-outcome-clause-waypoints g c =
-    follows_later turn c.args.lp.now c.args.basis.now (g.R.Rates.waypoints c.args.rates.now) c.loop-outcome.basis (g.R.Rates.waypoints c.loop-outcome.rates) c.loop-outcome.steps c.loop-outcome.invariant.reached
-    (g.R.Rates.waypoints c.next_turn.new.rates) c.in_err-outcome.ensures.rates.1
+    follows_later turn c.args.lp.now c.args.basis.now (g.R.Rates.state c.args.rates.now).waypoints c.loop-outcome.basis (g.R.Rates.state c.loop-outcome.rates).waypoints c.loop-outcome.steps c.loop-outcome.invariant.reached
+    (g.R.Rates.state c.next_turn.new.rates).waypoints c.in_err-outcome.ensures.rates.1
 
 pub returns-in-Ends-clause-waypoints : goal.returns-in-Ends-clause-waypoints
 returns-in-Ends-clause-waypoints g c =
-    follows_later turn c.args.lp.now c.args.basis.now (g.R.Rates.waypoints c.args.rates.now) c.loop-outcome.basis (g.R.Rates.waypoints c.loop-outcome.rates) c.loop-outcome.steps c.loop-outcome.invariant.reached
-    (g.R.Rates.waypoints c.next_turn.new.rates) c.in_ok-outcome.ensures.rates.1
+    follows_later turn c.args.lp.now c.args.basis.now (g.R.Rates.state c.args.rates.now).waypoints c.loop-outcome.basis (g.R.Rates.state c.loop-outcome.rates).waypoints c.loop-outcome.steps c.loop-outcome.invariant.reached
+    (g.R.Rates.state c.next_turn.new.rates).waypoints c.in_ok-outcome.ensures.rates.1
 
 pub returns-in_err-kept-in-Moves-clause-waypoints : goal.returns-in_err-kept-in-Moves-clause-waypoints
 returns-in_err-kept-in-Moves-clause-waypoints g c =
-    rw c.in_err-kept-in-Moves.ensures.unchanged (follows_later turn c.args.lp.now c.args.basis.now (g.R.Rates.waypoints c.args.rates.now) c.loop-outcome.basis (g.R.Rates.waypoints c.loop-outcome.rates) c.loop-outcome.steps c.loop-outcome.invariant.reached
-    (g.R.Rates.waypoints c.step_over.new.rates)
-    (keeps_then c.args.lp.now.matrix (basics_of c.loop-outcome.basis) (g.R.Rates.waypoints c.loop-outcome.rates) (basics_of c.loop-outcome.basis) (g.R.Rates.waypoints c.next_turn.new.rates) (g.R.Rates.waypoints c.step_over.new.rates)
+    rw c.in_err-kept-in-Moves.ensures.unchanged (follows_later turn c.args.lp.now c.args.basis.now (g.R.Rates.state c.args.rates.now).waypoints c.loop-outcome.basis (g.R.Rates.state c.loop-outcome.rates).waypoints c.loop-outcome.steps c.loop-outcome.invariant.reached
+    (g.R.Rates.state c.step_over.new.rates).waypoints
+    (keeps_then c.args.lp.now.matrix (basics_of c.loop-outcome.basis) (g.R.Rates.state c.loop-outcome.rates).waypoints (basics_of c.loop-outcome.basis) (g.R.Rates.state c.next_turn.new.rates).waypoints (g.R.Rates.state c.step_over.new.rates).waypoints
     c.in_ok-outcome.ensures.rates.1 (rw (c.in_err-kept-in-Moves.ensures.unchanged) at c.in_err-kept-in-Moves.ensures.waypoints)))
 
 pub returns-in-Ends-clause-ends : goal.returns-in-Ends-clause-ends
 returns-in-Ends-clause-ends g c =
     let ends = rw c.in-Ends.is at c.in_ok-outcome.ensures.turn in
     let counted : c.loop-outcome.steps ≡ counted_steps c.loop-outcome.steps = omega (arith, c.loop-outcome.invariant.within) in
-    ends_there turn c.args.lp.now c.args.basis.now (g.R.Rates.waypoints c.args.rates.now) c.loop-outcome.basis (g.R.Rates.waypoints c.loop-outcome.rates) c.loop-outcome.steps c.loop-outcome.invariant.reached
+    ends_there turn c.args.lp.now c.args.basis.now (g.R.Rates.state c.args.rates.now).waypoints c.loop-outcome.basis (g.R.Rates.state c.loop-outcome.rates).waypoints c.loop-outcome.steps c.loop-outcome.invariant.reached
     c.args.limit c.loop-outcome.steps c.in-Ends.outcome c.loop-outcome.invariant.within counted ends
 
 pub renew_wants-requires-clause-first : goal.renew_wants-requires-clause-first

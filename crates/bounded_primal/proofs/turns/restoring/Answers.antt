@@ -11,11 +11,11 @@ returns-in-Ok-clause-found g c =
 
 pub returns-in-Err-clause-overflow : goal.returns-in-Err-clause-overflow
 returns-in-Err-clause-overflow g c =
-    row_refused c.args.at.now.lp.now c.args.at.now.basis.now (g.R.Rates.matrix c.args.rates.now) (g.R.Rates.basics c.args.rates.now) (g.R.Rates.basics c.first_wanted.new.self) (g.R.Rates.waypoints c.args.rates.now) (g.R.Rates.waypoints c.first_wanted.new.self) c.in-Err.stop
-    c.requires.rates c.first_wanted.ensures.same_basics c.first_wanted.ensures.waypoints c.in-Err.ensures.overflow
+    row_refused c.args.at.now.lp.now c.args.at.now.basis.now (g.R.Rates.state c.args.rates.now).matrix (g.R.Rates.state c.args.rates.now).basics (g.R.Rates.state c.first_wanted.new.self).basics (g.R.Rates.state c.args.rates.now).waypoints (g.R.Rates.state c.first_wanted.new.self).waypoints c.in-Err.stop
+    c.requires.rates c.first_wanted.ensures.kept.same_basics c.first_wanted.ensures.kept.waypoints c.in-Err.ensures.overflow
 
 pub returns-in-Ok-clause-rates : goal.returns-in-Ok-clause-rates
-returns-in-Ok-clause-rates g c = kept_by c.requires.rates c.first_wanted.ensures.same_matrix c.first_wanted.ensures.same_basics c.first_wanted.ensures.waypoints
+returns-in-Ok-clause-rates g c = kept_by c.requires.rates c.first_wanted.ensures.kept.same_matrix c.first_wanted.ensures.kept.same_basics c.first_wanted.ensures.kept.waypoints
 
 pub returns-in-Err-clause-rates : goal.returns-in-Err-clause-rates
-returns-in-Err-clause-rates g c = kept_by c.requires.rates c.first_wanted.ensures.same_matrix c.first_wanted.ensures.same_basics c.first_wanted.ensures.waypoints
+returns-in-Err-clause-rates g c = kept_by c.requires.rates c.first_wanted.ensures.kept.same_matrix c.first_wanted.ensures.kept.same_basics c.first_wanted.ensures.kept.waypoints

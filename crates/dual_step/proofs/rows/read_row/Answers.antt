@@ -7,11 +7,11 @@ pub row-requires-clause-basic : goal.row-requires-clause-basic
 row-requires-clause-basic g c = rw (c.requires.rates.same_matrix, c.requires.rates.same_basics) c.requires.basic
 
 pub returns-clause-rates : goal.returns-clause-rates
-returns-clause-rates g c = kept_by c.requires.rates c.row.ensures.same_matrix c.row.ensures.same_basics c.row.ensures.waypoints
+returns-clause-rates g c = kept_by c.requires.rates c.row.ensures.kept.same_matrix c.row.ensures.kept.same_basics c.row.ensures.kept.waypoints
 
 pub returns-clause-overflow : goal.returns-clause-overflow
 returns-clause-overflow g c =
     IfErr-map c.row.result
-    (λ stop h. row_refused c.args.lp.now c.args.basis.now (g.R.Rates.matrix c.args.rates.now) (g.R.Rates.basics c.args.rates.now) (g.R.Rates.basics c.row.new.self) (g.R.Rates.waypoints c.args.rates.now) (g.R.Rates.waypoints c.row.new.self) stop
-    c.requires.rates c.row.ensures.same_basics c.row.ensures.waypoints h)
+    (λ stop h. row_refused c.args.lp.now c.args.basis.now (g.R.Rates.state c.args.rates.now).matrix (g.R.Rates.state c.args.rates.now).basics (g.R.Rates.state c.row.new.self).basics (g.R.Rates.state c.args.rates.now).waypoints (g.R.Rates.state c.row.new.self).waypoints stop
+    c.requires.rates c.row.ensures.kept.same_basics c.row.ensures.kept.waypoints h)
     c.row.ensures.overflow

@@ -21,8 +21,8 @@ returns-clause-ends g c = c.follow.ensures.ends
 pub returns-clause-stops : goal.returns-clause-stops
 returns-clause-stops g c =
     IfErr-map c.follow.result
-    (λ why h. stops_at_basis c.args.lp.now c.args.run.now.row (record { from = c.args.run.now.from; to = c.args.run.now.to; limit = c.args.run.now.limit }) c.args.basis.now (g.R.Rates.waypoints c.args.rates.now) c.follow.new.basis
-    (g.R.Rates.waypoints c.follow.new.rates) why h)
+    (λ why h. stops_at_basis c.args.lp.now c.args.run.now.row (record { from = c.args.run.now.from; to = c.args.run.now.to; limit = c.args.run.now.limit }) c.args.basis.now (g.R.Rates.state c.args.rates.now).waypoints c.follow.new.basis
+    (g.R.Rates.state c.follow.new.rates).waypoints why h)
     c.follow.ensures.stops
 
 pub returns-clause-waypoints : goal.returns-clause-waypoints
@@ -34,4 +34,4 @@ returns-clause-truth g c = c.follow.ensures.truth
 pub returns-clause-complete : goal.returns-clause-complete
 returns-clause-complete g c report path goes =
     c.follow.ensures.complete report path
-    (overflow_free c.args.lp.now c.args.run.now.row (record { from = c.args.run.now.from; to = c.args.run.now.to; limit = c.args.run.now.limit }) c.args.basis.now (g.R.Rates.waypoints c.args.rates.now) report path goes)
+    (overflow_free c.args.lp.now c.args.run.now.row (record { from = c.args.run.now.from; to = c.args.run.now.to; limit = c.args.run.now.limit }) c.args.basis.now (g.R.Rates.state c.args.rates.now).waypoints report path goes)

@@ -9,9 +9,9 @@ decreases-turns g l = l.left
 
 abbrev pub invariant-turns : goal.invariant-turns
 invariant-turns g l = record {
-  rates : HasRates (g.R.Rates.matrix l.rates) (g.R.Rates.basics l.rates) (g.M.Parametric.problem l.method).program l.basis;
+  rates : HasRates (g.R.Rates.state l.rates).matrix (g.R.Rates.state l.rates).basics (g.M.Parametric.problem l.method).program l.basis;
   workspace : IsWorkspaceOf (g.M.Parametric.problem l.method) l.basis l.workspace;
   optimal : IsOptimalBasis ((g.M.Parametric.problem l.method).family l.fn.theta) l.basis;
   reach : FacesReach (g.M.Parametric.problem l.method) l.fn.theta l.fn.basis l.basis l.fn.begun l.left;
-  any : AnyRun (g.M.Parametric.problem l.method) l.fn.theta l.fn.basis l.basis (g.R.Rates.waypoints l.fn.rates) (g.R.Rates.waypoints l.rates) l.fn.begun l.left;
+  any : AnyRun (g.M.Parametric.problem l.method) l.fn.theta l.fn.basis l.basis (g.R.Rates.state l.fn.rates).waypoints (g.R.Rates.state l.rates).waypoints l.fn.begun l.left;
 }

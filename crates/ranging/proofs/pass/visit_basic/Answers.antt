@@ -19,7 +19,7 @@ returns-then-not-stands_basic-clause-found g c =
     (λ basic other. clash (sym basic ∙ nonbasic_by_test c.args.at.now.lp.now c.args.at.now.basis.now c.args.i c.stands_basic.result c.requires.rates.is_basis.counted c.requires.variable c.stands_basic.ensures c.if-not-stands_basic.true)) c.args.found.now c.requires.found
 
 pub returns-then-not-stands_basic-clause-rates : goal.returns-then-not-stands_basic-clause-rates
-returns-then-not-stands_basic-clause-rates g c = kept_same (g.R.Rates.waypoints c.args.rates.now) c.requires.rates
+returns-then-not-stands_basic-clause-rates g c = kept_same (g.R.Rates.state c.args.rates.now).waypoints c.requires.rates
 
 pub returns-then-i-lp-clause-met : goal.returns-then-i-lp-clause-met
 returns-then-i-lp-clause-met g c =
@@ -29,7 +29,7 @@ returns-then-i-lp-clause-met g c =
     (subst (λ i. lower_of c.args.at.now.lp.now i ≡ None) (sym same) c.requires.optimum.lawful.objective_free.0) (subst (λ i. upper_of c.args.at.now.lp.now i ≡ None) (sym same) c.requires.optimum.lawful.objective_free.1) c.args.ends.now c.requires.met
 
 pub returns-then-i-lp-clause-rates : goal.returns-then-i-lp-clause-rates
-returns-then-i-lp-clause-rates g c = kept_same (g.R.Rates.waypoints c.args.rates.now) c.requires.rates
+returns-then-i-lp-clause-rates g c = kept_same (g.R.Rates.state c.args.rates.now).waypoints c.requires.rates
 
 pub returns-clause-found : goal.returns-clause-found
 returns-clause-found g c =

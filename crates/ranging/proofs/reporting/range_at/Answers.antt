@@ -9,13 +9,13 @@ use Rattle.basis_values.proofs.Kept.{kept_same}
 use Rattle.ranging.proofs.reporting.range_at.Goals as goal
 
 pub returns-in_err-row-clause-rates : goal.returns-in_err-row-clause-rates
-returns-in_err-row-clause-rates g c = kept_same (g.R.Rates.waypoints c.args.rates.now) c.requires.rates
+returns-in_err-row-clause-rates g c = kept_same (g.R.Rates.state c.args.rates.now).waypoints c.requires.rates
 
 pub returns-in_err-found-clause-rates : goal.returns-in_err-found-clause-rates
-returns-in_err-found-clause-rates g c = kept_same (g.R.Rates.waypoints c.args.rates.now) c.requires.rates
+returns-in_err-found-clause-rates g c = kept_same (g.R.Rates.state c.args.rates.now).waypoints c.requires.rates
 
 pub returns-in_err-ends-clause-rates : goal.returns-in_err-ends-clause-rates
-returns-in_err-ends-clause-rates g c = kept_same (g.R.Rates.waypoints c.args.rates.now) c.requires.rates
+returns-in_err-ends-clause-rates g c = kept_same (g.R.Rates.state c.args.rates.now).waypoints c.requires.rates
 
 pub pass-requires-clause-begins : goal.pass-requires-clause-begins
 pass-requires-clause-begins g c =

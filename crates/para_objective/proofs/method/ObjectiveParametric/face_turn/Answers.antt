@@ -24,7 +24,7 @@ returns-in_default-clause-turn g c =
 
 pub returns-in_default-clause-rates : goal.returns-in_default-clause-rates
 returns-in_default-clause-rates g c =
-    kept_same (g.R.Rates.waypoints c.args.rates.now) c.requires.rates
+    kept_same (g.R.Rates.state c.args.rates.now).waypoints c.requires.rates
 
 pub rises-up-requires-clause-variable : goal.rises-up-requires-clause-variable
 rises-up-requires-clause-variable g c =
@@ -52,7 +52,7 @@ returns-in_err-stopped-clause-turn g c =
     let at : IsNonsingularBasis c.args.self.now.lp.now c.args.basis.now = record { is_basis = c.requires.rates.is_basis; nonsingular = c.requires.rates.nonsingular } in
     let p = err_from_is_err_and c.from_residual.result c.from_residual.ensures.1 in
     rw (p.1, p.2)
-    (λ from. turn_stops c.args.self.now.lp.now c.args.self.now.row c.requires.fits.no_change c.args.theta c.args.basis.now from c.args.left (g.R.Rates.waypoints c.args.rates.now) (g.R.Rates.waypoints c.stopper_of.new.rates) c.in-Some.q (face_enters c.args.self.now.lp.now c.args.self.now.row c.requires.fits.lawful c.requires.fits.row c.requires.fits.free c.args.theta c.args.basis.now at (value_at c.args.workspace.now.point.items) c.requires.workspace.point c.requires.optimal (value_at c.args.workspace.now.change.items) c.requires.workspace.change c.in-Some.q c.in-Some.ensures)
+    (λ from. turn_stops c.args.self.now.lp.now c.args.self.now.row c.requires.fits.no_change c.args.theta c.args.basis.now from c.args.left (g.R.Rates.state c.args.rates.now).waypoints (g.R.Rates.state c.stopper_of.new.rates).waypoints c.in-Some.q (face_enters c.args.self.now.lp.now c.args.self.now.row c.requires.fits.lawful c.requires.fits.row c.requires.fits.free c.args.theta c.args.basis.now at (value_at c.args.workspace.now.point.items) c.requires.workspace.point c.requires.optimal (value_at c.args.workspace.now.change.items) c.requires.workspace.change c.in-Some.q c.in-Some.ensures)
     (value_at c.args.workspace.now.point.items) c.rises-up.result c.in_err-stopped.field-0.0 c.in_err-stopped.ensures.overflow)
 
 pub returns-in_default-stopped-clause-turn : goal.returns-in_default-stopped-clause-turn

@@ -6,10 +6,10 @@ use Rattle.basis_values.proofs.Kept.{kept_same}
 use Rattle.para_objective.proofs.method.ObjectiveParametric.point.Goals as goal
 
 pub returns-in_err-point-clause-rates : goal.returns-in_err-point-clause-rates
-returns-in_err-point-clause-rates g c = kept_same (g.R.Rates.waypoints c.args._rates.now) c.requires.rates
+returns-in_err-point-clause-rates g c = kept_same (g.R.Rates.state c.args._rates.now).waypoints c.requires.rates
 
 pub returns-clause-rates : goal.returns-clause-rates
-returns-clause-rates g c = kept_same (g.R.Rates.waypoints c.args._rates.now) c.requires.rates
+returns-clause-rates g c = kept_same (g.R.Rates.state c.args._rates.now).waypoints c.requires.rates
 
 pub returns-clause-point : goal.returns-clause-point
 returns-clause-point g c =

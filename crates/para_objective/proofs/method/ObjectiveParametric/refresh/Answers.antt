@@ -13,7 +13,7 @@ returns-in_err-fill_prices-clause-overflow g c =
     let p = err_from_is_err_and c.from_residual.result c.from_residual.ensures.1 in
     rw (p.1, p.2)
     (IfOverflow-map c.in_err-fill_prices.field-0.0
-    (λ e x from breakpoint left. of_point c.args.self.now.lp.now c.args.self.now.row from c.requires.fits.no_change c.args.basis.now left (g.R.Rates.waypoints c.args.rates.now) (g.R.Rates.waypoints c.fill_prices.new.rates) e breakpoint x)
+    (λ e x from breakpoint left. of_point c.args.self.now.lp.now c.args.self.now.row from c.requires.fits.no_change c.args.basis.now left (g.R.Rates.state c.args.rates.now).waypoints (g.R.Rates.state c.fill_prices.new.rates).waypoints e breakpoint x)
     c.in_err-fill_prices.ensures.overflow)
 
 pub returns-in_err-read_row-clause-rates : goal.returns-in_err-read_row-clause-rates
@@ -24,8 +24,8 @@ returns-in_err-read_row-clause-overflow g c =
     let p = err_from_is_err_and c.from_residual-in_err-read_row.result c.from_residual-in_err-read_row.ensures.1 in
     rw (p.1, p.2)
     (IfOverflow-map c.in_err-read_row.field-0.0
-    (λ e x from breakpoint left. of_point c.args.self.now.lp.now c.args.self.now.row from c.requires.fits.no_change c.args.basis.now left (g.R.Rates.waypoints c.args.rates.now) (g.R.Rates.waypoints c.read_row.new.rates) e breakpoint
-    (point_refused_later c.args.self.now.lp.now (g.R.Rates.waypoints c.args.rates.now) (g.R.Rates.waypoints c.fill_prices.new.rates) (g.R.Rates.waypoints c.read_row.new.rates) c.args.basis.now e c.in_ok-fill_prices.ensures.rates.1 x))
+    (λ e x from breakpoint left. of_point c.args.self.now.lp.now c.args.self.now.row from c.requires.fits.no_change c.args.basis.now left (g.R.Rates.state c.args.rates.now).waypoints (g.R.Rates.state c.read_row.new.rates).waypoints e breakpoint
+    (point_refused_later c.args.self.now.lp.now (g.R.Rates.state c.args.rates.now).waypoints (g.R.Rates.state c.fill_prices.new.rates).waypoints (g.R.Rates.state c.read_row.new.rates).waypoints c.args.basis.now e c.in_ok-fill_prices.ensures.rates.1 x))
     c.in_err-read_row.ensures.overflow)
 
 pub returns-clause-rates : goal.returns-clause-rates

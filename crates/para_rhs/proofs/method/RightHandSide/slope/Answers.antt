@@ -10,7 +10,7 @@ use Rattle.para_rhs.proofs.method.RightHandSide.slope.Goals as goal
 
 pub point_of-requires-clause-rates : goal.point_of-requires-clause-rates
 point_of-requires-clause-rates g c =
-    subst (λ (q : LinearProgram). HasRates (g.R.Rates.matrix c.args.rates.now) (g.R.Rates.basics c.args.rates.now) q c.args.basis.now) (sym c.requires.fits.is_moving)
+    subst (λ (q : LinearProgram). HasRates (g.R.Rates.state c.args.rates.now).matrix (g.R.Rates.state c.args.rates.now).basics q c.args.basis.now) (sym c.requires.fits.is_moving)
     (record {
       is_basis = to_slope c.args.self.now.lp.now c.args.self.now.shift.now c.args.basis.now (record { is_basis = c.requires.rates.is_basis; nonsingular = c.requires.rates.nonsingular });
       nonsingular = c.requires.rates.nonsingular;
@@ -26,11 +26,11 @@ returns-in-Ok-clause-slope g c =
 pub returns-in-Err-Overflow-clause-overflow : goal.returns-in-Err-Overflow-clause-overflow
 returns-in-Err-Overflow-clause-overflow g c =
     let refused = rw c.in-Err-Overflow.field-0-is at c.in-Err-Overflow.ensures.overflow in
-    subst (λ (e : Evidence). RunRefused c.args.self.now.lp.now c.args.self.now.shift.now c.args.basis.now (g.R.Rates.waypoints c.args.rates.now) (g.R.Rates.waypoints c.point_of.new.rates) e)
+    subst (λ (e : Evidence). RunRefused c.args.self.now.lp.now c.args.self.now.shift.now c.args.basis.now (g.R.Rates.state c.args.rates.now).waypoints (g.R.Rates.state c.point_of.new.rates).waypoints e)
     (sym c.slope_evidence.ensures)
     (slope_refused c.args.self.now.lp.now c.args.self.now.shift.now c.requires.fits.lawful c.args.basis.now (record { is_basis = c.requires.rates.is_basis; nonsingular = c.requires.rates.nonsingular })
-    c.in-Err-Overflow.evidence c.requires.fits.no_change (g.R.Rates.waypoints c.args.rates.now) (g.R.Rates.waypoints c.point_of.new.rates)
-    (subst (λ (q : LinearProgram). PointRefused q (g.R.Rates.waypoints c.args.rates.now) c.args.basis.now (g.R.Rates.waypoints c.point_of.new.rates) c.in-Err-Overflow.evidence) c.requires.fits.is_moving refused))
+    c.in-Err-Overflow.evidence c.requires.fits.no_change (g.R.Rates.state c.args.rates.now).waypoints (g.R.Rates.state c.point_of.new.rates).waypoints
+    (subst (λ (q : LinearProgram). PointRefused q (g.R.Rates.state c.args.rates.now).waypoints c.args.basis.now (g.R.Rates.state c.point_of.new.rates).waypoints c.in-Err-Overflow.evidence) c.requires.fits.is_moving refused))
 
 pub returns-in-Ok-clause-rates : goal.returns-in-Ok-clause-rates
 returns-in-Ok-clause-rates g c = kept_slope c.args.self.now.lp.now c.args.self.now.shift.now c.args.self.now.moving.now c.requires.fits.is_moving c.requires.rates c.point_of.ensures.rates

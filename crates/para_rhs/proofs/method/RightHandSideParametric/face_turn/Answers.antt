@@ -25,11 +25,11 @@ use Rattle.para_rhs.proofs.method.RightHandSideParametric.face_turn.Goals as goa
 
 pub returns-in-Err-clause-turn : goal.returns-in-Err-clause-turn
 returns-in-Err-clause-turn g c =
-    λ from. c.in-Err.ensures.overflow (g.R.Rates.waypoints c.args.rates.now) (g.R.Rates.waypoints c.args.rates.now) from (Some c.args.theta) c.args.left
+    λ from. c.in-Err.ensures.overflow (g.R.Rates.state c.args.rates.now).waypoints (g.R.Rates.state c.args.rates.now).waypoints from (Some c.args.theta) c.args.left
 
 pub returns-in-Err-clause-rates : goal.returns-in-Err-clause-rates
 returns-in-Err-clause-rates g c =
-    kept_same (g.R.Rates.waypoints c.args.rates.now) c.requires.rates
+    kept_same (g.R.Rates.state c.args.rates.now).waypoints c.requires.rates
 
 pub returns-in_default-clause-turn : goal.returns-in_default-clause-turn
 returns-in_default-clause-turn g c =
@@ -39,7 +39,7 @@ returns-in_default-clause-turn g c =
 
 pub returns-in_default-clause-rates : goal.returns-in_default-clause-rates
 returns-in_default-clause-rates g c =
-    kept_same (g.R.Rates.waypoints c.args.rates.now) c.requires.rates
+    kept_same (g.R.Rates.state c.args.rates.now).waypoints c.requires.rates
 
 pub entering-requires-clause-basic : goal.entering-requires-clause-basic
 entering-requires-clause-basic g c =
@@ -55,7 +55,7 @@ returns-in_err-chosen-clause-turn g c =
     = subst (λ (o : Option Leaver). IsFaceLeaver c.args.self.now.lp.now c.args.self.now.shift.now c.args.theta c.args.basis.now o) c.in-Some.is c.in-Ok.ensures.leaver in
     let p = err_from_is_err_and c.from_residual.result c.from_residual.ensures.1 in
     rw (p.1, p.2)
-    (λ from. entry_stops c.args.self.now.lp.now c.args.self.now.shift.now c.requires.fits.lawful c.requires.fits.no_change c.args.theta c.args.basis.now at (value_at c.args.workspace.now.point.items) (value_at c.args.workspace.now.change.items) c.requires.workspace.point c.requires.workspace.change from c.args.left (g.R.Rates.waypoints c.args.rates.now) (g.R.Rates.waypoints c.entering.new.rates) c.in-Some.leaver found (value_at c.args.workspace.now.prices.items) c.requires.workspace.prices c.in_err-chosen.field-0.0 c.in_err-chosen.ensures.overflow)
+    (λ from. entry_stops c.args.self.now.lp.now c.args.self.now.shift.now c.requires.fits.lawful c.requires.fits.no_change c.args.theta c.args.basis.now at (value_at c.args.workspace.now.point.items) (value_at c.args.workspace.now.change.items) c.requires.workspace.point c.requires.workspace.change from c.args.left (g.R.Rates.state c.args.rates.now).waypoints (g.R.Rates.state c.entering.new.rates).waypoints c.in-Some.leaver found (value_at c.args.workspace.now.prices.items) c.requires.workspace.prices c.in_err-chosen.field-0.0 c.in_err-chosen.ensures.overflow)
 
 pub returns-in_default-chosen-clause-turn : goal.returns-in_default-chosen-clause-turn
 returns-in_default-chosen-clause-turn g c =
@@ -121,7 +121,7 @@ returns-in_err-by-clause-turn g c =
     let read = row_kept (rhs_problem c.args.self.now.lp.now c.args.self.now.shift.now) c.args.basis.now c.args.workspace.now c.entering.new.workspace c.requires.workspace c.in_ok-chosen.ensures.others c.in_ok-chosen.ensures.places in
     let p = err_from_is_err_and c.from_residual-in_err-by.result c.from_residual-in_err-by.ensures.1 in
     rw (p.1, p.2)
-    (λ from. return_stops c.args.self.now.lp.now c.args.self.now.shift.now c.requires.fits.lawful c.requires.fits.no_change c.args.theta c.args.basis.now from c.args.left (g.R.Rates.waypoints c.args.rates.now) (g.R.Rates.waypoints c.return_of.new.rates) at (value_at c.entering.new.workspace.point.items) (value_at c.entering.new.workspace.change.items) read.point read.change (g.R.Rates.waypoints c.entering.new.rates) c.in_ok-chosen.ensures.rates.1
+    (λ from. return_stops c.args.self.now.lp.now c.args.self.now.shift.now c.requires.fits.lawful c.requires.fits.no_change c.args.theta c.args.basis.now from c.args.left (g.R.Rates.state c.args.rates.now).waypoints (g.R.Rates.state c.return_of.new.rates).waypoints at (value_at c.entering.new.workspace.point.items) (value_at c.entering.new.workspace.change.items) read.point read.change (g.R.Rates.state c.entering.new.rates).waypoints c.in_ok-chosen.ensures.rates.1
     c.in-Some-chosen.q c.in-Some.leaver.r (goes_to c.in-Some.leaver) (basic c.args.self.now.lp.now c.args.self.now.shift.now c.requires.fits.lawful c.requires.fits.no_change c.args.theta c.args.basis.now at (value_at c.args.workspace.now.point.items) (value_at c.args.workspace.now.change.items) c.requires.workspace.point c.requires.workspace.change c.in-Some.leaver found) (face_enters c.args.self.now.lp.now c.args.self.now.shift.now c.requires.fits.lawful c.requires.fits.no_change c.args.theta c.args.basis.now at (value_at c.args.workspace.now.point.items) (value_at c.args.workspace.now.change.items) c.requires.workspace.point c.requires.workspace.change c.in-Some.leaver found (value_at c.entering.new.workspace.prices.items) (value_at c.entering.new.workspace.row.items) read.prices c.in_ok-chosen.ensures.row c.in-Some-chosen.q (sym c.in_ok-chosen.ensures.chosen ∙ c.in-Some-chosen.is) c.requires.optimal)
     (face_moves c.args.self.now.lp.now c.args.self.now.shift.now c.requires.fits.lawful c.requires.fits.no_change c.args.theta c.args.basis.now at (value_at c.args.workspace.now.point.items) (value_at c.args.workspace.now.change.items) c.requires.workspace.point c.requires.workspace.change c.in-Some.leaver found (value_at c.entering.new.workspace.prices.items) (value_at c.entering.new.workspace.row.items) read.prices c.in_ok-chosen.ensures.row c.in-Some-chosen.q (sym c.in_ok-chosen.ensures.chosen ∙ c.in-Some-chosen.is)) (face_pivot c.args.self.now.lp.now c.args.self.now.shift.now c.requires.fits.lawful c.requires.fits.no_change c.args.theta c.args.basis.now at (value_at c.args.workspace.now.point.items) (value_at c.args.workspace.now.change.items) c.requires.workspace.point c.requires.workspace.change c.in-Some.leaver found (value_at c.entering.new.workspace.prices.items) (value_at c.entering.new.workspace.row.items) read.prices c.in_ok-chosen.ensures.row c.in-Some-chosen.q (sym c.in_ok-chosen.ensures.chosen ∙ c.in-Some-chosen.is) c.requires.optimal)
     c.in_err-by.field-0.0 c.in_err-by.ensures.overflow)

@@ -16,8 +16,8 @@ returns-in_err-fill_prices-clause-overflow g c =
     let p = err_from_is_err_and c.from_residual-in_err-fill_prices.result c.from_residual-in_err-fill_prices.ensures.1 in
     rw (p.1, p.2)
     (IfOverflow-map c.in_err-fill_prices.field-0.0
-    (λ e x. of_point c.args.self.now.lp.now c.args.self.now.shift.now c.requires.fits.lawful c.requires.fits.no_change c.args.basis.now (g.R.Rates.waypoints c.args.rates.now) (g.R.Rates.waypoints c.fill_prices.new.rates) e
-    (point_refused_later c.args.self.now.lp.now (g.R.Rates.waypoints c.args.rates.now) (g.R.Rates.waypoints c.slope.new.rates) (g.R.Rates.waypoints c.fill_prices.new.rates) c.args.basis.now e c.in_ok-slope.ensures.rates.1 x))
+    (λ e x. of_point c.args.self.now.lp.now c.args.self.now.shift.now c.requires.fits.lawful c.requires.fits.no_change c.args.basis.now (g.R.Rates.state c.args.rates.now).waypoints (g.R.Rates.state c.fill_prices.new.rates).waypoints e
+    (point_refused_later c.args.self.now.lp.now (g.R.Rates.state c.args.rates.now).waypoints (g.R.Rates.state c.slope.new.rates).waypoints (g.R.Rates.state c.fill_prices.new.rates).waypoints c.args.basis.now e c.in_ok-slope.ensures.rates.1 x))
     c.in_err-fill_prices.ensures.overflow)
 
 pub returns-clause-rates : goal.returns-clause-rates

@@ -1,6 +1,5 @@
-use Rattle.eta_file.specs.Inverse.{ways_of}
 use Rattle.reinversion.proofs.form.ProductFormRates.direction.Goals as goal
-use Rattle.lp_laws.proofs.WaypointLaws.{keeps_same}
+use Rattle.eta_file.proofs.ColumnLaws.{keeps_itself}
 
-pub returns-clause-waypoints : goal.returns-clause-waypoints
-returns-clause-waypoints c = rw (← c.self.view_is) (keeps_same c.self.inside.file.matrix c.self.inside.file.basics (ways_of c.self.inside.file))
+pub returns-clause-kept : goal.returns-clause-kept
+returns-clause-kept c = rw (← c.self.view_is) (keeps_itself c.self.inside.file)
