@@ -7,8 +7,8 @@ use Rattle.exact_values.specs.Tests.{lt_ℚ}
 use Rattle.exact_values.proofs.Inverse.{div-mul_cancel}
 use Rattle.exact_values.proofs.Order.{le_trans, lt_from_le, lt_or_le, le_by_one, le_of_lt, le_of_mul-le-mul_left, mul-le-mul_left}
 use Rattle.exact_values.proofs.Ring.{by_ring3, number, opposite, ◌⊕◌, ◌⊖◌, ◌⊗◌, ◌≐◌}
-use Rattle.exact_values.proofs.Ring_laws.{mul_comm}
-use Rattle.exact_values.proofs.Tests_laws.{lt_from_test, le_from_lt_fails}
+use Rattle.exact_values.proofs.RingLaws.{mul_comm}
+use Rattle.exact_values.proofs.TestsLaws.{lt_from_test, le_from_lt_fails}
 use Rattle.exact_values.proofs.Signs.{neg_above}
 use Rattle.affine_laws.specs.Ends.{MeetsBy, Meets, is_high, end_of, IsOnSide, IsBefore, IsNearer, IsTightened}
 use Rattle.affine_laws.specs.declared.tightening.ProductBound.{ProductBound}

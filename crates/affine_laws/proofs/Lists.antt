@@ -5,7 +5,7 @@ use Rattle.std.proofs.lemmas.List.Elements.{All-cons, All-contains}
 use Rattle.exact_values.specs.Rational.{ℚ, zero_ℚ, ◌≤ℚ◌, ◌<ℚ◌}
 use Rattle.exact_values.specs.Tests.{lt_ℚ}
 use Rattle.exact_values.proofs.Order.{le_refl, le_trans, le_of_lt, apart_from_below}
-use Rattle.exact_values.proofs.Tests_laws.{lt_from_test, test_from_lt, le_from_lt_fails}
+use Rattle.exact_values.proofs.TestsLaws.{lt_from_test, test_from_lt, le_from_lt_fails}
 use Rattle.affine_laws.specs.Conditions.{Condition, value, Holds, zero_of, AllHold, Falling, nearer, reach_of, EndsAt, SomeEndsAt, IsReach}
 use Rattle.affine_laws.specs.Laws.{IsBetweenZeros}
 use Rattle.affine_laws.proofs.Single.{value_at_zero, before_zero, after_zero, holds_between, holds_by_sides, zero_beyond, zero_is}

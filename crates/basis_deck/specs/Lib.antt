@@ -1,4 +1,4 @@
 pub mod Installing
 pub mod Punching
 pub mod Reading
-pub mod Draft_view
+pub mod DraftView

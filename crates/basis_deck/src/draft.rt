@@ -56,7 +56,7 @@ impl<'a> BasisDraft<'a> {
     ghost use Rattle.basis_deck_definitions.specs.declared.Code.TheVariants.{Exchanges, Stands};
     ghost use Rattle.basis_deck_definitions.specs.Placings.{code_words, HasNames, row_variable, column_variable};
     ghost use Rattle.basis_deck.specs.Reading.{State, state_of, code_test, read_test, inner_test, fault_at, with_placing, with_code, with_read, with_data, state_with};
-    ghost use Rattle.basis_deck.specs.Draft_view.{state_view};
+    ghost use Rattle.basis_deck.specs.DraftView.{state_view};
 
     /// A draft after no card: each variable stands as it opens.
     pub fn new(alloc: Global, problem: &'a Problem, lp: &'a Lp) -> Result<BasisDraft<'a>, NoMemory>
@@ -297,7 +297,7 @@ impl<'a> Draft for BasisDraft<'a> {
     ghost use Rattle.std.specs.Prelude.{◌≡◌};
     ghost use Rattle.basis_deck_definitions.specs.Reading.{basis_card_fault};
     ghost use Rattle.basis_deck.specs.Reading.{state_of};
-    ghost use Rattle.basis_deck.specs.Draft_view.{state_view};
+    ghost use Rattle.basis_deck.specs.DraftView.{state_view};
 
     ghost test = { λ start. basis_card_fault start.problem.now start.lp.now };
 

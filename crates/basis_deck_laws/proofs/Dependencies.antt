@@ -3,7 +3,7 @@ use Rattle.std.proofs.Common.{◌≡◌, ◌≢◌, ℕ, zero, suc, ◌+◌, ◌
 use Rattle.exact_values.specs.Rational.{ℚ, zero_ℚ, one_ℚ, ◌+ℚ◌, ◌-ℚ◌, ◌*ℚ◌, inverse_ℚ}
 use Rattle.exact_values.proofs.Inverse.{zero_or_not, mul-inverse, one_apart}
 use Rattle.exact_values.proofs.Ring.{by_ring1, by_ring2, ◌⊕◌, ◌⊖◌, ◌⊗◌, ◌≐◌, number}
-use Rattle.exact_values.proofs.Ring_laws.{mul-zero}
+use Rattle.exact_values.proofs.RingLaws.{mul-zero}
 use Rattle.exact_values.proofs.Sums.{sum_to-zero}
 use Rattle.lp_definitions.specs.LinearProgram.{Matrix, Vector, entry, IsVariable, KeepsEquations}
 use Rattle.lp_definitions.specs.Basis.{Basics, is_in, IsNonsingular}

@@ -6,7 +6,7 @@ use Rattle.exact_values.specs.Tests.{lt_ℚ}
 use Rattle.exact_values.proofs.Inverse.{inverse-neg}
 use Rattle.exact_values.proofs.Order.{lt_irrefl}
 use Rattle.exact_values.proofs.Ring.{by_ring1, by_ring2, number, ◌⊗◌, ◌≐◌, opposite}
-use Rattle.exact_values.proofs.Tests_laws.{lt_from_test}
+use Rattle.exact_values.proofs.TestsLaws.{lt_from_test}
 use Rattle.lp_definitions.specs.LinearProgram.{LinearProgram, Vector, lower_of, upper_of}
 use Rattle.simplex_definitions.specs.Moves.{limit_ahead, step_length, signed}
 use Rattle.basis_values.specs.Motions.{motion}

@@ -5,7 +5,7 @@ use Rattle.std.proofs.lemmas.Bool.Decides.{eqb_tells}
 use Rattle.exact_values.specs.Rational.{ℚ, ◌≤ℚ◌, ◌<ℚ◌}
 use Rattle.exact_values.specs.Tests.{le_ℚ}
 use Rattle.exact_values.proofs.Order.{le_refl, le_of_lt, lt_of_lt_of_le}
-use Rattle.exact_values.proofs.Tests_laws.{le_fails_from_lt, lt_from_le_fails, le_from_test, test_from_le}
+use Rattle.exact_values.proofs.TestsLaws.{le_fails_from_lt, lt_from_le_fails, le_from_test, test_from_le}
 use Rattle.lp_definitions.specs.LinearProgram.{LinearProgram, Vector, size}
 use Rattle.simplex_definitions.specs.Moves.{is_no_later, step_length, stopper}
 use Rattle.simplex_laws.proofs.Searches.{stopper_is, stopper_nothing}

@@ -6,8 +6,8 @@ use Rattle.exact_values.specs.Tests.{lt_ℚ, le_ℚ}
 use Rattle.exact_values.proofs.Inverse.{same_quotients, div-mul_cancel}
 use Rattle.exact_values.proofs.Order.{le_by_one, le_of_lt, lt_from_le, lt_of_not-le, lt_not_le, le-div, mul-le-mul_left, apart_from_above}
 use Rattle.exact_values.proofs.Ring.{by_ring3, by_ring4, ◌⊖◌, ◌⊗◌, ◌⊕◌, ◌≐◌, opposite}
-use Rattle.exact_values.proofs.Ring_laws.{mul_comm}
-use Rattle.exact_values.proofs.Tests_laws.{le_fails_from_lt, lt_from_test, le_from_lt_fails, test_from_le}
+use Rattle.exact_values.proofs.RingLaws.{mul_comm}
+use Rattle.exact_values.proofs.TestsLaws.{le_fails_from_lt, lt_from_test, le_from_lt_fails, test_from_le}
 use Rattle.exact_values.proofs.Signs.{neg_above}
 use Rattle.lp_definitions.specs.LinearProgram.{LinearProgram, Vector}
 use Rattle.simplex_definitions.specs.Moves.{step_length, signed, is_no_later}

@@ -3,7 +3,7 @@ use Rattle.std.proofs.Common.{◌≡◌, ℕ, zero, suc, ◌+◌, ◌-◌, ◌<�
 use Rattle.std.specs.Prelude.{Some, not, filter, slice_get}
 use Rattle.std.proofs.lemmas.List.{length-append}
 use Rattle.exact_values.specs.Rational.{ℚ, zero_ℚ, ◌+ℚ◌, ◌*ℚ◌}
-use Rattle.exact_values.proofs.Ring_laws.{add-zero, mul-zero}
+use Rattle.exact_values.proofs.RingLaws.{add-zero, mul-zero}
 use Rattle.lp_definitions.specs.LinearProgram.{Matrix, LinearProgram, Vector, size, IsVariable, numbers_from, lower_of, upper_of}
 use Rattle.lp_definitions.specs.Basis.{Basics, basics_of, is_in, status_of, IsBasis, IsBasic, IsNonbasic, IsNonsingular, IsPointOf, IsDirectionOf, AreRates, StandsAt}
 use Rattle.lp_definitions.specs.RatesEvidence.{sum_from}

@@ -4,7 +4,7 @@ use Rattle.std.specs.Prelude.{eqb, Option, Some, None, IfSome}
 use Rattle.std.specs.Option.{SomeIff}
 use Rattle.std.proofs.lemmas.Bool.Decides.{eqb_tells}
 use Rattle.exact_values.specs.Rational.{ℚ, zero_ℚ, ◌+ℚ◌, ◌*ℚ◌}
-use Rattle.exact_values.proofs.Ring_laws.{add-zero, mul-zero}
+use Rattle.exact_values.proofs.RingLaws.{add-zero, mul-zero}
 use Rattle.lp_laws.proofs.Places.{value_next}
 use Rattle.lp_definitions.specs.LinearProgram.{LinearProgram, size, value_at}
 use Rattle.lp_definitions.specs.declared.Status.{Status}

@@ -6,7 +6,7 @@ use Rattle.exact_values.specs.Tests.{lt_ℚ}
 use Rattle.exact_values.proofs.Ring.{by_ring1, by_ring2, ◌⊖◌, ◌⊗◌, ◌≐◌, number, opposite}
 use Rattle.exact_values.proofs.Inverse.{same_quotients}
 use Rattle.exact_values.proofs.Order.{le-div, apart_from_above, apart_from_below}
-use Rattle.exact_values.proofs.Tests_laws.{lt_from_test, test_from_le}
+use Rattle.exact_values.proofs.TestsLaws.{lt_from_test, test_from_le}
 use Rattle.exact_values.proofs.Signs.{neg_above}
 use Rattle.lp_definitions.specs.LinearProgram.{LinearProgram, Vector, size, lower_of, upper_of}
 use Rattle.lp_definitions.specs.Solutions.{IsWithinLimits}

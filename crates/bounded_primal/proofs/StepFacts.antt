@@ -7,7 +7,7 @@ use Rattle.exact_values.specs.Rational.{ℚ, zero_ℚ, inverse_ℚ, ◌+ℚ◌, 
 use Rattle.exact_values.specs.Tests.{lt_ℚ}
 use Rattle.exact_values.proofs.Inverse.{mul-inverse}
 use Rattle.exact_values.proofs.Ring.{by_ring1, by_ring3, by_ring4, ◌⊕◌, ◌⊖◌, ◌⊗◌, ◌≐◌, opposite}
-use Rattle.exact_values.proofs.Ring_laws.{mul-one}
+use Rattle.exact_values.proofs.RingLaws.{mul-one}
 use Rattle.lp_definitions.specs.LinearProgram.{Matrix, LinearProgram, Vector, size, IsVariable, lower_of, upper_of}
 use Rattle.lp_definitions.specs.Basis.{Basics, basics_of, is_in, is_basic, status_of, with_status, exchanged, IsBasis, IsBasic, IsNonbasic, IsNonsingular, IsDirectionOf, IsPointOf, IsAllowed, StandsAt}
 use Rattle.lp_definitions.specs.declared.Status.{Status}

@@ -2,7 +2,7 @@
 use Rattle.std.proofs.Common.{◌≡◌, ℕ, ◌+◌, ◌-◌, ◌<◌, List, [], ◌∷◌, length, map, get_or, drop, refl, sym, ap, ◌∙◌, add-one, subst, false, Ok, Err}
 use Rattle.std.specs.Prelude.{if◌then◌else◌}
 use Rattle.exact_values.specs.Rational.{ℚ, zero_ℚ, ◌+ℚ◌, ◌*ℚ◌}
-use Rattle.exact_values.proofs.Ring_laws.{add-zero, zero-mul, mul-zero}
+use Rattle.exact_values.proofs.RingLaws.{add-zero, zero-mul, mul-zero}
 use Rattle.frac128.specs.declared.Op.TheVariants.{Add, Mul}
 use Rattle.frac128.specs.declared.Refused.{Refused}
 use Rattle.frac128.specs.Operations.{TermsFit, refuses}
@@ -13,7 +13,7 @@ use Rattle.check_definitions.specs.declared.Verdict.TheVariants.{Checked, Unchec
 use Rattle.check_definitions.specs.Steps.{operation, Product, product_of, verdict_of, sum_steps, sum_of, followed_by}
 use Rattle.check_definitions.specs.Checks.{entry_products}
 use Rattle.check_definitions.proofs.Passing.{verdict-append, numbers-next}
-use Rattle.certificate_check.proofs.No_refusal.{mul_taken_left, mul_taken_right, add_zero_taken}
+use Rattle.certificate_check.proofs.NoRefusal.{mul_taken_left, mul_taken_right, add_zero_taken}
 use Rattle.certificate_check.specs.Results.{SumsTo}
 
 -- after some products the sum so far, and the products that are left, stand for the whole

@@ -1,6 +1,6 @@
-pub mod No_refusal
+pub mod NoRefusal
 pub mod Meaning
-pub mod True_claims
+pub mod TrueClaims
 pub mod Left
 pub mod Skips
 pub mod Each

@@ -5,12 +5,12 @@ use Rattle.std.specs.declared.cmp.Ordering.{Ordering}
 use Rattle.std.specs.declared.cmp.Ordering.TheVariants.{Less, Equal, Greater}
 use Rattle.std.proofs.lemmas.Bool.{and_parts, not-false}
 use native.Mathlib.Decide.{ℕ_discrete}
-use Rattle.exact_values.proofs.Ring_laws.{zero-add, zero-mul}
+use Rattle.exact_values.proofs.RingLaws.{zero-add, zero-mul}
 use Rattle.exact_values.specs.Rational.{ℚ, zero_ℚ, ◌+ℚ◌, ◌-ℚ◌, ◌*ℚ◌, ◌≤ℚ◌, ◌<ℚ◌, compare_ℚ}
 use Rattle.exact_values.specs.Sums.{sum_up_to}
 use Rattle.exact_values.specs.Tests.{eq_ℚ}
 use Rattle.exact_values.proofs.Compare.{lt_from_compare, same_from_compare, compare_from_lt}
-use Rattle.exact_values.proofs.Tests_laws.{same_from_test, le_from_test}
+use Rattle.exact_values.proofs.TestsLaws.{same_from_test, le_from_test}
 use Rattle.exact_values.proofs.Order.{lt_not_le, le_of_lt, apart_from_above, apart_from_below}
 use Rattle.lp_definitions.specs.LinearProgram.{LinearProgram, Vector, IsMatrix, IsColumn, IsVariable, KeepsEquations, numbers_from, variables, column, entry, lower_of, upper_of, cost, for_min, size}
 use Rattle.lp_definitions.specs.Solutions.{IsWithinLimits, IsFeasible, IsDualCertificate, IsCrossed, IsRay, ProvesUnbounded, limit_against}

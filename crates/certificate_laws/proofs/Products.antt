@@ -3,7 +3,7 @@ use Rattle.std.proofs.Common.{◌≡◌, ℕ, zero, suc, ◌+◌, List, [], ◌�
 use Rattle.std.specs.Prelude.{filter}
 use Rattle.exact_values.specs.Rational.{ℚ, zero_ℚ, ◌+ℚ◌, ◌*ℚ◌}
 use Rattle.exact_values.specs.Sums.{sum_to, sum_up_to}
-use Rattle.exact_values.proofs.Ring_laws.{add_assoc, add-zero, zero-add}
+use Rattle.exact_values.proofs.RingLaws.{add_assoc, add-zero, zero-add}
 use Rattle.exact_values.proofs.Sums.{sum_to-same, sum_to-first}
 use Rattle.lp_definitions.specs.declared.Entry.{Entry}
 use Rattle.lp_definitions.specs.LinearProgram.{numbers_from}

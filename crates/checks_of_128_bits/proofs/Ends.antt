@@ -5,7 +5,7 @@ use Rattle.std.specs.List.{flat_map}
 use Rattle.std.proofs.lemmas.List.{length-map, get_or-map, get_or_past}
 use Rattle.std.proofs.lemmas.Bool.Decides.{nat_tests}
 use Rattle.exact_values.specs.Rational.{ℚ, zero_ℚ, ◌+ℚ◌, ◌*ℚ◌}
-use Rattle.exact_values.proofs.Ring_laws.{add-zero, mul-zero}
+use Rattle.exact_values.proofs.RingLaws.{add-zero, mul-zero}
 use Rattle.lp_definitions.specs.LinearProgram.{LinearProgram, Matrix, Vector, IsVariable, numbers_from, size, value_at, variables}
 use Rattle.lp_laws.proofs.Opening.{length-numbers_from, numbers_from-at}
 use Rattle.check_definitions.specs.declared.Verdict.TheVariants.{Checked}

@@ -4,7 +4,7 @@ use Rattle.std.specs.Prelude.{nat_le}
 use Rattle.std.proofs.lemmas.List.{map-append}
 use Rattle.std.proofs.lemmas.Bool.Decides.{nat_tests}
 use Rattle.exact_values.specs.Rational.{ℚ, zero_ℚ, ◌+ℚ◌}
-use Rattle.exact_values.proofs.Ring_laws.{add-zero, mul-zero}
+use Rattle.exact_values.proofs.RingLaws.{add-zero, mul-zero}
 use Rattle.lp_definitions.specs.LinearProgram.{LinearProgram, Matrix, numbers_from, value_at, lower_of, upper_of}
 use Rattle.lp_laws.proofs.Opening.{numbers_from-append}
 use Rattle.check_definitions.specs.Steps.{Step, verdict_of, sum_steps}

@@ -4,5 +4,5 @@ pub mod Underway
 pub mod Answering
 pub mod Clamping
 pub mod Stepping
-pub mod Ending_lines
+pub mod EndingLines
 pub mod Sound

@@ -5,8 +5,8 @@ use Rattle.std.specs.List.{AllByRecursion}
 use Rattle.std.proofs.lemmas.List.{set-get_or}
 use Rattle.exact_values.specs.Rational.{ℚ, zero_ℚ, ◌+ℚ◌}
 use Rattle.exact_values.specs.Tests.{eq_ℚ}
-use Rattle.exact_values.proofs.Ring_laws.{add-zero, zero-mul}
-use Rattle.exact_values.proofs.Tests_laws.{same_from_test}
+use Rattle.exact_values.proofs.RingLaws.{add-zero, zero-mul}
+use Rattle.exact_values.proofs.TestsLaws.{same_from_test}
 use Rattle.lp_definitions.specs.LinearProgram.{LinearProgram, Vector, IsVariable, IsLinearProgram, lower_of, upper_of, cost, for_min, with_change_row, numbers_from}
 use Rattle.lp_definitions.specs.Basis.{is_basic, status_of, StandsAt, IsOptimalBasis, Tableau}
 use Rattle.lp_definitions.specs.declared.Status.{Status}

@@ -5,7 +5,7 @@ use Rattle.std.proofs.lemmas.Bool.{or_right}
 use Rattle.exact_values.specs.Rational.{ℚ, ◌≤ℚ◌}
 use Rattle.exact_values.specs.Tests.{le_ℚ}
 use Rattle.exact_values.proofs.Order.{le_refl, le_trans, le_total}
-use Rattle.exact_values.proofs.Tests_laws.{le_from_test, test_from_le}
+use Rattle.exact_values.proofs.TestsLaws.{le_from_test, test_from_le}
 use Rattle.lp_definitions.specs.LinearProgram.{LinearProgram, size, IsVariable}
 use Rattle.lp_definitions.specs.Basis.{Tableau}
 use Rattle.lp_definitions.specs.declared.Status.{Status}

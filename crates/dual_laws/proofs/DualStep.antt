@@ -9,7 +9,7 @@ use Rattle.exact_values.specs.Tests.{lt_ℚ, magnitude}
 use Rattle.exact_values.proofs.Inverse.{div-mul_cancel, zero_or_not}
 use Rattle.exact_values.proofs.Order.{le_of_lt, le_by_one, le_by_two, lt_or_le, le_by_product}
 use Rattle.exact_values.proofs.Ring.{by_ring1, by_ring2, by_ring3, ◌⊕◌, ◌⊖◌, ◌⊗◌, ◌≐◌, number, opposite}
-use Rattle.exact_values.proofs.Tests_laws.{lt_from_test, test_from_lt}
+use Rattle.exact_values.proofs.TestsLaws.{lt_from_test, test_from_lt}
 use Rattle.simplex_laws.proofs.Booleans.{improves_not, rises_right, falls_right}
 use Rattle.lp_definitions.specs.Basis.{is_in, basics_of, status_of, with_status, exchanged, IsBasic, IsNonbasic, AreRates, Tableau, IsTableau, objective_rate}
 use Rattle.lp_definitions.specs.LinearProgram.{LinearProgram, size, IsVariable, with_change_row, for_min}

@@ -4,7 +4,7 @@ use Rattle.std.specs.Prelude.{Option, Some, None, not, ◌&&◌, ◌||◌, if◌
 use Rattle.std.proofs.lemmas.Bool.{and_parts}
 use Rattle.exact_values.specs.Rational.{ℚ, ◌≤ℚ◌}
 use Rattle.exact_values.specs.Tests.{le_ℚ}
-use Rattle.exact_values.proofs.Tests_laws.{le_from_test}
+use Rattle.exact_values.proofs.TestsLaws.{le_from_test}
 use Rattle.lp_definitions.specs.LinearProgram.{LinearProgram, size, IsVariable, IsLinearProgram}
 use Rattle.lp_definitions.specs.Basis.{basics_of, Tableau, IsTableau, IsPointOf}
 use Rattle.lp_definitions.specs.declared.Status.{Status}

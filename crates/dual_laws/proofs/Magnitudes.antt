@@ -6,8 +6,8 @@ use Rattle.exact_values.specs.Tests.{lt_ℚ, le_ℚ, magnitude}
 use Rattle.exact_values.proofs.Inverse.{div-mul_cancel}
 use Rattle.exact_values.proofs.Order.{le_refl, le_of_lt, le_by_one, le_antisymm, lt_from_le, lt_not_le, mul-le-mul_left, le_of_mul-le-mul_left, mul-positive}
 use Rattle.exact_values.proofs.Ring.{by_ring1, by_ring2, by_ring3, number, opposite, ◌⊕◌, ◌⊖◌, ◌⊗◌, ◌≐◌}
-use Rattle.exact_values.proofs.Ring_laws.{zero-mul, mul-zero}
-use Rattle.exact_values.proofs.Tests_laws.{lt_from_test, le_from_lt_fails, le_from_test, test_from_le, le_fails_from_lt}
+use Rattle.exact_values.proofs.RingLaws.{zero-mul, mul-zero}
+use Rattle.exact_values.proofs.TestsLaws.{lt_from_test, le_from_lt_fails, le_from_test, test_from_le, le_fails_from_lt}
 use Rattle.exact_values.proofs.Signs.{neg_not_below}
 
 neg_down : (u : ℚ) → zero_ℚ ≤ℚ neg_ℚ u → u ≤ℚ zero_ℚ

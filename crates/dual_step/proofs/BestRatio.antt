@@ -5,7 +5,7 @@ use Rattle.std.specs.List.{list_all}
 use Rattle.exact_values.specs.Rational.{ℚ, zero_ℚ, ◌/ℚ◌}
 use Rattle.exact_values.specs.Tests.{le_ℚ, lt_ℚ, magnitude}
 use Rattle.exact_values.proofs.Order.{le_refl}
-use Rattle.exact_values.proofs.Tests_laws.{lt_fails_from_le}
+use Rattle.exact_values.proofs.TestsLaws.{lt_fails_from_le}
 use Rattle.frac128.specs.declared.Op.TheVariants.{Div}
 use Rattle.lp_definitions.specs.LinearProgram.{LinearProgram, Vector, size, variables, IsVariable}
 use Rattle.lp_definitions.specs.declared.Evidence.{Evidence}

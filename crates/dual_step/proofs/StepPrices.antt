@@ -4,7 +4,7 @@ use Rattle.std.specs.Prelude.{Option, None, eqb}
 use Rattle.std.proofs.lemmas.Bool.Decides.{eqb_tells}
 use Rattle.exact_values.specs.Rational.{ℚ, zero_ℚ, one_ℚ, ◌-ℚ◌, ◌*ℚ◌, ◌/ℚ◌, inverse_ℚ}
 use Rattle.exact_values.proofs.Ring.{by_ring2, by_ring4, ◌⊖◌, ◌⊗◌, ◌≐◌}
-use Rattle.exact_values.proofs.Ring_laws.{one-mul}
+use Rattle.exact_values.proofs.RingLaws.{one-mul}
 use Rattle.lp_definitions.specs.Basis.{is_in, basics_of, exchanged, IsBasic, IsNonbasic, AreRates, ArePricesOf, objective_rate, price_at as price_of}
 use Rattle.lp_definitions.specs.LinearProgram.{LinearProgram, Vector, size, IsVariable, IsLinearProgram, with_change_row}
 use Rattle.lp_definitions.specs.declared.Change.{Change}

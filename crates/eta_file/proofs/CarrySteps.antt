@@ -6,7 +6,7 @@ use Rattle.std.proofs.lemmas.Bool.Decides.{eqb_tells}
 use Rattle.std.proofs.lemmas.List.{get_or-set_same, get_or-set_other, get_or_default}
 use Rattle.exact_values.specs.Rational.{ℚ, zero_ℚ, ◌+ℚ◌, ◌-ℚ◌, ◌*ℚ◌}
 use Rattle.exact_values.proofs.Ring.{by_ring4, ◌⊕◌, ◌⊖◌, ◌⊗◌, ◌≐◌}
-use Rattle.exact_values.proofs.Ring_laws.{add-zero, zero-add, mul-zero}
+use Rattle.exact_values.proofs.RingLaws.{add-zero, zero-add, mul-zero}
 use Rattle.lp_laws.proofs.Values.{sub-zero}
 use Rattle.lp_laws.proofs.Places.{value_at_place}
 use Rattle.lp_definitions.specs.LinearProgram.{on_row, value_at}

@@ -3,7 +3,7 @@ use Rattle.std.proofs.Common.{◌≡◌, ◌≢◌, ℕ, suc, ◌+◌, ◌-◌, 
 use Rattle.std.specs.Prelude.{nat_eq, nat_le, eqb}
 use Rattle.std.proofs.lemmas.Bool.Decides.{eqb_tells}
 use Rattle.exact_values.specs.Rational.{ℚ, zero_ℚ, one_ℚ, neg_ℚ, ◌-ℚ◌, ◌*ℚ◌, ◌/ℚ◌}
-use Rattle.exact_values.proofs.Ring_laws.{mul-one, zero-mul, zero-add}
+use Rattle.exact_values.proofs.RingLaws.{mul-one, zero-mul, zero-add}
 use Rattle.exact_values.proofs.Inverse.{div-mul_cancel}
 use Rattle.lp_definitions.specs.LinearProgram.{Matrix, Vector, size, IsVariable, IsRow, column, on_row, value_at}
 use Rattle.lp_definitions.specs.Basis.{Basics, is_in, IsNonbasic, IsNonsingular, IsDirectionOf, exchanged, row_basics}

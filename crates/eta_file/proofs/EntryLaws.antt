@@ -4,7 +4,7 @@ use Rattle.std.specs.Prelude.{nat_eq}
 use Rattle.std.specs.List.{IsDistinct, AllByRecursion}
 use Rattle.std.proofs.lemmas.Map.Keys.{IsDistinct-head, IsDistinct-tail}
 use Rattle.exact_values.specs.Rational.{◌+ℚ◌}
-use Rattle.exact_values.proofs.Ring_laws.{add-zero, zero-add, add_assoc}
+use Rattle.exact_values.proofs.RingLaws.{add-zero, zero-add, add_assoc}
 use Rattle.lp_definitions.specs.LinearProgram.{on_row}
 use Rattle.lp_definitions.specs.declared.Entry.{Entry}
 use Rattle.eta_file.specs.declared.eta.EtaEntry.{EtaEntry}

@@ -11,7 +11,7 @@ use Rattle.exact_values.specs.Rational.{ℚ, zero_ℚ}
 use Rattle.lp_definitions.specs.LinearProgram.{Matrix, size, numbers_from, value_at}
 use Rattle.lp_definitions.specs.Basis.{Basics, is_in, IsNonbasic, IsDirectionOf, exchanged}
 use Rattle.lp_model.specs.Sparse.{AreNonzeroFrom, no_more, next_nonzero, AreNonzero, CoverNonzeroFrom, no_more_listed, next_listed, CoverNonzero}
-use Rattle.exact_values.proofs.Tests_laws.{test_from_same, eq_fails_from_apart}
+use Rattle.exact_values.proofs.TestsLaws.{test_from_same, eq_fails_from_apart}
 use Rattle.eta_file.specs.declared.eta.EtaEntry.{EtaEntry}
 use Rattle.eta_file.specs.Prefixes.{is_entry, entry_of, entries_to}
 use Rattle.lp_laws.proofs.Values.{clash}

@@ -6,8 +6,8 @@ use Rattle.std.proofs.lemmas.List.Elements.{filter-append, filter_more}
 use native.Mathlib.Decide.{ℕ_discrete}
 use Rattle.exact_values.specs.Rational.{ℚ, zero_ℚ, ◌+ℚ◌}
 use Rattle.exact_values.specs.Tests.{eq_ℚ}
-use Rattle.exact_values.proofs.Tests_laws.{same_from_test, test_from_same, eq_fails_from_apart}
-use Rattle.exact_values.proofs.Ring_laws.{add-zero, zero-add}
+use Rattle.exact_values.proofs.TestsLaws.{same_from_test, test_from_same, eq_fails_from_apart}
+use Rattle.exact_values.proofs.RingLaws.{add-zero, zero-add}
 use Rattle.lp_definitions.specs.LinearProgram.{Matrix, Vector, size, numbers_from, IsVariable}
 use Rattle.lp_definitions.specs.Basis.{Basics, is_in}
 use Rattle.lp_laws.proofs.Values.{clash}

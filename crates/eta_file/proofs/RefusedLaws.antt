@@ -1,7 +1,7 @@
 -- A refusal at an eta is evidence at the set before it.
 use Rattle.std.proofs.Common.{◌≡◌, ◌≢◌, ℕ, suc, ◌+◌, ◌<◌, List, ◌∷◌, inr, length, take, get_or, refl, sym, ◌∙◌, ap, ap₂, subst, arith, add-one}
 use Rattle.exact_values.specs.Rational.{ℚ, zero_ℚ, one_ℚ, ◌-ℚ◌, ◌*ℚ◌, ◌/ℚ◌}
-use Rattle.exact_values.proofs.Ring_laws.{mul-zero}
+use Rattle.exact_values.proofs.RingLaws.{mul-zero}
 use Rattle.frac128.specs.declared.Op.{Op}
 use Rattle.frac128.specs.declared.Op.TheVariants.{Sub, Mul, Div}
 use Rattle.lp_definitions.specs.LinearProgram.{Matrix, size, IsVariable, value_at}

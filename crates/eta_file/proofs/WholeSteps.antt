@@ -4,7 +4,7 @@ use Rattle.std.specs.Prelude.{nat_eq}
 use Rattle.std.proofs.lemmas.List.{get_or-map, get_or_default, length-map, length-set, take-map}
 use Rattle.exact_values.specs.Rational.{ℚ, whole, zero_ℚ, one_ℚ, neg_ℚ, ◌+ℚ◌, ◌-ℚ◌, ◌*ℚ◌, ◌/ℚ◌, inverse_ℚ}
 use Rattle.exact_values.proofs.Ring.{number, by_ring1, by_ring2, by_ring3, by_ring4, ◌⊕◌, ◌⊖◌, ◌⊗◌, ◌≐◌, opposite}
-use Rattle.exact_values.proofs.Ring_laws.{zero-mul, one-mul, mul-one, add-mul}
+use Rattle.exact_values.proofs.RingLaws.{zero-mul, one-mul, mul-one, add-mul}
 use Rattle.exact_values.proofs.Inverse.{one_apart, div_is, div-mul_cancel, apart-mul, mul-inverse}
 use Rattle.lp_definitions.specs.LinearProgram.{value_at, on_row}
 use Rattle.lp_definitions.specs.declared.Entry.{Entry}

@@ -9,7 +9,7 @@ use Rattle.std.proofs.lemmas.List.{length-map}
 use Rattle.exact_values.specs.Rational.{ℚ, zero_ℚ}
 use Rattle.exact_values.specs.Tests.{eq_ℚ}
 use Rattle.exact_values.proofs.Inverse.{one_apart}
-use Rattle.exact_values.proofs.Tests_laws.{same_from_test, apart_from_eq_fails}
+use Rattle.exact_values.proofs.TestsLaws.{same_from_test, apart_from_eq_fails}
 use Rattle.lp_definitions.specs.LinearProgram.{Matrix, LinearProgram, Vector, size, IsVariable}
 use Rattle.lp_definitions.specs.Basis.{Basics, is_in, is_basic, IsBasic, IsNonbasic, IsNonsingular, AreRates, exchanged, row_basics, basics_of, IsBasis}
 use Rattle.lp_definitions.specs.declared.Status.{Status}

@@ -5,7 +5,7 @@ use Rattle.std.specs.Option.{SomeIff}
 use Rattle.std.proofs.lemmas.Slice.Eq.{bytes_eq-Decides}
 use Rattle.exact_values.specs.Rational.{ℚ, whole, zero_ℚ}
 use Rattle.exact_values.specs.Tests.{eq_ℚ}
-use Rattle.exact_values.proofs.Tests_laws.{test_from_same, eq_fails_from_apart}
+use Rattle.exact_values.proofs.TestsLaws.{test_from_same, eq_fails_from_apart}
 use Rattle.frac128.specs.Operations.{TermsFit}
 use Rattle.listing_definitions.specs.Numbers.{digits, rational_text}
 use Rattle.walk_definitions.specs.Checkers.{checker_of_128_bits}

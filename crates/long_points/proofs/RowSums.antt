@@ -10,7 +10,7 @@ use Rattle.exact_values.specs.Rational.{ℚ, zero_ℚ, neg_ℚ, ◌+ℚ◌, ◌*
 use Rattle.exact_values.specs.Sums.{sum_to, sum_up_to}
 use Rattle.exact_values.specs.Tests.{eq_ℚ, is_equal}
 use Rattle.exact_values.proofs.Ring.{by_ring2, by_ring3, by_ring4, ◌⊕◌, ◌⊖◌, ◌⊗◌, ◌≐◌, number, opposite}
-use Rattle.exact_values.proofs.Ring_laws.{zero-add, add-zero}
+use Rattle.exact_values.proofs.RingLaws.{zero-add, add-zero}
 use Rattle.lp_definitions.specs.declared.Entry.{Entry}
 use Rattle.lp_definitions.specs.LinearProgram.{LinearProgram, IsMatrix, IsRow, IsColumn, value_at, column, on_row, entry}
 use Rattle.check_definitions.specs.Steps.{AllHold, sum_of}

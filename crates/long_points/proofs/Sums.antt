@@ -4,7 +4,7 @@ use Rattle.std.specs.Prelude.{ℤ, nat_abs, ◌==◌, IsTrue}
 use Rattle.std.proofs.Math.Seq.{drop-cons}
 use Rattle.exact_values.specs.Rational.{ℚ, whole, zero_ℚ, one_ℚ, ◌+ℚ◌, ◌-ℚ◌, ◌*ℚ◌, neg_ℚ}
 use Rattle.exact_values.proofs.Ring.{by_ring1, by_ring2, by_ring4, by_ring5, ◌⊕◌, ◌⊖◌, ◌⊗◌, ◌≐◌, number, opposite}
-use Rattle.exact_values.proofs.Ring_laws.{zero-mul}
+use Rattle.exact_values.proofs.RingLaws.{zero-mul}
 use Rattle.lp_definitions.specs.declared.Entry.{Entry}
 use Rattle.lp_definitions.specs.LinearProgram.{LinearProgram, Vector, entry}
 use Rattle.check_definitions.specs.Steps.{sum_of}

@@ -8,8 +8,8 @@ use Rattle.exact_values.specs.Sums.{sum_to, sum_up_to}
 use Rattle.exact_values.specs.Tests.{eq_ℚ, lt_ℚ, is_less}
 use Rattle.exact_values.proofs.Order.{lt_or_le, lt_from_le}
 use Rattle.exact_values.proofs.Ring.{by_ring3, by_ring4, by_ring5, ◌⊕◌, ◌⊗◌, ◌≐◌, number}
-use Rattle.exact_values.proofs.Ring_laws.{whole-mul, zero-mul}
-use Rattle.exact_values.proofs.Tests_laws.{same_from_test, apart_from_eq_fails}
+use Rattle.exact_values.proofs.RingLaws.{whole-mul, zero-mul}
+use Rattle.exact_values.proofs.TestsLaws.{same_from_test, apart_from_eq_fails}
 use Rattle.lp_definitions.specs.LinearProgram.{LinearProgram, Vector, IsVariable, size, numbers_from, lower_of, upper_of}
 use Rattle.lp_definitions.specs.Solutions.{limit_against}
 use Rattle.lp_laws.proofs.Rays.{limit_of_positive, limit_of_negative}

@@ -2,7 +2,7 @@
 use Rattle.std.proofs.Common.{◌≡◌, ◌+◌, List, Bool, true, false, not, Option, Some, None, refl, sym, ap, ◌∙◌, pos}
 use Rattle.std.specs.Prelude.{is_some, is_none, option_map}
 use Rattle.exact_values.specs.Rational.{ℚ, zero_ℚ, one_ℚ, ◌+ℚ◌, ◌-ℚ◌, ◌*ℚ◌}
-use Rattle.exact_values.proofs.Ring_laws.{zero-add}
+use Rattle.exact_values.proofs.RingLaws.{zero-add}
 use Rattle.lp_laws.proofs.Entries.{sum_from_is}
 use Rattle.certificate_laws.proofs.Products.{sum_of-entries}
 use Rattle.exact_values.proofs.Ring.{by_ring3, ◌⊕◌, ◌⊖◌, ◌⊗◌, ◌≐◌, number}

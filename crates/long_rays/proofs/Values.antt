@@ -6,7 +6,7 @@ use Rattle.exact_values.specs.Sums.{sum_to, sum_up_to}
 use Rattle.exact_values.specs.Tests.{is_less}
 use Rattle.exact_values.proofs.Order.{zero_below_one}
 use Rattle.exact_values.proofs.Ring.{by_ring2, by_ring3, by_ring4, by_ring5, ◌⊕◌, ◌⊖◌, ◌⊗◌, ◌≐◌, number}
-use Rattle.exact_values.proofs.Ring_laws.{whole-mul, zero-mul}
+use Rattle.exact_values.proofs.RingLaws.{whole-mul, zero-mul}
 use Rattle.lp_definitions.specs.LinearProgram.{LinearProgram, Vector, IsVariable, lower_of, upper_of, objective_value, with_change_row}
 use Rattle.check_definitions.specs.Checks.{is_crossed}
 use Rattle.long_vectors.specs.declared.values.Value.{Value}

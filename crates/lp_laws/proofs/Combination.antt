@@ -4,7 +4,7 @@ use Rattle.std.specs.Prelude.{nat_eq, if◌then◌else◌}
 use Rattle.exact_values.specs.Rational.{ℚ, zero_ℚ, one_ℚ, ◌-ℚ◌, ◌*ℚ◌, neg_ℚ}
 use Rattle.exact_values.specs.Sums.{sum_to}
 use Rattle.exact_values.proofs.Ring.{by_ring2, opposite, number, ◌⊖◌, ◌⊗◌, ◌≐◌}
-use Rattle.exact_values.proofs.Ring_laws.{mul-one, mul-zero, zero-mul, mul_left_comm}
+use Rattle.exact_values.proofs.RingLaws.{mul-one, mul-zero, zero-mul, mul_left_comm}
 use Rattle.exact_values.proofs.Sums.{sum_to-same, sum_to-zero, sum_to-sub, sum_to-mul_left, sum_to-exchange, sum_to-only}
 use Rattle.lp_definitions.specs.LinearProgram.{Matrix, Vector, size, entry, IsRow, IsColumn, IsVariable, KeepsEquations}
 use Rattle.lp_definitions.specs.Basis.{Basics, is_in, IsBasic, IsNonbasic, IsNonsingular, AreRates}

@@ -5,7 +5,7 @@ use Rattle.exact_values.specs.Rational.{ℚ, zero_ℚ, one_ℚ, ◌+ℚ◌, ◌*
 use Rattle.exact_values.specs.Tests.{lt_ℚ, is_less}
 use Rattle.exact_values.specs.Sums.{sum_to}
 use Rattle.exact_values.proofs.Ring.{by_ring2, by_ring3, by_normal, atom, opposite, number, ◌⊕◌, ◌⊖◌, ◌⊗◌, ◌≐◌}
-use Rattle.exact_values.proofs.Ring_laws.{zero-mul}
+use Rattle.exact_values.proofs.RingLaws.{zero-mul}
 use Rattle.exact_values.proofs.Compare.{lt_from_compare, compare_from_lt}
 use Rattle.exact_values.proofs.Order.{le_trans, le_of_eq, le_of_lt, le_antisymm, lt_or_le, lt_irrefl, lt_not_le, lt_of_le_of_lt, lt_by_one, le_by_product, mul-le-mul_left, mul-le-mul_negative, zero_below_one}
 use Rattle.exact_values.proofs.Sums.{sum_to-same, sum_to-zero, sum_to-neg, sum_to-le}

@@ -6,7 +6,7 @@ use Rattle.std.proofs.lemmas.Map.Keys.{IsDistinct-head, IsDistinct-tail}
 use native.Mathlib.Decide.{ℕ_discrete}
 use Rattle.exact_values.specs.Rational.{ℚ, zero_ℚ, ◌+ℚ◌, ◌*ℚ◌}
 use Rattle.exact_values.specs.Sums.{sum_to}
-use Rattle.exact_values.proofs.Ring_laws.{add_assoc, add-zero, zero-add, mul-zero}
+use Rattle.exact_values.proofs.RingLaws.{add_assoc, add-zero, zero-add, mul-zero}
 use Rattle.exact_values.proofs.Sums.{sum_to-same, sum_to-zero, sum_to-add, sum_to-only}
 use Rattle.lp_definitions.specs.LinearProgram.{Matrix, on_row, column, entry, IsRow, IsColumn, IsMatrix}
 use Rattle.lp_definitions.specs.RatesEvidence.{sum_from}

@@ -2,7 +2,7 @@
 use Rattle.std.proofs.Common.{◌≡◌, ℕ, suc, ◌+◌, refl, sym, ap, ap₂, ◌∙◌, arith}
 use Rattle.exact_values.specs.Rational.{ℚ, zero_ℚ, ◌+ℚ◌, ◌-ℚ◌, ◌*ℚ◌}
 use Rattle.exact_values.proofs.Ring.{by_ring3, ◌⊕◌, ◌⊖◌, ◌⊗◌, ◌≐◌}
-use Rattle.exact_values.proofs.Ring_laws.{mul-zero, mul_left_comm}
+use Rattle.exact_values.proofs.RingLaws.{mul-zero, mul_left_comm}
 use Rattle.exact_values.proofs.Sums.{sum_to-same, sum_to-zero, sum_to-add, sum_to-sub, sum_to-mul_left}
 use Rattle.lp_definitions.specs.LinearProgram.{Matrix, Vector, entry, IsVariable, KeepsEquations}
 use Rattle.lp_laws.specs.Vectors.{along}

@@ -5,7 +5,7 @@ use Rattle.std.proofs.lemmas.Bool.Decides.{eqb_tells}
 use Rattle.std.proofs.lemmas.List.{get_or-set_same, get_or-set_other, length-set}
 use Rattle.std.proofs.lemmas.List.Recursion.{is_count_by}
 use Rattle.exact_values.specs.Rational.{ℚ, zero_ℚ, one_ℚ, ◌-ℚ◌, ◌*ℚ◌, ◌/ℚ◌}
-use Rattle.exact_values.proofs.Ring_laws.{mul-one, mul-zero, zero-mul}
+use Rattle.exact_values.proofs.RingLaws.{mul-one, mul-zero, zero-mul}
 use Rattle.exact_values.proofs.Inverse.{div-mul_cancel}
 use Rattle.lp_definitions.specs.LinearProgram.{Matrix, Vector, size, IsVariable, KeepsEquations}
 use Rattle.lp_definitions.specs.Basis.{Basics, is_in, IsBasic, IsNonbasic, IsNonsingular, IsDirectionOf, AreRates, exchanged}

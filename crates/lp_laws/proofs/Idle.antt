@@ -1,7 +1,7 @@
 -- What an operation gives that need not be made.
 use Rattle.std.proofs.Common.{◌≡◌, sym, ◌∙◌, ap}
 use Rattle.exact_values.specs.Rational.{ℚ, zero_ℚ, one_ℚ, neg_ℚ, ◌+ℚ◌, ◌-ℚ◌, ◌*ℚ◌, ◌/ℚ◌, inverse_ℚ}
-use Rattle.exact_values.proofs.Ring_laws.{zero-add, add-zero, zero-mul, mul-zero, one-mul, mul-one}
+use Rattle.exact_values.proofs.RingLaws.{zero-add, add-zero, zero-mul, mul-zero, one-mul, mul-one}
 use Rattle.exact_values.proofs.Inverse.{div_is, one_apart}
 use Rattle.lp_laws.proofs.Values.{sub-zero}
 

@@ -3,7 +3,7 @@ use Rattle.std.proofs.Common.{◌≡◌, ℕ, zero, suc, ◌+◌, ◌-◌, ◌<�
 use Rattle.std.specs.Prelude.{nat_le, count_by}
 use Rattle.std.proofs.lemmas.List.{get_or-map, length-map, map-append}
 use Rattle.exact_values.specs.Rational.{zero_ℚ, ◌*ℚ◌}
-use Rattle.exact_values.proofs.Ring_laws.{mul-zero}
+use Rattle.exact_values.proofs.RingLaws.{mul-zero}
 use Rattle.exact_values.proofs.Sums.{sum_to-zero}
 use Rattle.lp_definitions.specs.LinearProgram.{Matrix, Vector, size, entry, numbers_from, variables, IsColumn, IsVariable, KeepsEquations}
 use Rattle.lp_definitions.specs.Basis.{is_in, IsNonbasic, IsNonsingular, AreRates, row_basics}

@@ -3,7 +3,7 @@ use Rattle.std.proofs.Common.{◌≡◌, ℕ, suc, ◌+◌, List, pos, refl, sym
 use Rattle.exact_values.specs.Rational.{ℚ, zero_ℚ, ◌+ℚ◌, ◌-ℚ◌, ◌*ℚ◌, ◌<ℚ◌}
 use Rattle.exact_values.specs.Sums.{sum_to}
 use Rattle.exact_values.proofs.Ring.{by_ring1, by_ring2, by_ring4, opposite, number, ◌⊕◌, ◌⊖◌, ◌⊗◌, ◌≐◌}
-use Rattle.exact_values.proofs.Ring_laws.{mul_comm, zero-mul}
+use Rattle.exact_values.proofs.RingLaws.{mul_comm, zero-mul}
 use Rattle.exact_values.proofs.Order.{lt_not_le, le_of_eq, lt_irrefl}
 use Rattle.exact_values.proofs.Sums.{sum_to-same, sum_to-add, sum_to-mul_left}
 use Rattle.lp_definitions.specs.LinearProgram.{LinearProgram, Vector, size, entry, cost, objective_value, with_change_row, for_min, lower_of, upper_of, IsRow, IsColumn, IsVariable, KeepsEquations, IsLinearProgram}

@@ -5,7 +5,7 @@ use native.Mathlib.Decide.{ℕ_discrete}
 use Rattle.exact_values.specs.Rational.{ℚ, zero_ℚ, one_ℚ, ◌+ℚ◌, ◌-ℚ◌, ◌*ℚ◌, neg_ℚ}
 use Rattle.exact_values.specs.Sums.{sum_to}
 use Rattle.exact_values.proofs.Ring.{by_ring2, by_ring3, ◌⊕◌, ◌⊖◌, ◌⊗◌, ◌≐◌}
-use Rattle.exact_values.proofs.Ring_laws.{add_assoc, add-zero, zero-add, zero-mul, mul-one, mul-zero}
+use Rattle.exact_values.proofs.RingLaws.{add_assoc, add-zero, zero-add, zero-mul, mul-one, mul-zero}
 use Rattle.exact_values.proofs.Sums.{sum_to-same, sum_to-first, sum_to-add, sum_to-only}
 use Rattle.lp_definitions.specs.LinearProgram.{Matrix, Vector, size, numbers_from, variables, IsVariable, KeepsEquations}
 use Rattle.lp_definitions.specs.Basis.{Basics, is_in, IsBasic, IsNonbasic, AreRates}

@@ -6,7 +6,7 @@ use Rattle.exact_values.specs.Rational.{ℚ, zero_ℚ, ◌+ℚ◌, ◌*ℚ◌, �
 use Rattle.exact_values.specs.Tests.{lt_ℚ}
 use Rattle.exact_values.specs.Sums.{sum_to, without}
 use Rattle.exact_values.proofs.Ring.{by_ring3, number, ◌⊕◌, ◌⊖◌, ◌⊗◌, ◌≐◌}
-use Rattle.exact_values.proofs.Ring_laws.{zero-mul}
+use Rattle.exact_values.proofs.RingLaws.{zero-mul}
 use Rattle.exact_values.proofs.Order.{lt_or_le, le_antisymm, lt_irrefl, lt_by_one, lt_by_product, le_of_lt, lt_of_lt_of_le, mul-lt-mul_left}
 use Rattle.exact_values.proofs.Sums.{sum_to-same, sum_to-without, without_same, without_other}
 use Rattle.lp_definitions.specs.LinearProgram.{LinearProgram, Vector, size, lower_of, upper_of, IsColumn, IsVariable, KeepsEquations}

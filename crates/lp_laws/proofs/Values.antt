@@ -2,7 +2,7 @@
 use Rattle.std.proofs.Common.{◌≡◌, ◌≢◌, pos, refl, ap, ◌∙◌, ◌⊎◌, inl, inr, true, false}
 use Rattle.exact_values.specs.Rational.{ℚ, zero_ℚ, ◌+ℚ◌, ◌-ℚ◌, ◌*ℚ◌}
 use Rattle.exact_values.proofs.Ring.{by_ring1, by_ring2, ◌⊕◌, ◌⊖◌, ◌≐◌, number}
-use Rattle.exact_values.proofs.Ring_laws.{zero-add}
+use Rattle.exact_values.proofs.RingLaws.{zero-add}
 use Rattle.exact_values.proofs.Inverse.{zero_product}
 
 pub sub-self : (v : ℚ) → v -ℚ v ≡ zero_ℚ

@@ -8,7 +8,7 @@ use Rattle.std.proofs.Math.Nat.{eq-or-lt_of_le}
 use Rattle.std.proofs.Math.Seq.{drop-cons}
 use Rattle.exact_values.specs.Rational.{ℚ, zero_ℚ}
 use Rattle.exact_values.specs.Tests.{eq_ℚ}
-use Rattle.exact_values.proofs.Tests_laws.{same_from_test, test_from_same, apart_from_eq_fails}
+use Rattle.exact_values.proofs.TestsLaws.{same_from_test, test_from_same, apart_from_eq_fails}
 use Rattle.lp_definitions.specs.LinearProgram.{value_at, numbers_from}
 use Rattle.lp_model.specs.Sparse.{AreNonzeroFrom, no_more, next_nonzero, CoverNonzeroFrom, no_more_listed, next_listed}
 

@@ -3,8 +3,8 @@ use Rattle.std.proofs.Common.{◌≡◌, ◌⊎◌, inl, inr, sym, ◌∙◌, su
 use Rattle.exact_values.specs.Rational.{ℚ, zero_ℚ, neg_ℚ, ◌≤ℚ◌, ◌<ℚ◌}
 use Rattle.exact_values.specs.Tests.{lt_ℚ}
 use Rattle.exact_values.proofs.Order.{lt_or_le, neg-lt-neg, neg-le-neg}
-use Rattle.exact_values.proofs.Ring_laws.{zero-add, add-neg}
-use Rattle.exact_values.proofs.Tests_laws.{test_from_lt, lt_fails_from_le}
+use Rattle.exact_values.proofs.RingLaws.{zero-add, add-neg}
+use Rattle.exact_values.proofs.TestsLaws.{test_from_lt, lt_fails_from_le}
 
 opposite_zero : neg_ℚ zero_ℚ ≡ zero_ℚ
 opposite_zero = sym (zero-add (neg_ℚ zero_ℚ)) ∙ add-neg zero_ℚ

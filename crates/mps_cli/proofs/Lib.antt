@@ -1,5 +1,5 @@
-pub mod Ending_answers
-pub mod May_end
+pub mod EndingAnswers
+pub mod MayEnd
 pub mod Why
 pub mod Reported
 pub mod Truth

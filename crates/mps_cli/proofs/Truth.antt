@@ -26,8 +26,8 @@ use Rattle.command_line.specs.declared.request.WordsStop.TheVariants as stops
 use Rattle.job_program.specs.Stops.{stop_of_words}
 use Rattle.mps_cli.specs.Endings.{EndsWith}
 use Rattle.mps_cli.specs.Asked.{IsAsked, refused, from_source, generated, IsGiven}
-use Rattle.mps_cli.proofs.Ending_answers.{ending_answer}
-use Rattle.mps_cli.proofs.May_end.{answered_too}
+use Rattle.mps_cli.proofs.EndingAnswers.{ending_answer}
+use Rattle.mps_cli.proofs.MayEnd.{answered_too}
 
 -- a run is a function but for the choice to stop with an overflow
 runs_are_functions : IsFunction linear_programming

@@ -1,3 +1,3 @@
 pub mod State
-pub mod Draft_view
+pub mod DraftView
 pub mod Conversion

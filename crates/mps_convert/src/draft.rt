@@ -93,7 +93,7 @@ impl DeckDraft {
     ghost use Rattle.mps_convert.specs.State.{with_data, fault_at, state_with};
     ghost use Rattle.deck_fields.specs.Reported.{ReportsDeckFault};
     ghost use Rattle.deck_fields.specs.Views.{viewed};
-    ghost use Rattle.mps_convert.specs.Draft_view.{problem_view, state_view};
+    ghost use Rattle.mps_convert.specs.DraftView.{problem_view, state_view};
 
     /// A draft after no card, which grows in this memory.
     pub fn new(alloc: Global) -> DeckDraft
@@ -211,7 +211,7 @@ impl DeckDraft {
 }
 
 impl ProblemDraft for DeckDraft {
-    ghost use Rattle.mps_convert.specs.Draft_view.{problem_named};
+    ghost use Rattle.mps_convert.specs.DraftView.{problem_named};
 
     ghost problem_under = { problem_named };
 
@@ -240,7 +240,7 @@ impl Draft for DeckDraft {
     ghost use Rattle.std.specs.Prelude.{◌≡◌};
     ghost use Rattle.deck_definitions.specs.Conversion.{card_fault};
     ghost use Rattle.mps_convert.specs.State.{state_of};
-    ghost use Rattle.mps_convert.specs.Draft_view.{state_view};
+    ghost use Rattle.mps_convert.specs.DraftView.{state_view};
 
     ghost test = { λ _. card_fault };
 

@@ -12,7 +12,7 @@ use Rattle.check_definitions.specs.declared.Verdict.{Verdict}
 use Rattle.check_definitions.specs.declared.Verdict.TheVariants.{Checked, Failed, Unchecked}
 use Rattle.check_definitions.specs.Steps.{comparison, verdict_of}
 use Rattle.check_definitions.specs.Checks.{is_crossed, crossed_check}
-use Rattle.certificate_check.proofs.True_claims.{never_optimal, never_infeasible, never_unbounded}
+use Rattle.certificate_check.proofs.TrueClaims.{never_optimal, never_infeasible, never_unbounded}
 use Rattle.simplex_definitions.specs.Path.{PathEnding, EndsOptimal, EndsCrossed, EndsInfeasible, EndsUnbounded, turn, EndsAt, last_of, RulePathEnds, GoesOnFor, listed}
 use Rattle.simplex_definitions.specs.DualPath.{dual_turn, HasRightPrices, IsWrongAt, DualGoesOnFor}
 use Rattle.simplex_laws.specs.Laws.{IsNonsingularBasis, HasTableau, RuleEndsWithin}

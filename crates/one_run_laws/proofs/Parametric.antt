@@ -2,7 +2,7 @@
 use Rattle.std.proofs.Common.{◌≡◌, ◌⊎◌, inl, inr, ◌≤◌, List, map, length, refl}
 use Rattle.std.specs.Prelude.{None}
 use Rattle.exact_values.specs.Rational.{ℚ}
-use Rattle.exact_values.proofs.Tests_laws.{le_from_lt_fails}
+use Rattle.exact_values.proofs.TestsLaws.{le_from_lt_fails}
 use Rattle.lp_definitions.specs.LinearProgram.{LinearProgram, IsLinearProgram}
 use Rattle.simplex_definitions.specs.Path.{PathEnding, last_of}
 use Rattle.simplex_definitions.specs.Chain.{RunReport, FailedOpening, Chain, IsFailedOpening, IsReport, RunGoesOnFor}

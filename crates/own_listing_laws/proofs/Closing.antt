@@ -10,7 +10,7 @@ use Rattle.exact_values.proofs.Ring.{by_ring1, by_ring2, by_ring3, by_ring4, sam
 use Rattle.exact_values.proofs.Order.{lt_or_le, lt_irrefl, lt_not_le, lt_by_one, zero_below_one, add-le-add, mul-positive, inverse-positive, apart_from_above, le_antisymm}
 use Rattle.exact_values.proofs.Signs.{neg_above}
 use Rattle.exact_values.proofs.Sums.{sum_to-same, sum_to-add, sum_to-mul_left, sum_to-append, sum_to-zero}
-use Rattle.exact_values.proofs.Tests_laws.{test_from_le, test_from_lt}
+use Rattle.exact_values.proofs.TestsLaws.{test_from_le, test_from_lt}
 use Rattle.lp_definitions.specs.LinearProgram.{LinearProgram, Vector, value_at, size, IsRow, IsVariable, IsLinearProgram, lower_of, upper_of, for_min, numbers_from}
 use Rattle.lp_definitions.specs.Solutions.{IsFeasible, IsBest, IsRay, limit_against, ProvesUnbounded}
 use Rattle.lp_laws.proofs.Duality.{infeasible_by_ray, unbounded_by_direction}
@@ -19,7 +19,7 @@ use Rattle.lp_laws.proofs.Rays.{limit_of_positive, limit_of_negative}
 use Rattle.check_definitions.specs.declared.Verdict.{Verdict}
 use Rattle.check_definitions.specs.Steps.{verdict_of, in_turn, sum_steps, sum_of}
 use Rattle.check_definitions.specs.Checks.{feasible_point, equations, free_direction, ray_columns, ray_limits, multiplied, limit_product}
-use Rattle.certificate_check.proofs.True_claims.{never_point, never_equations, never_free, never_columns, never_limits_met}
+use Rattle.certificate_check.proofs.TrueClaims.{never_point, never_equations, never_free, never_columns, never_limits_met}
 use Rattle.certificate_laws.proofs.Meaning.{sum_of_met}
 use Rattle.certificate_laws.proofs.Products.{sum_of-all}
 use Rattle.sensitivity_laws.proofs.MovedLimits.{moved, lower_is, upper_is}

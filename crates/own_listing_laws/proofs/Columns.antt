@@ -5,7 +5,7 @@ use Rattle.std.proofs.lemmas.List.{ext_get_or, map-append}
 use Rattle.std.proofs.lemmas.Bool.Decides.{nat_tests}
 use Rattle.exact_values.specs.Rational.{ℚ, zero_ℚ}
 use Rattle.exact_values.specs.Tests.{eq_ℚ}
-use Rattle.exact_values.proofs.Tests_laws.{same_from_test}
+use Rattle.exact_values.proofs.TestsLaws.{same_from_test}
 use Rattle.lp_definitions.specs.LinearProgram.{Matrix, Vector, value_at, variables, numbers_from, size, IsVariable}
 use Rattle.lp_definitions.specs.Basis.{Tableau, basics_of, price_at}
 use Rattle.lp_laws.proofs.Opening.{numbers_from-append}

@@ -8,7 +8,7 @@ use Rattle.std.proofs.lemmas.Bool.{and_from}
 use Rattle.exact_values.specs.Rational.{ℚ, zero_ℚ, ◌≤ℚ◌, ◌<ℚ◌, compare_ℚ}
 use Rattle.exact_values.proofs.Compare.{lt_from_compare, gt_from_compare}
 use Rattle.exact_values.proofs.Order.{lt_irrefl, le_refl}
-use Rattle.exact_values.proofs.Tests_laws.{test_from_same}
+use Rattle.exact_values.proofs.TestsLaws.{test_from_same}
 use Rattle.lp_definitions.specs.declared.Sense.{Sense}
 use Rattle.lp_definitions.specs.declared.Status.{Status}
 use Rattle.lp_definitions.specs.declared.Status.TheVariants.{Bs, Ll, Ul, Fr}
@@ -18,7 +18,7 @@ use Rattle.lp_laws.proofs.Optimal.{for_min-zero}
 use Rattle.lp_laws.proofs.Uniqueness.{is_in-basics_of}
 use Rattle.check_definitions.specs.Steps.{Step}
 use Rattle.check_definitions.specs.Checks.{is_at, by_sign}
-use Rattle.certificate_check.proofs.True_claims.{NeverFails}
+use Rattle.certificate_check.proofs.TrueClaims.{NeverFails}
 use Rattle.simplex_definitions.specs.Chain.{Part, along, IsPart}
 use Rattle.parametric_laws.specs.Truth.{IsTruePart}
 use Rattle.walk_definitions.specs.Tests.{keeps_limit}

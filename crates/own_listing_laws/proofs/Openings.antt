@@ -6,7 +6,7 @@ use Rattle.exact_values.specs.Rational.{ℚ}
 use Rattle.lp_definitions.specs.LinearProgram.{LinearProgram, lower_of, upper_of, value_at}
 use Rattle.check_definitions.specs.declared.Verdict.{Verdict}
 use Rattle.check_definitions.specs.Steps.{Step, verdict_of, in_turn}
-use Rattle.certificate_check.proofs.True_claims.{NeverFails}
+use Rattle.certificate_check.proofs.TrueClaims.{NeverFails}
 use Rattle.simplex_definitions.specs.Path.{PathEnding, EndsOptimal, EndsCrossed, EndsInfeasible, EndsUnbounded, last_of}
 use Rattle.simplex_definitions.specs.Chain.{IsFailure}
 use Rattle.listing_definitions.specs.Numbers.{rational_text}

@@ -4,7 +4,7 @@ use Rattle.std.proofs.Common.{◌≡◌, ℕ, Bool, true, false, ◌&&◌, ◌||
 use Rattle.exact_values.specs.Rational.{ℚ, ◌≤ℚ◌, ◌<ℚ◌}
 use Rattle.exact_values.specs.Tests.{lt_ℚ, le_ℚ, eq_ℚ}
 use Rattle.exact_values.proofs.Order.{lt_or_le, le_antisymm, le_refl}
-use Rattle.exact_values.proofs.Tests_laws.{test_from_same, test_from_le, test_from_lt}
+use Rattle.exact_values.proofs.TestsLaws.{test_from_same, test_from_le, test_from_lt}
 use Rattle.lp_definitions.specs.LinearProgram.{LinearProgram, Vector, value_at, size, variables, IsLinearProgram}
 use Rattle.lp_definitions.specs.Solutions.{IsBest}
 use Rattle.lp_definitions.specs.Basis.{Tableau}
@@ -12,7 +12,7 @@ use Rattle.lp_definitions.specs.declared.Status.{Status}
 use Rattle.check_definitions.specs.declared.Verdict.{Verdict}
 use Rattle.check_definitions.specs.Steps.{Step, verdict_of, sum_steps}
 use Rattle.check_definitions.specs.Checks.{optimal_check}
-use Rattle.certificate_check.proofs.True_claims.{NeverFails, never_optimal}
+use Rattle.certificate_check.proofs.TrueClaims.{NeverFails, never_optimal}
 use Rattle.sensitivity_laws.proofs.MovedLimits.{fixed_at}
 use Rattle.simplex_definitions.specs.Moves.{stopper}
 use Rattle.simplex_definitions.specs.Path.{listed}

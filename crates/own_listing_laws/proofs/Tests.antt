@@ -12,7 +12,7 @@ use Rattle.exact_values.specs.Sums.{sum_to}
 use Rattle.exact_values.specs.Tests.{eq_ℚ}
 use Rattle.exact_values.proofs.Ring.{by_ring2, ◌⊕◌, ◌⊖◌, ◌≐◌}
 use Rattle.exact_values.proofs.Sums.{sum_to-same}
-use Rattle.exact_values.proofs.Tests_laws.{test_from_same}
+use Rattle.exact_values.proofs.TestsLaws.{test_from_same}
 use Rattle.lp_definitions.specs.LinearProgram.{LinearProgram, Vector, IsLinearProgram, IsColumn, KeepsEquations, value_at, numbers_from, entry, cost, for_min}
 use Rattle.lp_definitions.specs.Solutions.{IsFeasible, IsBest, IsDualCertificate}
 use Rattle.lp_definitions.specs.Basis.{Tableau, IsTableau, basics_of, price_at}
@@ -24,7 +24,7 @@ use Rattle.check_definitions.specs.Steps.{Step, operation, comparison, verdict_o
 use Rattle.check_definitions.specs.Checks.{equations, within_limits, feasible_point, reduced_costs, standing_prices, optimal_check, crossed_check, infeasible_check, unbounded_check}
 use Rattle.check_definitions.proofs.Passing.{verdict-append, checked-append}
 use Rattle.certificate_laws.specs.Parts.{AreReducedCosts}
-use Rattle.certificate_check.proofs.True_claims.{NeverFails, never_equations, never_costs, never_optimal}
+use Rattle.certificate_check.proofs.TrueClaims.{NeverFails, never_equations, never_costs, never_optimal}
 use Rattle.simplex_definitions.specs.Path.{PathEnding, EndsOptimal, EndsCrossed, EndsInfeasible, EndsUnbounded, listed}
 use Rattle.simplex_laws.specs.Laws.{IsNonsingularBasis}
 use Rattle.simplex_laws.proofs.Ends.{value_at-listed, IsFeasible-same}

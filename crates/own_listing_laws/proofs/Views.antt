@@ -2,7 +2,7 @@
 use Rattle.std.proofs.Common.{◌≡◌, ◌≤◌, ℕ, Bool, true, false, List, [], ◌∷◌, ◌++◌, Option, Some, None, Ok, if◌then◌else◌, refl, sym, ap, ap₂, subst, ◌∙◌}
 use Rattle.std.specs.List.{flat_map}
 use Rattle.exact_values.specs.Rational.{ℚ, zero_ℚ}
-use Rattle.exact_values.proofs.Tests_laws.{test_from_same}
+use Rattle.exact_values.proofs.TestsLaws.{test_from_same}
 use Rattle.lp_definitions.specs.LinearProgram.{LinearProgram, value_at, IsLinearProgram, IsVariable}
 use Rattle.lp_definitions.specs.Basis.{Tableau, IsTableau, basics_of, is_in, objective_rate, price_at}
 use Rattle.lp_laws.proofs.Uniqueness.{one_point, one_table}

@@ -4,7 +4,7 @@ use Rattle.std.specs.Prelude.{◌&&◌, ◌||◌}
 use Rattle.exact_values.specs.Rational.{ℚ, zero_ℚ, one_ℚ, neg_ℚ, ◌+ℚ◌, ◌*ℚ◌}
 use Rattle.exact_values.specs.Tests.{eq_ℚ, lt_ℚ}
 use Rattle.exact_values.proofs.Ring.{by_ring2, same_by_one, number, opposite, ◌⊕◌, ◌⊖◌, ◌⊗◌, ◌≐◌}
-use Rattle.exact_values.proofs.Tests_laws.{same_from_test, test_from_same, apart_from_eq_fails, eq_fails_from_apart}
+use Rattle.exact_values.proofs.TestsLaws.{same_from_test, test_from_same, apart_from_eq_fails, eq_fails_from_apart}
 use Rattle.lp_definitions.specs.LinearProgram.{LinearProgram, Vector, size, value_at, IsRow, IsVariable, IsLinearProgram, for_min}
 use Rattle.lp_definitions.specs.Basis.{basics_of, is_in, ArePricesOf, Tableau, IsTableau}
 use Rattle.lp_definitions.specs.declared.Status.{Status}

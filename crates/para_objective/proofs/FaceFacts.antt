@@ -4,7 +4,7 @@ use Rattle.std.specs.Prelude.{Option, Some, None, IsTrue, ◌&&◌, ◌||◌, op
 use Rattle.exact_values.specs.Rational.{ℚ, zero_ℚ}
 use Rattle.exact_values.specs.Tests.{lt_ℚ}
 use Rattle.exact_values.proofs.Order.{le_of_lt, lt_not_le}
-use Rattle.exact_values.proofs.Tests_laws.{lt_from_test}
+use Rattle.exact_values.proofs.TestsLaws.{lt_from_test}
 use Rattle.lp_definitions.specs.LinearProgram.{LinearProgram, Vector, size, value_at, IsRow, IsVariable, HasNoLimits, IsLinearProgram, for_min}
 use Rattle.lp_definitions.specs.Solutions.{IsFeasible}
 use Rattle.lp_definitions.specs.Basis.{basics_of, IsNonbasic, IsDirectionOf, IsOptimalBasis, IsPointOf, Tableau, IsTableau, objective_rate}

@@ -7,7 +7,7 @@ use Rattle.exact_values.specs.Rational.{ℚ, zero_ℚ, one_ℚ, ◌+ℚ◌, ◌-
 use Rattle.exact_values.specs.Tests.{lt_ℚ}
 use Rattle.exact_values.proofs.Order.{le_refl}
 use Rattle.exact_values.proofs.Ring.{same_by_one, by_ring4, by_ring5, ◌⊕◌, ◌⊖◌, ◌⊗◌, ◌≐◌, number}
-use Rattle.exact_values.proofs.Tests_laws.{lt_fails_from_le}
+use Rattle.exact_values.proofs.TestsLaws.{lt_fails_from_le}
 use Rattle.lp_definitions.specs.LinearProgram.{LinearProgram, IsRow, IsVariable, IsLinearProgram, lower_of, upper_of, for_min}
 use Rattle.lp_definitions.specs.Basis.{is_in, basics_of, status_of, with_status, is_basic, exchanged, IsBasic, IsNonbasic, AreRates, IsOptimalBasis, Tableau, IsTableau, objective_rate}
 use Rattle.lp_definitions.specs.declared.Status.{Status}

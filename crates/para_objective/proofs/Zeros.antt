@@ -7,7 +7,7 @@ use Rattle.exact_values.specs.Tests.{lt_ℚ}
 use Rattle.exact_values.proofs.Inverse.{div-mul_cancel}
 use Rattle.exact_values.proofs.Order.{le_by_one, le_of_lt, le_trans, le_refl, lt_from_le}
 use Rattle.exact_values.proofs.Ring.{by_ring3, same_by_one, number, opposite, ◌⊕◌, ◌⊖◌, ◌⊗◌, ◌≐◌}
-use Rattle.exact_values.proofs.Tests_laws.{lt_from_test, test_from_lt, le_from_lt_fails, lt_fails_from_le}
+use Rattle.exact_values.proofs.TestsLaws.{lt_from_test, test_from_lt, le_from_lt_fails, lt_fails_from_le}
 use Rattle.exact_values.proofs.Signs.{neg_below, neg_not_below}
 use Rattle.affine_laws.specs.Conditions.{Holds}
 use Rattle.affine_laws.proofs.Single.{before_zero, holds_before, holds_on, zero_is}

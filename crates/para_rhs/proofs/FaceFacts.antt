@@ -4,7 +4,7 @@ use Rattle.std.specs.Prelude.{Option, Some, None, IsTrue, unwrap_or, ◌&&◌, �
 use Rattle.exact_values.specs.Rational.{ℚ, zero_ℚ, ◌-ℚ◌, ◌/ℚ◌, ◌≤ℚ◌}
 use Rattle.exact_values.specs.Tests.{eq_ℚ, le_ℚ}
 use Rattle.exact_values.proofs.Ring.{by_ring2, ◌⊕◌, ◌⊗◌, ◌≐◌, number}
-use Rattle.exact_values.proofs.Tests_laws.{same_from_test, le_from_test}
+use Rattle.exact_values.proofs.TestsLaws.{same_from_test, le_from_test}
 use Rattle.sensitivity_laws.specs.Changes.{ChangeIsRow, HasRows, IsRightTableau}
 use Rattle.sensitivity_laws.proofs.Tableaus.{by_tableau}
 use Rattle.simplex_definitions.specs.Formulas.{limit_numbered, number_of_limit}

@@ -6,7 +6,7 @@ use Rattle.exact_values.specs.Rational.{ℚ, one_ℚ, ◌+ℚ◌, ◌-ℚ◌, �
 use Rattle.exact_values.specs.Tests.{eq_ℚ, lt_ℚ}
 use Rattle.exact_values.proofs.Order.{le_of_eq, le_of_lt}
 use Rattle.exact_values.proofs.Ring.{by_ring5, same_by_one, number, ◌⊕◌, ◌⊖◌, ◌⊗◌, ◌≐◌}
-use Rattle.exact_values.proofs.Tests_laws.{test_from_lt, lt_fails_from_le, same_from_test, test_from_same, apart_from_eq_fails, eq_fails_from_apart}
+use Rattle.exact_values.proofs.TestsLaws.{test_from_lt, lt_fails_from_le, same_from_test, test_from_same, apart_from_eq_fails, eq_fails_from_apart}
 use Rattle.lp_definitions.specs.Basis.{is_in, basics_of, IsPointOf, Tableau, IsTableau}
 use Rattle.lp_definitions.specs.LinearProgram.{LinearProgram, Vector, size, IsVariable, IsLinearProgram, lower_of, upper_of}
 use Rattle.lp_definitions.specs.declared.Status.{Status}

@@ -6,7 +6,7 @@ use Rattle.exact_values.specs.Rational.{ℚ, zero_ℚ, neg_ℚ, ◌+ℚ◌, ◌-
 use Rattle.exact_values.specs.Tests.{lt_ℚ}
 use Rattle.exact_values.proofs.Order.{le_by_one, lt_by_one, le_of_lt, le_refl, le_antisymm, lt_irrefl}
 use Rattle.exact_values.proofs.Ring.{by_ring1, by_ring2, by_ring4, number, opposite, ◌⊕◌, ◌⊖◌, ◌⊗◌, ◌≐◌}
-use Rattle.exact_values.proofs.Tests_laws.{lt_from_test, le_from_lt_fails}
+use Rattle.exact_values.proofs.TestsLaws.{lt_from_test, le_from_lt_fails}
 use Rattle.exact_values.proofs.Signs.{neg_not_below}
 use Rattle.affine_laws.specs.Conditions.{Condition, Holds}
 use Rattle.affine_laws.specs.Ends.{IsTightened}

@@ -6,7 +6,7 @@ use Rattle.std.proofs.lemmas.Bool.{and_parts}
 use Rattle.exact_values.specs.Rational.{ℚ, zero_ℚ, ◌≤ℚ◌}
 use Rattle.exact_values.specs.Tests.{eq_ℚ, le_ℚ}
 use Rattle.exact_values.proofs.Ring.{by_ring2, ◌⊕◌, ◌⊗◌, ◌≐◌, number}
-use Rattle.exact_values.proofs.Tests_laws.{same_from_test, le_from_test}
+use Rattle.exact_values.proofs.TestsLaws.{same_from_test, le_from_test}
 use Rattle.affine_laws.specs.Conditions.{Condition, AllHold, reach_of}
 use Rattle.lp_definitions.specs.LinearProgram.{LinearProgram, Vector, size, IsVariable, IsLinearProgram, lower_of, upper_of}
 use Rattle.lp_definitions.specs.Basis.{is_in, basics_of, StandsAt, IsBasic, IsNonbasic, IsPointOf, IsOptimalBasis, ArePricesOf, Tableau, IsTableau, price_at}

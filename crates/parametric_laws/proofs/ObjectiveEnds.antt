@@ -7,7 +7,7 @@ use Rattle.exact_values.specs.Rational.{ℚ, zero_ℚ, one_ℚ, neg_ℚ, ◌+ℚ
 use Rattle.exact_values.specs.Tests.{eq_ℚ, lt_ℚ}
 use Rattle.exact_values.proofs.Ring.{by_ring3, by_ring4, same_by_one, ◌⊕◌, ◌⊖◌, ◌⊗◌, ◌≐◌, number, opposite}
 use Rattle.exact_values.proofs.Order.{lt_from_le, lt_by_product}
-use Rattle.exact_values.proofs.Tests_laws.{lt_from_test, le_from_lt_fails, same_from_test}
+use Rattle.exact_values.proofs.TestsLaws.{lt_from_test, le_from_lt_fails, same_from_test}
 use Rattle.exact_values.proofs.Signs.{neg_below}
 use Rattle.lp_definitions.specs.LinearProgram.{LinearProgram, Vector, value_at, IsRow, HasNoLimits, IsLinearProgram, for_min, objective_value}
 use Rattle.lp_definitions.specs.Solutions.{IsFeasible, ProvesUnbounded}

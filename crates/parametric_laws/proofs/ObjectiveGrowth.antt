@@ -6,7 +6,7 @@ use Rattle.exact_values.specs.Rational.{ℚ, zero_ℚ, neg_ℚ, ◌+ℚ◌, ◌*
 use Rattle.exact_values.specs.Tests.{eq_ℚ, lt_ℚ}
 use Rattle.exact_values.proofs.Ring.{by_ring1, by_ring3, ◌⊕◌, ◌⊗◌, ◌≐◌, number, opposite}
 use Rattle.exact_values.proofs.Order.{le_refl, lt_of_lt_of_le, lt_by_one}
-use Rattle.exact_values.proofs.Tests_laws.{test_from_lt, test_from_same}
+use Rattle.exact_values.proofs.TestsLaws.{test_from_lt, test_from_same}
 use Rattle.affine_laws.specs.Conditions.{Condition, EndsAt}
 use Rattle.lp_definitions.specs.LinearProgram.{LinearProgram, Vector, size, IsRow, IsVariable, HasNoLimits, IsLinearProgram, for_min}
 use Rattle.lp_definitions.specs.Basis.{IsOptimalBasis, Tableau, IsTableau, objective_rate}

@@ -7,7 +7,7 @@ use Rattle.exact_values.specs.Rational.{ℚ, zero_ℚ, one_ℚ, ◌+ℚ◌, ◌-
 use Rattle.exact_values.specs.Tests.{eq_ℚ, lt_ℚ}
 use Rattle.exact_values.proofs.Ring.{by_ring4, by_ring5, same_by_one, ◌⊕◌, ◌⊖◌, ◌⊗◌, ◌≐◌, number}
 use Rattle.exact_values.proofs.Order.{lt_by_product}
-use Rattle.exact_values.proofs.Tests_laws.{lt_from_test, same_from_test}
+use Rattle.exact_values.proofs.TestsLaws.{lt_from_test, same_from_test}
 use Rattle.lp_definitions.specs.LinearProgram.{LinearProgram, Vector, value_at, IsVariable, lower_of, upper_of}
 use Rattle.lp_definitions.specs.Solutions.{IsRay}
 use Rattle.lp_definitions.specs.Basis.{is_in, is_basic, basics_of, status_of, StandsAt, IsPointOf, IsFixed, IsRightAt, Tableau, IsTableau}

@@ -6,7 +6,7 @@ use Rattle.exact_values.specs.Rational.{ℚ, one_ℚ, neg_ℚ, ◌+ℚ◌, ◌-�
 use Rattle.exact_values.specs.Tests.{eq_ℚ, lt_ℚ}
 use Rattle.exact_values.proofs.Ring.{by_ring2, by_ring5, same_by_one, ◌⊕◌, ◌⊖◌, ◌⊗◌, ◌≐◌, number, opposite}
 use Rattle.exact_values.proofs.Order.{le_refl, lt_of_lt_of_le, lt_by_one, lt_irrefl}
-use Rattle.exact_values.proofs.Tests_laws.{test_from_lt, test_from_same}
+use Rattle.exact_values.proofs.TestsLaws.{test_from_lt, test_from_same}
 use Rattle.affine_laws.specs.Conditions.{Condition, EndsAt}
 use Rattle.lp_definitions.specs.LinearProgram.{LinearProgram, Vector, value_at, size, IsVariable, IsLinearProgram, lower_of, upper_of}
 use Rattle.lp_definitions.specs.Basis.{is_in, basics_of, IsOptimalBasis, Tableau, IsTableau}

@@ -8,7 +8,7 @@ use Rattle.exact_values.specs.Rational.{ℚ, whole, zero_ℚ, one_ℚ, ◌+ℚ�
 use Rattle.exact_values.proofs.Fractions.{parts_make}
 use Rattle.exact_values.proofs.Inverse.{one_apart}
 use Rattle.exact_values.proofs.Ring.{by_ring3, by_ring4, ◌⊕◌, ◌⊗◌, ◌≐◌}
-use Rattle.exact_values.proofs.Ring_laws.{whole-add, whole-mul}
+use Rattle.exact_values.proofs.RingLaws.{whole-add, whole-mul}
 use Rattle.exact_sums.proofs.Ratios.{over_back}
 use Rattle.lp_definitions.specs.LinearProgram.{size, value_at}
 use Rattle.eta_file.specs.Inverse.{Inverse}

@@ -2,7 +2,7 @@
 use Rattle.std.proofs.Common.{◌≡◌, ℕ, ◌+◌, ◌-◌, ◌<◌, ◌≤◌, List, get_or, refl, sym, ◌∙◌, ap, arith, negsuc}
 use Rattle.exact_values.specs.Rational.{ℚ, whole, zero_ℚ, neg_ℚ, ◌+ℚ◌, ◌*ℚ◌, ◌/ℚ◌}
 use Rattle.exact_values.proofs.Ring.{by_ring2, ◌⊗◌, ◌≐◌}
-use Rattle.exact_values.proofs.Ring_laws.{zero-add, neg-is-mul}
+use Rattle.exact_values.proofs.RingLaws.{zero-add, neg-is-mul}
 use Rattle.lp_definitions.specs.LinearProgram.{size, column, value_at, IsMatrix}
 use Rattle.lp_definitions.specs.Basis.{IsNonsingular}
 use Rattle.lp_definitions.specs.RatesEvidence.{sum_from}

@@ -3,7 +3,7 @@ use Rattle.std.proofs.Common.{◌≡◌, ◌≢◌, ℕ, zero, suc, ◌+◌, ◌
 use Rattle.std.proofs.lemmas.List.{get_or-set_same, get_or-set_other, map-set}
 use Rattle.exact_values.specs.Rational.{ℚ, zero_ℚ, one_ℚ, neg_ℚ, ◌*ℚ◌, ◌/ℚ◌}
 use Rattle.exact_values.proofs.Inverse.{one_apart}
-use Rattle.exact_values.proofs.Ring_laws.{mul-one}
+use Rattle.exact_values.proofs.RingLaws.{mul-one}
 use Rattle.lp_definitions.specs.LinearProgram.{size, IsVariable, value_at}
 use Rattle.lp_definitions.specs.Basis.{IsBasic, IsNonsingular, row_basics}
 use Rattle.lp_definitions.specs.RatesEvidence.{sum_from}

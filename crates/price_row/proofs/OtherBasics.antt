@@ -3,8 +3,8 @@ use Rattle.std.proofs.Common.{◌≡◌, ◌≢◌, ℕ, zero, suc, ◌≤◌, L
 use Rattle.std.specs.Prelude.{nat_eq, not, ◌&&◌}
 use Rattle.exact_values.specs.Rational.{ℚ, zero_ℚ, ◌+ℚ◌, ◌*ℚ◌}
 use Rattle.exact_values.specs.Tests.{eq_ℚ}
-use Rattle.exact_values.proofs.Tests_laws.{same_from_test}
-use Rattle.exact_values.proofs.Ring_laws.{add-zero, mul-zero}
+use Rattle.exact_values.proofs.TestsLaws.{same_from_test}
+use Rattle.exact_values.proofs.RingLaws.{add-zero, mul-zero}
 use Rattle.lp_definitions.specs.LinearProgram.{Vector, numbers_from, value_at}
 use Rattle.lp_definitions.specs.Basis.{Basics, is_in}
 use Rattle.lp_definitions.specs.RatesEvidence.{sum_from}

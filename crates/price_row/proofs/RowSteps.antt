@@ -5,7 +5,7 @@ use Rattle.exact_values.specs.Rational.{ℚ, zero_ℚ, one_ℚ, neg_ℚ, ◌+ℚ
 use Rattle.exact_values.specs.Sums.{sum_to}
 use Rattle.exact_values.proofs.Sums.{sum_to-same}
 use Rattle.exact_values.proofs.Ring.{by_ring1, by_ring2, ◌⊕◌, ◌⊖◌, ◌≐◌, opposite, number}
-use Rattle.exact_values.proofs.Ring_laws.{zero-add}
+use Rattle.exact_values.proofs.RingLaws.{zero-add}
 use Rattle.lp_definitions.specs.LinearProgram.{size, entry, column, IsMatrix, IsVariable, IsColumn, value_at}
 use Rattle.lp_definitions.specs.Basis.{Basics, is_in, IsBasic, IsNonsingular, AreRates, row_basics}
 use Rattle.lp_definitions.specs.RatesEvidence.{multiplier, sum_from}

@@ -10,7 +10,7 @@ use Rattle.exact_values.proofs.Inverse.{inverse-neg}
 use Rattle.exact_values.proofs.Order.{le_of_lt, same_or_not, lt_from_le, lt_or_le, le_by_product, lt_by_product, inverse-positive}
 use Rattle.exact_values.proofs.Ring.{by_ring2, ◌⊕◌, ◌⊖◌, ◌⊗◌, ◌≐◌, number, opposite}
 use Rattle.exact_values.proofs.Signs.{neg_above}
-use Rattle.exact_values.proofs.Tests_laws.{test_from_lt, lt_fails_from_le, sign_from_above, sign_from_below, sign_from_zero}
+use Rattle.exact_values.proofs.TestsLaws.{test_from_lt, lt_fails_from_le, sign_from_above, sign_from_below, sign_from_zero}
 use Rattle.lp_definitions.specs.LinearProgram.{size, Vector, IsVariable, value_at}
 use Rattle.lp_definitions.specs.Basis.{is_in, row_basics}
 use Rattle.lp_model.specs.RatesCalls.{IsRowOf}

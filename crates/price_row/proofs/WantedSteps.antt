@@ -6,8 +6,8 @@ use Rattle.std.proofs.lemmas.List.{get_or-set_same, get_or-set_other}
 use Rattle.exact_values.specs.Rational.{ℚ, zero_ℚ, neg_ℚ}
 use Rattle.exact_values.specs.Tests.{lt_ℚ}
 use Rattle.exact_values.proofs.Order.{le_refl}
-use Rattle.exact_values.proofs.Ring_laws.{zero-add, add-neg}
-use Rattle.exact_values.proofs.Tests_laws.{lt_fails_from_le}
+use Rattle.exact_values.proofs.RingLaws.{zero-add, add-neg}
+use Rattle.exact_values.proofs.TestsLaws.{lt_fails_from_le}
 use Rattle.lp_laws.proofs.Values.{clash}
 use Rattle.lp_definitions.specs.LinearProgram.{size, Vector, IsVariable}
 use Rattle.lp_definitions.specs.Basis.{is_in, row_basics}

@@ -6,7 +6,7 @@ use Rattle.lp_laws.proofs.Values.{clash}
 use Rattle.std.proofs.lemmas.List.{get_or-map, length-map, get_or-set_same, get_or-set_other, get_or_default}
 use Rattle.exact_values.specs.Rational.{ℚ, zero_ℚ, one_ℚ, neg_ℚ, ◌+ℚ◌, ◌*ℚ◌, ◌/ℚ◌, inverse_ℚ}
 use Rattle.exact_values.proofs.Ring.{by_ring2, by_ring3, by_ring4, ◌⊗◌, ◌≐◌, opposite}
-use Rattle.exact_values.proofs.Ring_laws.{zero-mul, add-mul}
+use Rattle.exact_values.proofs.RingLaws.{zero-mul, add-mul}
 use Rattle.exact_values.proofs.Inverse.{div_is, div-mul_cancel, apart-mul, one_apart}
 use Rattle.lp_definitions.specs.LinearProgram.{size, column, value_at, IsMatrix}
 use Rattle.lp_definitions.specs.Basis.{is_in, IsBasic, IsNonsingular, row_basics}

@@ -5,7 +5,7 @@ use Rattle.exact_values.specs.Rational.{ℚ, neg_ℚ, ◌+ℚ◌, ◌-ℚ◌, �
 use Rattle.exact_values.specs.Tests.{lt_ℚ}
 use Rattle.exact_values.proofs.Ring.{by_ring2, by_ring3, opposite as opp, ◌⊕◌, ◌⊖◌, ◌≐◌}
 use Rattle.exact_values.proofs.Order.{le_by_one, le_trans, le_of_lt}
-use Rattle.exact_values.proofs.Tests_laws.{lt_from_test, le_from_lt_fails}
+use Rattle.exact_values.proofs.TestsLaws.{lt_from_test, le_from_lt_fails}
 use Rattle.affine_laws.specs.Ends.{IsBetweenEnds, IsBefore}
 use Rattle.affine_laws.specs.declared.tightening.Endpoint.{Endpoint}
 use Rattle.affine_laws.specs.declared.tightening.Ends.{Ends}

@@ -4,7 +4,7 @@ use Rattle.std.specs.Prelude.{◌↔◌, IfSome, eqb}
 use Rattle.std.proofs.lemmas.Bool.Decides.{eqb_tells}
 use Rattle.exact_values.specs.Rational.{ℚ, one_ℚ, neg_ℚ, ◌+ℚ◌, ◌-ℚ◌, ◌*ℚ◌, ◌/ℚ◌, ◌≤ℚ◌}
 use Rattle.exact_values.proofs.Ring.{by_ring2, number, ◌⊕◌, ◌⊖◌, ◌⊗◌, ◌≐◌}
-use Rattle.exact_values.proofs.Ring_laws.{mul-one}
+use Rattle.exact_values.proofs.RingLaws.{mul-one}
 use Rattle.exact_values.proofs.Inverse.{div_is, one_apart}
 use Rattle.affine_laws.specs.Conditions.{Holds}
 use Rattle.affine_laws.specs.Ends.{IsOnSide, IsBefore, IsBetweenEnds}

@@ -3,7 +3,7 @@ use Rattle.std.specs.Prelude.{eqb}
 use Rattle.std.proofs.Common.{◌≡◌, ◌≢◌, ℕ, ◌⊎◌, inl, inr, refl, sym, ◌∙◌, ap, Bool, true, false, cond, length}
 use Rattle.std.proofs.lemmas.Bool.Decides.{eqb_tells}
 use Rattle.exact_values.specs.Rational.{ℚ, zero_ℚ, one_ℚ, neg_ℚ, inverse_ℚ, ◌+ℚ◌, ◌-ℚ◌, ◌*ℚ◌, ◌/ℚ◌}
-use Rattle.exact_values.proofs.Ring_laws.{mul-one, mul-zero, zero-mul, zero-add, add-zero}
+use Rattle.exact_values.proofs.RingLaws.{mul-one, mul-zero, zero-mul, zero-add, add-zero}
 use Rattle.lp_definitions.specs.LinearProgram.{Matrix, Vector, size, IsVariable}
 use Rattle.lp_definitions.specs.Basis.{Basics, is_in, IsBasic, IsNonbasic, AreRates, exchanged}
 use Rattle.lp_laws.specs.Rates.{exchanged_rate}

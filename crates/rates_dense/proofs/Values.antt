@@ -7,7 +7,7 @@ use Rattle.exact_values.proofs.Inverse.{inverse_apart, div_is, one_apart}
 use Rattle.exact_values.proofs.Compare.{parts_equal, compare_ties, same_from_compare}
 use Rattle.exact_values.proofs.Ring.{by_ring1, ◌≐◌, ◌⊗◌, number, opposite}
 use Rattle.lp_laws.proofs.Values.{no_divisors}
-use Rattle.exact_values.proofs.Ring_laws.{mul_comm, zero-add, zero-mul, add-zero, add-neg}
+use Rattle.exact_values.proofs.RingLaws.{mul_comm, zero-add, zero-mul, add-zero, add-neg}
 
 pub neg_zero : neg_ℚ zero_ℚ ≡ zero_ℚ
 neg_zero = sym (zero-add (neg_ℚ zero_ℚ)) ∙ add-neg zero_ℚ

@@ -1,4 +1,4 @@
 pub mod State
 pub mod Different
-pub mod Draft_view
+pub mod DraftView
 pub mod Revision

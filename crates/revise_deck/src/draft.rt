@@ -46,7 +46,7 @@ impl ReviseDraft {
     ghost use Rattle.revise_edits.specs.Summary.{under_of, with_card_under, edited_by};
     ghost use Rattle.revise_edits.specs.EditTests.{edit_test};
     ghost use Rattle.revise_deck.specs.State.{read_at, data_fault, standing_fault, inner_fault, inner_with, problem_with, fault_at, state_with};
-    ghost use Rattle.revise_deck.specs.Draft_view.{state_view};
+    ghost use Rattle.revise_deck.specs.DraftView.{state_view};
 
     /// A draft after no card, of this problem.
     pub fn new(alloc: Global, problem: NamedProblem) -> ReviseDraft
@@ -234,7 +234,7 @@ impl ReviseDraft {
 }
 
 impl ProblemDraft for ReviseDraft {
-    ghost use Rattle.revise_deck.specs.Draft_view.{problem_named};
+    ghost use Rattle.revise_deck.specs.DraftView.{problem_named};
 
     ghost problem_under = { problem_named };
 
@@ -257,7 +257,7 @@ impl Draft for ReviseDraft {
     ghost use Rattle.std.specs.Prelude.{◌≡◌};
     ghost use Rattle.revise_definitions.specs.Revision.{revise_card_fault};
     ghost use Rattle.revise_deck.specs.State.{state_of};
-    ghost use Rattle.revise_deck.specs.Draft_view.{state_view};
+    ghost use Rattle.revise_deck.specs.DraftView.{state_view};
 
     ghost test = { λ start. revise_card_fault start.problem };
 

@@ -67,7 +67,7 @@ impl Model for Cells {
 
 impl Cells {
     /// The cells and demands at the start of a run, and after INITIALZ.
-    #[tactic(auto, using(exact_values::proofs::Ring_laws::over_one))]
+    #[tactic(auto, using(exact_values::proofs::RingLaws::over_one))]
     pub fn new() -> Cells
         ensures { result ≡ default_cells }
     {

@@ -4,7 +4,7 @@ use Rattle.std.specs.List.{AllByRecursion}
 use Rattle.std.proofs.lemmas.Option.{slice_get_within}
 use Rattle.exact_values.specs.Rational.{ℚ, zero_ℚ, ◌+ℚ◌, ◌*ℚ◌}
 use Rattle.exact_values.specs.Sums.{sum_to}
-use Rattle.exact_values.proofs.Ring_laws.{zero-add, mul-zero, zero-mul, add-mul, mul_assoc}
+use Rattle.exact_values.proofs.RingLaws.{zero-add, mul-zero, zero-mul, add-mul, mul_assoc}
 use Rattle.exact_values.proofs.Sums.{sum_to-same, sum_to-zero, sum_to-add, sum_to-mul_left}
 use Rattle.lp_definitions.specs.LinearProgram.{on_row, entry, Vector, KeepsEquations}
 use Rattle.problem_definitions.specs.Problem.{Row, Entry, Group, Problem}

@@ -4,7 +4,7 @@ use Rattle.std.specs.List.{enumerate_from, filter_map, cons_option, AllByRecursi
 use Rattle.std.proofs.lemmas.Option.{slice_get_within, slice_get-get_or}
 use Rattle.std.proofs.lemmas.Bool.Decides.{eqb_tells}
 use Rattle.exact_values.specs.Rational.{ℚ, zero_ℚ, ◌+ℚ◌, ◌*ℚ◌}
-use Rattle.exact_values.proofs.Ring_laws.{add_assoc, zero-add, add-zero, mul-zero}
+use Rattle.exact_values.proofs.RingLaws.{add_assoc, zero-add, add-zero, mul-zero}
 use Rattle.lp_definitions.specs.declared.Entry.{Entry as Coefficient}
 use Rattle.lp_definitions.specs.LinearProgram.{on_row}
 use Rattle.lp_definitions.specs.RatesEvidence.{sum_from}

@@ -5,7 +5,7 @@ use Rattle.std.proofs.lemmas.Option.{same_Some}
 use Rattle.exact_values.specs.Rational.{ℚ, zero_ℚ, one_ℚ, ◌+ℚ◌, ◌*ℚ◌}
 use Rattle.exact_values.specs.Tests.{eq_ℚ}
 use Rattle.exact_values.proofs.Ring.{by_ring2, by_ring5, same_by_one, ◌⊕◌, ◌⊖◌, ◌⊗◌, ◌≐◌, number}
-use Rattle.exact_values.proofs.Tests_laws.{same_from_test, test_from_same, apart_from_eq_fails, eq_fails_from_apart}
+use Rattle.exact_values.proofs.TestsLaws.{same_from_test, test_from_same, apart_from_eq_fails, eq_fails_from_apart}
 use Rattle.lp_definitions.specs.LinearProgram.{Matrix, LinearProgram, value_at, size, IsRow, IsVariable, HasNoLimits, lower_of, upper_of}
 use Rattle.lp_definitions.specs.Basis.{status_of, IsAllowed, IsBasis, IsFixed}
 use Rattle.lp_definitions.specs.declared.Status.{Status}

@@ -5,7 +5,7 @@ use Rattle.std.proofs.lemmas.Bool.{and_parts, or_parts, not-true}
 use Rattle.exact_values.specs.Rational.{ℚ, zero_ℚ, ◌≤ℚ◌}
 use Rattle.exact_values.specs.Tests.{lt_ℚ, eq_ℚ}
 use Rattle.exact_values.proofs.Order.{le_of_eq}
-use Rattle.exact_values.proofs.Tests_laws.{lt_fails_from_le, le_from_lt_fails, test_from_same}
+use Rattle.exact_values.proofs.TestsLaws.{lt_fails_from_le, le_from_lt_fails, test_from_same}
 use Rattle.lp_definitions.specs.Basis.{IsRightAt}
 use Rattle.lp_definitions.specs.declared.Status.{Status}
 use Rattle.lp_definitions.specs.declared.Status.TheVariants.{Bs, Ll, Ul, Fr}

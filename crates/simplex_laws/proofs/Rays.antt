@@ -7,10 +7,10 @@ use Rattle.divisors.specs.Gcd.{gcd}
 use Rattle.exact_values.specs.Rational.{ℚ, whole, fraction, zero_ℚ, one_ℚ, neg_ℚ, ◌+ℚ◌, ◌*ℚ◌, ◌≤ℚ◌, ◌<ℚ◌}
 use Rattle.exact_values.specs.Tests.{lt_ℚ}
 use Rattle.exact_values.proofs.Ring.{by_ring1, ◌⊗◌, ◌≐◌, number, opposite}
-use Rattle.exact_values.proofs.Ring_laws.{mul-one, mul-zero, mul_assoc}
+use Rattle.exact_values.proofs.RingLaws.{mul-one, mul-zero, mul_assoc}
 use Rattle.exact_values.proofs.Order.{lt_irrefl, le_refl, lt_not_le}
 use Rattle.exact_values.proofs.Sums.{sum_to-same, sum_to-mul_left}
-use Rattle.exact_values.proofs.Tests_laws.{lt_from_test}
+use Rattle.exact_values.proofs.TestsLaws.{lt_from_test}
 use Rattle.exact_values.proofs.Signs.{neg_below, neg_above}
 use Rattle.lp_definitions.specs.LinearProgram.{LinearProgram, Vector, value_at, size, entry, IsVariable, IsColumn, KeepsEquations, lower_of, upper_of}
 use Rattle.lp_definitions.specs.Solutions.{IsRay}

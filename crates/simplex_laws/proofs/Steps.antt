@@ -7,7 +7,7 @@ use Rattle.exact_values.specs.Rational.{ℚ, zero_ℚ, ◌-ℚ◌, ◌/ℚ◌, �
 use Rattle.exact_values.specs.Tests.{lt_ℚ}
 use Rattle.exact_values.proofs.Ring.{by_ring1, ◌≐◌, number, opposite}
 use Rattle.exact_values.proofs.Order.{lt_irrefl}
-use Rattle.exact_values.proofs.Tests_laws.{lt_from_test}
+use Rattle.exact_values.proofs.TestsLaws.{lt_from_test}
 use Rattle.lp_definitions.specs.LinearProgram.{LinearProgram, Vector, IsVariable, lower_of, upper_of}
 use Rattle.lp_definitions.specs.Basis.{AreRates, is_in, basics_of, status_of, with_status, is_basic, IsBasis, IsBasic, IsNonbasic, IsAllowed, IsNonsingular, opening_statuses, Tableau, IsTableau}
 use Rattle.lp_definitions.specs.declared.Status.{Status}

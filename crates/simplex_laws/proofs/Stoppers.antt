@@ -3,7 +3,7 @@ use Rattle.std.proofs.Common.{◌≡◌, ℕ, zero, suc, ◌+◌, ◌<◌, ◌�
 use Rattle.std.specs.Prelude.{Option, Some, None}
 use Rattle.exact_values.specs.Rational.{ℚ, ◌≤ℚ◌}
 use Rattle.exact_values.proofs.Order.{le_refl, le_trans, le_total}
-use Rattle.exact_values.proofs.Tests_laws.{le_from_test, test_from_le}
+use Rattle.exact_values.proofs.TestsLaws.{le_from_test, test_from_le}
 use Rattle.lp_definitions.specs.LinearProgram.{LinearProgram, Vector, IsVariable, size}
 use Rattle.lp_laws.proofs.Values.{clash}
 use Rattle.simplex_definitions.specs.Moves.{is_no_later, reaches_first, step_length, stopper}

@@ -7,7 +7,7 @@ use Rattle.exact_values.specs.Tests.{lt_ℚ}
 use Rattle.exact_values.proofs.Ring.{by_ring2, by_ring3, ◌⊕◌, ◌⊗◌, ◌≐◌, opposite}
 use Rattle.exact_values.proofs.Sums.{sum_to-same, sum_to-neg}
 use Rattle.exact_values.proofs.Order.{le_of_lt, lt_not_le}
-use Rattle.exact_values.proofs.Tests_laws.{lt_from_test, le_from_lt_fails}
+use Rattle.exact_values.proofs.TestsLaws.{lt_from_test, le_from_lt_fails}
 use Rattle.exact_values.proofs.Signs.{neg_below}
 use Rattle.lp_definitions.specs.LinearProgram.{Matrix, LinearProgram, Vector, value_at, size, IsVariable, KeepsEquations, lower_of, upper_of, for_min, entry, combined, with_change_row, objective_value, IsLinearProgram, ChangeIsFree}
 use Rattle.lp_definitions.specs.Solutions.{IsFeasible, IsCrossed, ProvesUnbounded}

@@ -1,10 +1,10 @@
-pub mod Solving_steps
-pub mod Solving_comes
-pub mod Parametric_steps
-pub mod Parametric_comes
-pub mod Parametric_lines
-pub mod Limit_formula
-pub mod Selected_again
+pub mod SolvingSteps
+pub mod SolvingComes
+pub mod ParametricSteps
+pub mod ParametricComes
+pub mod ParametricLines
+pub mod LimitFormula
+pub mod SelectedAgain
 pub mod Demanded
 pub mod Present
 pub mod Keeping

@@ -4,7 +4,7 @@ use Rattle.std.proofs.Common.{◌≡◌, ◌≢◌, ℕ, zero, suc, ◌<◌, Boo
 use Rattle.std.specs.Prelude.{not, if◌then◌else◌}
 use Rattle.exact_values.specs.Rational.{ℚ, zero_ℚ, neg_ℚ, ◌-ℚ◌, ◌*ℚ◌, ◌≤ℚ◌, ◌<ℚ◌}
 use Rattle.exact_values.proofs.Ring.{by_ring2, by_ring3, ◌⊕◌, ◌⊖◌, ◌⊗◌, ◌≐◌, number, opposite}
-use Rattle.exact_values.proofs.Ring_laws.{zero-mul}
+use Rattle.exact_values.proofs.RingLaws.{zero-mul}
 use Rattle.exact_values.proofs.Order.{le_by_one, lt_by_one}
 use Rattle.exact_values.proofs.Sums.{sum_to-only}
 use Rattle.lp_definitions.specs.LinearProgram.{Matrix, LinearProgram, Vector, size, IsVariable, KeepsEquations, lower_of, upper_of, for_min}

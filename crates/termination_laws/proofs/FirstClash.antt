@@ -6,7 +6,7 @@ use Rattle.exact_values.specs.Rational.{zero_ℚ, ◌-ℚ◌, ◌*ℚ◌, ◌≤
 use Rattle.exact_values.specs.Sums.{sum_to}
 use Rattle.exact_values.proofs.Ring.{by_ring2, ◌⊕◌, ◌⊖◌, ◌≐◌, number, opposite}
 use Rattle.exact_values.proofs.Order.{le_of_lt, le_by_one, lt_not_le, le_trans}
-use Rattle.exact_values.proofs.Sums_order.{sum_to-positive}
+use Rattle.exact_values.proofs.SumsOrder.{sum_to-positive}
 use Rattle.lp_definitions.specs.LinearProgram.{LinearProgram, Vector, size, IsVariable, KeepsEquations, lower_of, upper_of}
 use Rattle.lp_definitions.specs.Basis.{is_in, basics_of, status_of, StandsAt, Tableau, IsTableau}
 use Rattle.lp_definitions.specs.declared.Status.{Status}

@@ -5,7 +5,7 @@ use Rattle.std.proofs.lemmas.Bool.Decides.{eqb_tells}
 use Rattle.exact_values.specs.Rational.{ℚ, zero_ℚ, neg_ℚ, ◌*ℚ◌, ◌≤ℚ◌, ◌<ℚ◌}
 use Rattle.exact_values.specs.Sums.{sum_to}
 use Rattle.exact_values.proofs.Ring.{by_ring2, ◌⊕◌, ◌⊖◌, ◌⊗◌, ◌≐◌, number, opposite}
-use Rattle.exact_values.proofs.Ring_laws.{zero-mul, mul-zero}
+use Rattle.exact_values.proofs.RingLaws.{zero-mul, mul-zero}
 use Rattle.exact_values.proofs.Order.{le_of_eq, le_total, lt_from_le, le_by_product, same_or_not}
 use Rattle.exact_values.proofs.Sums.{sum_to-same, sum_to-neg}
 use Rattle.lp_definitions.specs.LinearProgram.{numbers_from, for_min}

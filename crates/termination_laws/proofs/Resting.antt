@@ -6,8 +6,8 @@ use Rattle.std.proofs.lemmas.Option.{same_Some}
 use Rattle.exact_values.specs.Rational.{ℚ, zero_ℚ, ◌-ℚ◌, ◌*ℚ◌, ◌/ℚ◌, ◌≤ℚ◌, ◌<ℚ◌}
 use Rattle.exact_values.specs.Tests.{lt_ℚ, eq_ℚ}
 use Rattle.exact_values.proofs.Ring.{by_ring2, by_ring3, ◌⊕◌, ◌⊖◌, ◌⊗◌, ◌≐◌, number}
-use Rattle.exact_values.proofs.Ring_laws.{zero-mul}
-use Rattle.exact_values.proofs.Tests_laws.{apart_from_eq_fails, lt_from_test, le_from_lt_fails}
+use Rattle.exact_values.proofs.RingLaws.{zero-mul}
+use Rattle.exact_values.proofs.TestsLaws.{apart_from_eq_fails, lt_from_test, le_from_lt_fails}
 use Rattle.exact_values.proofs.Inverse.{div-mul_cancel, div_is}
 use Rattle.exact_values.proofs.Order.{le_of_lt, lt_irrefl, lt_not_le, lt_by_product, le_antisymm, apart_from_above, apart_from_below}
 use Rattle.lp_definitions.specs.Basis.{is_basic, IsAllowed, StandsAt, IsRightAt}

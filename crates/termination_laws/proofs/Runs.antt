@@ -5,7 +5,7 @@ use Rattle.exact_values.specs.Rational.{ℚ, zero_ℚ, one_ℚ, ◌≤ℚ◌, �
 use Rattle.exact_values.specs.Tests.{lt_ℚ}
 use Rattle.exact_values.proofs.Ring.{by_ring3, ◌⊕◌, ◌⊖◌, ◌⊗◌, ◌≐◌, number}
 use Rattle.exact_values.proofs.Order.{le_of_lt, le_by_product, lt_not_le, lt_from_le, lt_by_product, same_or_not, zero_below_one}
-use Rattle.exact_values.proofs.Tests_laws.{lt_from_test, le_from_lt_fails}
+use Rattle.exact_values.proofs.TestsLaws.{lt_from_test, le_from_lt_fails}
 use Rattle.exact_values.proofs.Signs.{neg_below}
 use Rattle.lp_definitions.specs.LinearProgram.{LinearProgram, Vector, IsVariable, lower_of, upper_of, for_min, objective_value, size}
 use Rattle.lp_definitions.specs.Solutions.{IsFeasible}

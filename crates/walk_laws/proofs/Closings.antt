@@ -2,7 +2,7 @@
 use Rattle.std.proofs.Common.{◌≡◌, ℕ, List, [], ◌∷◌, sym, ◌∙◌, subst, map}
 use Rattle.exact_values.specs.Rational.{ℚ, zero_ℚ, ◌+ℚ◌, ◌*ℚ◌, ◌≤ℚ◌, ◌<ℚ◌}
 use Rattle.exact_values.specs.Tests.{lt_ℚ, le_ℚ, eq_ℚ}
-use Rattle.exact_values.proofs.Tests_laws.{same_from_test, lt_from_test, le_from_test}
+use Rattle.exact_values.proofs.TestsLaws.{same_from_test, lt_from_test, le_from_test}
 use Rattle.lp_definitions.specs.LinearProgram.{LinearProgram, Vector, value_at, IsLinearProgram, for_min}
 use Rattle.check_definitions.specs.declared.Verdict.{Verdict}
 use Rattle.check_definitions.specs.declared.Verdict.TheVariants.{Checked, Failed}

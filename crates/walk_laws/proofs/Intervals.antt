@@ -8,7 +8,7 @@ use mathlib.Core.Logic.{inl, inr}
 use Rattle.exact_values.specs.Rational.{ℚ, zero_ℚ, ◌≤ℚ◌, ◌<ℚ◌, compare_ℚ}
 use Rattle.exact_values.specs.Tests.{lt_ℚ, le_ℚ, eq_ℚ}
 use Rattle.exact_values.proofs.Compare.{lt_from_compare, same_from_compare, compare_from_lt}
-use Rattle.exact_values.proofs.Tests_laws.{same_from_test, lt_from_test, le_from_test}
+use Rattle.exact_values.proofs.TestsLaws.{same_from_test, lt_from_test, le_from_test}
 use Rattle.exact_values.proofs.Order.{lt_not_le, le_of_lt, le_refl, apart_from_above}
 use Rattle.lp_definitions.specs.LinearProgram.{LinearProgram, Vector, size, IsVariable, IsLinearProgram, lower_of, upper_of, for_min}
 use Rattle.check_definitions.specs.declared.Verdict.TheVariants.{Checked}

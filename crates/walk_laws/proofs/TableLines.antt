@@ -5,7 +5,7 @@ use Rattle.std.proofs.lemmas.Bool.Decides.{nat_tests}
 use mathlib.Core.Logic.{inl, inr}
 use Rattle.exact_values.specs.Rational.{ℚ, zero_ℚ}
 use Rattle.exact_values.specs.Tests.{eq_ℚ}
-use Rattle.exact_values.proofs.Tests_laws.{test_from_same}
+use Rattle.exact_values.proofs.TestsLaws.{test_from_same}
 use Rattle.lp_definitions.specs.LinearProgram.{Vector, value_at, size, numbers_from, variables}
 use Rattle.simplex_laws.proofs.Ends.{value_at-listed}
 use Rattle.listing_definitions.specs.Report.{Value, Number, Line}

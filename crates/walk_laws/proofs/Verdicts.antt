@@ -2,7 +2,7 @@
 use Rattle.std.proofs.Common.{◌≡◌, ℕ, List, [], ◌∷◌, Option, None, sym, ap, ◌∙◌, subst}
 use Rattle.exact_values.specs.Rational.{ℚ}
 use Rattle.exact_values.specs.Tests.{eq_ℚ}
-use Rattle.exact_values.proofs.Tests_laws.{same_from_test}
+use Rattle.exact_values.proofs.TestsLaws.{same_from_test}
 use Rattle.lp_definitions.specs.LinearProgram.{Vector, value_at, with_change_row, IsVariable, IsLinearProgram}
 use Rattle.lp_definitions.specs.Solutions.{IsCrossed, IsInfeasible, IsUnbounded}
 use Rattle.lp_laws.proofs.Duality.{infeasible_by_crossed, infeasible_by_ray, unbounded_by_direction}

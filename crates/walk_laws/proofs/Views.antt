@@ -3,7 +3,7 @@ use Rattle.std.proofs.Common.{◌≡◌, ℕ, Bool, true, false, List, [], ◌�
 use Rattle.std.specs.Prelude.{All, Option, Some, None, Ok, if◌then◌else◌}
 use Rattle.exact_values.specs.Rational.{ℚ}
 use Rattle.exact_values.specs.Tests.{eq_ℚ}
-use Rattle.exact_values.proofs.Tests_laws.{same_from_test}
+use Rattle.exact_values.proofs.TestsLaws.{same_from_test}
 use Rattle.lp_definitions.specs.LinearProgram.{LinearProgram}
 use Rattle.parametric_laws.specs.Truth.{IsBestBy}
 use Rattle.selection_definitions.specs.Selection.{selected}

@@ -5,7 +5,7 @@ use Rattle.std.proofs.lemmas.Int.{ints}
 use Rattle.std.proofs.lemmas.List.{get_or_default, get_or-set_other, length-map, length-set, length-replicate, map-set}
 use Rattle.exact_values.specs.Rational.{ℚ, whole, zero_ℚ, inverse_ℚ, ◌*ℚ◌, ◌/ℚ◌}
 use Rattle.exact_values.proofs.Inverse.{div_is, whole_numerator, numerator_of_zero}
-use Rattle.exact_values.proofs.Ring_laws.{whole-mul, zero-mul}
+use Rattle.exact_values.proofs.RingLaws.{whole-mul, zero-mul}
 use Rattle.lp_definitions.specs.LinearProgram.{value_at}
 use Rattle.whole_vectors.specs.Quotients.{AreProducts, AreQuotients}
 use Rattle.whole_vectors.specs.Words.{wholes}

@@ -9,7 +9,7 @@ use Rattle.frac128.specs.declared.Refused.{Refused}
 use Rattle.exact_values.specs.Rational.{ℚ, whole, fraction, zero_ℚ, inverse_ℚ, compare_ℚ, ◌*ℚ◌, ◌/ℚ◌}
 use Rattle.exact_values.proofs.Ring.{by_ring3, ◌⊗◌, ◌≐◌}
 use Rattle.exact_values.proofs.Fractions.{is_ratio, mul_ratio, fraction_ratio, same_from_ratio}
-use Rattle.exact_values.proofs.Ring_laws.{zero-mul, whole_ratio}
+use Rattle.exact_values.proofs.RingLaws.{zero-mul, whole_ratio}
 use Rattle.exact_values.proofs.Inverse.{div_is, apart-mul, inverse_apart, same_quotients, whole_numerator, numerator_of_zero}
 use Rattle.exact_values.proofs.Compare.{parts_equal, compare_ties, same_from_compare}
 use Rattle.lp_definitions.specs.LinearProgram.{value_at}

@@ -9,7 +9,7 @@ use Rattle.std.proofs.lemmas.Nat.{mul-le}
 use Rattle.exact_values.specs.Rational.{ℚ, whole, ◌+ℚ◌, ◌*ℚ◌}
 use Rattle.exact_values.proofs.Fractions.{is_ratio, same_from_ratio}
 use Rattle.exact_values.proofs.Ring.{by_ring3, ◌⊗◌, ◌≐◌}
-use Rattle.exact_values.proofs.Ring_laws.{zero-add, mul-one, whole_ratio, whole-add, whole-mul}
+use Rattle.exact_values.proofs.RingLaws.{zero-add, mul-one, whole_ratio, whole-add, whole-mul}
 use Rattle.frac128.specs.Terms.{Fits}
 use Rattle.frac128.proofs.Parts.{read, read_fitting, word_product}
 

@@ -3,7 +3,7 @@ use Rattle.lp_definitions.specs.Solutions.{IsCrossed}
 use Rattle.lp_laws.proofs.Duality.{infeasible_by_crossed}
 use Rattle.check_definitions.specs.declared.Verdict.TheVariants.{Checked}
 use Rattle.check_definitions.specs.Checks.{crossed_check}
-use Rattle.certificate_check.proofs.True_claims.{crossed_holds}
+use Rattle.certificate_check.proofs.TrueClaims.{crossed_holds}
 use Rattle.certificate_check.proofs.Meaning.{crossed_if_checked}
 use Rattle.certificate_check.proofs.check_crossed.Goals as goal
 use Rattle.certificate_check.proofs.check_crossed.Goals.{After-verdict}

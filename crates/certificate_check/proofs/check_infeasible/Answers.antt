@@ -3,7 +3,7 @@ use Rattle.lp_definitions.specs.LinearProgram.{value_at}
 use Rattle.lp_definitions.specs.Solutions.{IsRay}
 use Rattle.lp_laws.proofs.Duality.{infeasible_by_ray}
 use Rattle.check_definitions.specs.declared.Verdict.TheVariants.{Checked}
-use Rattle.certificate_check.proofs.True_claims.{never_infeasible}
+use Rattle.certificate_check.proofs.TrueClaims.{never_infeasible}
 use Rattle.certificate_check.proofs.Meaning.{infeasible_ray_if_checked}
 use Rattle.certificate_check.proofs.check_infeasible.Goals as goal
 use Rattle.certificate_check.proofs.check_infeasible.Goals.{After-verdict}

@@ -3,7 +3,7 @@ use Rattle.lp_definitions.specs.LinearProgram.{value_at}
 use Rattle.lp_definitions.specs.Solutions.{IsFeasible, IsDualCertificate}
 use Rattle.lp_laws.proofs.Duality.{best_by_prices}
 use Rattle.check_definitions.specs.declared.Verdict.TheVariants.{Checked}
-use Rattle.certificate_check.proofs.True_claims.{never_optimal}
+use Rattle.certificate_check.proofs.TrueClaims.{never_optimal}
 use Rattle.certificate_check.proofs.Meaning.{optimal_if_checked}
 use Rattle.certificate_check.proofs.check_optimal.Goals as goal
 use Rattle.certificate_check.proofs.check_optimal.Goals.{After-verdict}

@@ -3,7 +3,7 @@ use Rattle.lp_definitions.specs.LinearProgram.{value_at}
 use Rattle.lp_definitions.specs.Solutions.{ProvesUnbounded}
 use Rattle.lp_laws.proofs.Duality.{unbounded_by_direction}
 use Rattle.check_definitions.specs.declared.Verdict.TheVariants.{Checked}
-use Rattle.certificate_check.proofs.True_claims.{never_unbounded}
+use Rattle.certificate_check.proofs.TrueClaims.{never_unbounded}
 use Rattle.certificate_check.proofs.Meaning.{unbounded_if_checked}
 use Rattle.certificate_check.proofs.check_unbounded.Goals as goal
 use Rattle.certificate_check.proofs.check_unbounded.Goals.{After-verdict}

@@ -1,7 +1,7 @@
 use Rattle.std.proofs.Common.{◌≡◌, sym, ◌∙◌}
 use Rattle.std.specs.Prelude.{not}
 use Rattle.exact_values.specs.Tests.{le_ℚ}
-use Rattle.exact_values.proofs.Tests_laws.{le_from_test, test_from_le}
+use Rattle.exact_values.proofs.TestsLaws.{le_from_test, test_from_le}
 use Rattle.affine_laws.proofs.tightening.is_at_most.Goals as goal
 
 pub returns : goal.returns

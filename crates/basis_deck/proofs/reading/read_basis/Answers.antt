@@ -2,7 +2,7 @@ use Rattle.std.proofs.Common.{Ok, sym, ap, ◌∙◌}
 use Rattle.std.proofs.lemmas.Result.{err_from_is_err_and}
 use Rattle.card_definitions.specs.Cards.{cards_between}
 use Rattle.basis_deck_laws.proofs.Lawful.{lawful}
-use Rattle.basis_deck.specs.Draft_view.{state_view}
+use Rattle.basis_deck.specs.DraftView.{state_view}
 use Rattle.basis_deck.proofs.Begun.{faulty, gives}
 use Rattle.basis_deck.proofs.reading.read_basis.Goals as goal
 

@@ -3,7 +3,7 @@ use Rattle.std.specs.Ordering.{is_eq}
 use Rattle.exact_values.specs.Rational.{ℚ, one_ℚ, compare_ℚ}
 use Rattle.exact_values.specs.Tests.{eq_ℚ}
 use Rattle.exact_values.proofs.Compare.{compare_from_same, compare_ties}
-use Rattle.exact_values.proofs.Tests_laws.{same_from_test}
+use Rattle.exact_values.proofs.TestsLaws.{same_from_test}
 use Rattle.basis_values.proofs.formula.is_one.Goals as goal
 
 pub returns : goal.returns

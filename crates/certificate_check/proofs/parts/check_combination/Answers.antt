@@ -1,7 +1,7 @@
 use Rattle.std.proofs.Common.{◌∙◌, sym}
 use Rattle.lp_definitions.specs.LinearProgram.{value_at}
 use Rattle.certificate_check.proofs.Meaning.{vanishes_if_checked}
-use Rattle.certificate_check.proofs.True_claims.{never_columns}
+use Rattle.certificate_check.proofs.TrueClaims.{never_columns}
 use Rattle.certificate_check.proofs.parts.check_combination.Goals as goal
 
 pub returns-clause-vanishes : goal.returns-clause-vanishes

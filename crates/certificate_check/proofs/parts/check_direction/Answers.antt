@@ -1,7 +1,7 @@
 use Rattle.std.proofs.Common.{◌∙◌, sym}
 use Rattle.lp_definitions.specs.LinearProgram.{value_at}
 use Rattle.certificate_check.proofs.Meaning.{keeps_if_checked}
-use Rattle.certificate_check.proofs.True_claims.{never_equations}
+use Rattle.certificate_check.proofs.TrueClaims.{never_equations}
 use Rattle.certificate_check.proofs.parts.check_direction.Goals as goal
 
 pub returns-clause-keeps : goal.returns-clause-keeps

@@ -1,7 +1,7 @@
 use Rattle.std.proofs.Common.{◌∙◌, sym}
 use Rattle.lp_definitions.specs.LinearProgram.{value_at}
 use Rattle.certificate_check.proofs.Meaning.{free_if_checked}
-use Rattle.certificate_check.proofs.True_claims.{never_free}
+use Rattle.certificate_check.proofs.TrueClaims.{never_free}
 use Rattle.certificate_check.proofs.parts.check_direction_limits.Goals as goal
 
 pub returns-clause-free : goal.returns-clause-free

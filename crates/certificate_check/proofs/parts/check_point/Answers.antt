@@ -1,7 +1,7 @@
 use Rattle.std.proofs.Common.{◌∙◌, sym}
 use Rattle.lp_definitions.specs.LinearProgram.{value_at}
 use Rattle.certificate_check.proofs.Meaning.{feasible_if_checked}
-use Rattle.certificate_check.proofs.True_claims.{never_point}
+use Rattle.certificate_check.proofs.TrueClaims.{never_point}
 use Rattle.certificate_check.proofs.parts.check_point.Goals as goal
 
 pub returns-clause-feasible : goal.returns-clause-feasible

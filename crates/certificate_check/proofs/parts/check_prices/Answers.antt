@@ -1,7 +1,7 @@
 use Rattle.std.proofs.Common.{◌∙◌, sym}
 use Rattle.lp_definitions.specs.LinearProgram.{value_at}
 use Rattle.certificate_check.proofs.Meaning.{reduced_if_checked}
-use Rattle.certificate_check.proofs.True_claims.{never_costs}
+use Rattle.certificate_check.proofs.TrueClaims.{never_costs}
 use Rattle.certificate_check.proofs.parts.check_prices.Goals as goal
 
 pub returns-clause-reduced : goal.returns-clause-reduced

@@ -1,7 +1,7 @@
 use Rattle.std.proofs.Common.{◌∙◌, sym}
 use Rattle.lp_definitions.specs.LinearProgram.{value_at}
 use Rattle.certificate_check.proofs.Meaning.{meets_if_checked}
-use Rattle.certificate_check.proofs.True_claims.{never_limits_met}
+use Rattle.certificate_check.proofs.TrueClaims.{never_limits_met}
 use Rattle.certificate_check.proofs.parts.check_ray_limits.Goals as goal
 
 pub returns-clause-meets : goal.returns-clause-meets

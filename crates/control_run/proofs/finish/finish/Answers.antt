@@ -1,6 +1,6 @@
 use Rattle.run_machine.specs.Ends.{end_view}
 use Rattle.report_text.specs.Views.{ending_view}
-use Rattle.control_run.proofs.Ending_lines.{lines_cut}
+use Rattle.control_run.proofs.EndingLines.{lines_cut}
 use Rattle.control_run.proofs.finish.finish.Goals as goal
 
 pub returns-in-Err-clause-finishes : goal.returns-in-Err-clause-finishes

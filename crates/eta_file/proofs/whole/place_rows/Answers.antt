@@ -2,7 +2,7 @@ use Rattle.std.proofs.Common.{rules, ◌≡◌, ◌≤◌, ◌∙◌, sym, ap, l
 use Rattle.std.specs.Int.{w128}
 use Rattle.std.proofs.lemmas.Int.{to_z-of_z}
 use Rattle.exact_values.specs.Rational.{ℚ, whole, ◌*ℚ◌}
-use Rattle.exact_values.proofs.Ring_laws.{zero-mul}
+use Rattle.exact_values.proofs.RingLaws.{zero-mul}
 use Rattle.lp_definitions.specs.LinearProgram.{value_at}
 use Rattle.lp_definitions.specs.declared.Entry.{Entry}
 use Rattle.eta_file.specs.Entries.{IsRowWithin}

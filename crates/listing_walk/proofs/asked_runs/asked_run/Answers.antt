@@ -2,7 +2,7 @@ use Rattle.std.proofs.Common.{refl}
 use Rattle.parametric_request.specs.Asking.{changing_of}
 use Rattle.parametric_request.proofs.Asked.{not_asked, changes_from, no_change_from}
 use Rattle.listing_walk.specs.ParametricVerbs.{beginning}
-use Rattle.listing_walk.proofs.Parametric_held.{unasked_by_last}
+use Rattle.listing_walk.proofs.ParametricHeld.{unasked_by_last}
 use Rattle.listing_walk.proofs.asked_runs.asked_run.Goals as goal
 
 pub returns-in-Err-clause-refused : goal.returns-in-Err-clause-refused

@@ -2,7 +2,7 @@
 use Rattle.std.proofs.Common.{sym, subst}
 use Rattle.control_verbs.specs.Views.{viewed}
 use Rattle.listing_walk.specs.Parameter.{IsNoRun}
-use Rattle.listing_walk.proofs.Held_walks.{walks_held}
+use Rattle.listing_walk.proofs.HeldWalks.{walks_held}
 use Rattle.listing_walk.proofs.execute.execute_apart.Goals as goal
 
 pub execute-requires-clause-no_run : goal.execute-requires-clause-no_run

@@ -5,7 +5,7 @@ use Rattle.control_definitions.specs.Program.{Verb}
 use Rattle.listing_walk.specs.Parameter.{IsNoRun}
 use Rattle.listing_walk.specs.Standing.{holding}
 use Rattle.listing_walk.specs.Walking.{Walks}
-use Rattle.listing_walk.proofs.Held_walks.{run_verb, walks_set}
+use Rattle.listing_walk.proofs.HeldWalks.{run_verb, walks_set}
 use Rattle.listing_walk.proofs.execute.execute_with.Goals as goal
 
 pub returns-in-Reads-clause-walks : goal.returns-in-Reads-clause-walks

@@ -1,4 +1,4 @@
-use Rattle.listing_walk.proofs.Follow_on.{finished_next, finished_jump}
+use Rattle.listing_walk.proofs.FollowOn.{finished_next, finished_jump}
 use Rattle.listing_walk.proofs.follow.finish.Goals as goal
 
 pub returns-in-Next-clause-finishes : goal.returns-in-Next-clause-finishes

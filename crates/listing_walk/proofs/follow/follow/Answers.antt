@@ -7,7 +7,7 @@ use Rattle.run_machine.specs.declared.machine.Machine.{Machine}
 use Rattle.listing_walk.specs.declared.chosen.Chosen.{Chosen}
 use Rattle.listing_walk.specs.Standing.{holding}
 use Rattle.listing_walk.specs.Walking.{has_text, ends_run}
-use Rattle.listing_walk.proofs.Follow_on.{is_none_by, passes_open_by, passes_wrong_by, passes_on_by}
+use Rattle.listing_walk.proofs.FollowOn.{is_none_by, passes_open_by, passes_wrong_by, passes_on_by}
 use Rattle.listing_walk.proofs.follow.follow.Goals.{After-open_here, then-ends, else-ends, then-ends-2, else-ends-2}
 use Rattle.listing_walk.proofs.follow.follow.Goals as goal
 

@@ -4,7 +4,7 @@ use Rattle.card_definitions.specs.Cards.{cards_between}
 use Rattle.basis_deck.specs.Reading.{Refuses}
 use Rattle.run_definitions.specs.State.{choice_of}
 use Rattle.listing_walk.proofs.Selected.{as_many_rows, as_many_columns}
-use Rattle.listing_walk.proofs.Insert_walks.{taken_by, line_by, due_by, kept_of, kept_names, insert_no_setup, insert_refused, insert_no_deck, insert_bad_deck, insert_due}
+use Rattle.listing_walk.proofs.InsertWalks.{taken_by, line_by, due_by, kept_of, kept_names, insert_no_setup, insert_refused, insert_no_deck, insert_bad_deck, insert_due}
 use Rattle.listing_walk.proofs.inserting.insert.Goals as goal
 
 pub returns-in_default-clause-walks : goal.returns-in_default-clause-walks

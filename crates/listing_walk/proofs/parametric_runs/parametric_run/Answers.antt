@@ -7,8 +7,8 @@ use Rattle.listing_definitions.specs.Numbers.{rational_text}
 use Rattle.listing_walk.specs.ParametricVerbs.{left_by}
 use Rattle.listing_walk.specs.Standing.{holding}
 use Rattle.listing_walk.proofs.Selected.{as_many_rows, as_many_columns, no_change}
-use Rattle.listing_walk.proofs.Parametric_walks.{serves_change, left_so, parametric_long_sound, parametric_sound}
-use Rattle.listing_walk.proofs.Parametric_held.{held_no_setup, held_refused, held_unasked, held_stopped, held_ended, held_long}
+use Rattle.listing_walk.proofs.ParametricWalks.{serves_change, left_so, parametric_long_sound, parametric_sound}
+use Rattle.listing_walk.proofs.ParametricHeld.{held_no_setup, held_refused, held_unasked, held_stopped, held_ended, held_long}
 use Rattle.listing_walk.proofs.parametric_runs.parametric_run.Goals as goal
 
 pub returns-in_default-clause-walks : goal.returns-in_default-clause-walks

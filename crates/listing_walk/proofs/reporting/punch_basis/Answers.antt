@@ -1,7 +1,7 @@
 -- PUNCH, by what is selected.
 use Rattle.std.proofs.Common.{sym, ◌∙◌}
 use Rattle.walk_definitions.specs.Forms.{is_punched}
-use Rattle.listing_walk.proofs.Reported_walks.{punch_no_setup, punch_found, punch_refused}
+use Rattle.listing_walk.proofs.ReportedWalks.{punch_no_setup, punch_found, punch_refused}
 use Rattle.listing_walk.proofs.reporting.punch_basis.Goals as goal
 
 pub returns-in_default-clause-walks : goal.returns-in_default-clause-walks

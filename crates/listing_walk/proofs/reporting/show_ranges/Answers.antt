@@ -1,7 +1,7 @@
 -- RANGE, by what is solved.
 use Rattle.std.proofs.Common.{sym, ap, ◌∙◌}
 use Rattle.walk_definitions.specs.Forms.{is_ranges}
-use Rattle.listing_walk.proofs.Reported_walks.{ranges_no_setup, ranges_not_solved, ranges_not_optimal, ranges_found}
+use Rattle.listing_walk.proofs.ReportedWalks.{ranges_no_setup, ranges_not_solved, ranges_not_optimal, ranges_found}
 use Rattle.listing_walk.proofs.reporting.show_ranges.Goals as goal
 
 pub returns-in_default-clause-walks : goal.returns-in_default-clause-walks

@@ -2,7 +2,7 @@ use Rattle.std.proofs.Common.{Option, None, Some, sym, ap, ◌∙◌}
 use Rattle.problem_definitions.specs.Names.{Name}
 use Rattle.run_machine.specs.Standing.{named}
 use Rattle.listing_walk.specs.Choosing.{no_problem, not_selected}
-use Rattle.listing_walk.proofs.Setting_up.{filed_by, filed_none}
+use Rattle.listing_walk.proofs.SettingUp.{filed_by, filed_none}
 use Rattle.listing_walk.proofs.setup.choose.Goals as goal
 
 pub returns-in_default-clause-refused : goal.returns-in_default-clause-refused

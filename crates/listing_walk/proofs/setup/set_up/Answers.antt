@@ -1,7 +1,7 @@
 -- SETUP by what was chosen.
 use Rattle.std.proofs.Common.{◌∙◌}
 use Rattle.control_verbs.specs.Views.{options_view}
-use Rattle.listing_walk.proofs.Setting_up.{setup_done_by, setup_faulted_by, setup_unchecked}
+use Rattle.listing_walk.proofs.SettingUp.{setup_done_by, setup_faulted_by, setup_unchecked}
 use Rattle.listing_walk.proofs.setup.set_up.Goals as goal
 
 pub returns-in_ok-text-in-Ok-clause-walks : goal.returns-in_ok-text-in-Ok-clause-walks

@@ -2,7 +2,7 @@
 use Rattle.std.proofs.Common.{sym}
 use Rattle.run_definitions.specs.State.{choice_of}
 use Rattle.listing_walk.proofs.Selected.{as_many_rows, as_many_columns, no_change}
-use Rattle.listing_walk.proofs.Views_walks.{solution_no_setup, solution_not_solved, solution_view, solution_stopped, selected_now}
+use Rattle.listing_walk.proofs.ViewsWalks.{solution_no_setup, solution_not_solved, solution_view, solution_stopped, selected_now}
 use Rattle.listing_walk.proofs.solution.show_solution.Goals as goal
 
 pub returns-in_default-clause-walks : goal.returns-in_default-clause-walks

@@ -6,7 +6,7 @@ use Rattle.run_machine.specs.declared.machine.Machine.{Machine}
 use Rattle.run_machine.specs.Findings.{act_of}
 use Rattle.listing_walk.specs.declared.chosen.Chosen.{Chosen}
 use Rattle.listing_walk.proofs.Selected.{as_many_rows, as_many_columns, no_change}
-use Rattle.listing_walk.proofs.Verdict_walks.{solving_no_setup, solving_refused, solving_stopped_by, solving_ended, solving_sound}
+use Rattle.listing_walk.proofs.VerdictWalks.{solving_no_setup, solving_refused, solving_stopped_by, solving_ended, solving_sound}
 use Rattle.listing_walk.proofs.solving.solve.Goals as goal
 
 pub returns-in_default-clause-walks : goal.returns-in_default-clause-walks

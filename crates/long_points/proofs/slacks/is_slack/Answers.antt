@@ -2,7 +2,7 @@ use Rattle.std.proofs.Common.{ap, ◌∙◌}
 use Rattle.exact_values.specs.Rational.{whole, ◌-ℚ◌, ◌*ℚ◌}
 use Rattle.exact_values.specs.Tests.{is_equal}
 use Rattle.exact_values.proofs.Order.{mul-positive}
-use Rattle.exact_values.proofs.Ring_laws.{whole-mul}
+use Rattle.exact_values.proofs.RingLaws.{whole-mul}
 use Rattle.lp_definitions.specs.LinearProgram.{value_at}
 use Rattle.long_programs.proofs.Compared.{compare_scaled}
 use Rattle.long_points.proofs.Sums.{slack_compared}

@@ -1,5 +1,5 @@
 use Rattle.report_text.specs.Views.{ending_view}
-use Rattle.mps_cli.proofs.Ending_answers.{end_printed, end_cut}
+use Rattle.mps_cli.proofs.EndingAnswers.{end_printed, end_cut}
 use Rattle.mps_cli.proofs.end.end_job.Goals as goal
 
 pub returns-in-Ok : goal.returns-in-Ok

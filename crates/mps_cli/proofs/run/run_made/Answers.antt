@@ -5,7 +5,7 @@ use Rattle.run_definitions.specs.Answer.{Made, memory_at_start}
 use Rattle.fitting_answers.specs.Real.{linear_programming_of_128_bits}
 use Rattle.command_line.specs.declared.request.Request.TheVariants.{Make}
 use Rattle.job_program.specs.declared.stop.EarlyStop.TheVariants.{Memory}
-use Rattle.mps_cli.proofs.Ending_answers.{ending_answer}
+use Rattle.mps_cli.proofs.EndingAnswers.{ending_answer}
 use Rattle.mps_cli.specs.Causes.{nothing}
 use Rattle.mps_cli.proofs.Why.{source_punch}
 use Rattle.mps_cli.proofs.Accounted.{source_accounted, untouched_accounted}

@@ -1,9 +1,9 @@
 use Rattle.std.proofs.Common.{refl, Some}
 use Rattle.fitting_answers.specs.Real.{linear_programming_of_128_bits}
 use Rattle.command_line.specs.declared.request.Request.TheVariants.{Read}
-use Rattle.mps_cli.proofs.Ending_answers.{ending_answer}
+use Rattle.mps_cli.proofs.EndingAnswers.{ending_answer}
 use Rattle.mps_cli.specs.Causes.{nothing, in_run}
-use Rattle.mps_cli.proofs.May_end.{may_stop, prepared_of, program_of, answered_too}
+use Rattle.mps_cli.proofs.MayEnd.{may_stop, prepared_of, program_of, answered_too}
 use Rattle.mps_cli.proofs.Why.{why, run_cause}
 use Rattle.mps_cli.proofs.Reported.{reported_unread, stops_reading}
 use Rattle.mps_cli.proofs.Accounted.{stopped_accounted}

@@ -6,7 +6,7 @@ use Rattle.problem_definitions.specs.Numbering.{numbered}
 use Rattle.deck_definitions.specs.Conversion.{deck_name, conversion}
 use Rattle.mps_convert.specs.Conversion.{Refuses}
 use Rattle.mps_convert.specs.State.{State}
-use Rattle.mps_convert.specs.Draft_view.{problem_named, problem_view, state_view}
+use Rattle.mps_convert.specs.DraftView.{problem_named, problem_view, state_view}
 use Rattle.mps_convert.proofs.Whole.{faulty, nothing_read, is_problem, converts}
 use Rattle.mps_convert.proofs.conversion.convert.Goals as goal
 

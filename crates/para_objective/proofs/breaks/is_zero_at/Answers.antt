@@ -1,7 +1,7 @@
 use Rattle.std.proofs.Common.{◌≡◌, rules, sym, ap, subst, ◌∙◌}
 use Rattle.exact_values.specs.Rational.{ℚ, zero_ℚ, neg_ℚ, ◌+ℚ◌, ◌*ℚ◌}
 use Rattle.exact_values.specs.Tests.{eq_ℚ}
-use Rattle.exact_values.proofs.Tests_laws.{eq_fails_from_apart}
+use Rattle.exact_values.proofs.TestsLaws.{eq_fails_from_apart}
 use Rattle.frac128.specs.Operations.{TermsFit}
 use Rattle.lp_laws.proofs.Values.{clash}
 use Rattle.para_objective.proofs.EnteringVariables.{zero_test, opposite_if_zero}

@@ -1,5 +1,5 @@
 use Rattle.std.proofs.Common.{sym, ◌∙◌}
-use Rattle.exact_values.proofs.Tests_laws.{le_from_lt_fails}
+use Rattle.exact_values.proofs.TestsLaws.{le_from_lt_fails}
 use Rattle.para_objective.proofs.Zeros.{other_less, best_less}
 use Rattle.para_objective.proofs.reaching.lesser.Goals as goal
 

@@ -2,7 +2,7 @@ use Rattle.std.proofs.Common.{map, sym, subst, ◌∙◌, arith}
 use Rattle.std.proofs.lemmas.Result.{err_from_is_err_and}
 use Rattle.exact_values.specs.Rational.{◌<ℚ◌}
 use Rattle.exact_values.proofs.Order.{le_refl}
-use Rattle.exact_values.proofs.Tests_laws.{same_from_test}
+use Rattle.exact_values.proofs.TestsLaws.{same_from_test}
 use Rattle.lp_model.proofs.Stops.{IfOverflow-map}
 use Rattle.bounded_primal.specs.declared.moves.PrimalStop.TheVariants.{NoMemory}
 use Rattle.parametric_run.specs.Calls.{part_of}

@@ -2,7 +2,7 @@ use Rattle.std.proofs.Common.{◌≡◌, ◌∙◌, sym, ap, pos, to_z}
 use Rattle.std.specs.Int.{w128}
 use Rattle.std.proofs.lemmas.Int.{to_z-of_z}
 use Rattle.exact_values.specs.Rational.{whole, ◌+ℚ◌, ◌*ℚ◌}
-use Rattle.exact_values.proofs.Ring_laws.{mul-zero, add-zero}
+use Rattle.exact_values.proofs.RingLaws.{mul-zero, add-zero}
 use Rattle.frac128.proofs.Parts.{read_fitting}
 use Rattle.price_row.proofs.ColumnNumbers.{summed_more}
 use Rattle.price_row.proofs.column_numbers.added.Goals as goal

@@ -2,7 +2,7 @@ use Rattle.std.proofs.Common.{◌≡◌, ◌∙◌, sym, ap, ap₂, pos, of_z}
 use Rattle.std.specs.Int.{w128}
 use Rattle.exact_values.specs.Rational.{whole, ◌*ℚ◌}
 use Rattle.exact_values.proofs.Inverse.{whole_numerator, numerator_of_zero}
-use Rattle.exact_values.proofs.Ring_laws.{zero-mul}
+use Rattle.exact_values.proofs.RingLaws.{zero-mul}
 use Rattle.frac128.proofs.Parts.{read_fitting}
 use Rattle.lp_definitions.specs.LinearProgram.{value_at}
 use Rattle.lp_laws.proofs.Places.{value_at_place}

@@ -1,6 +1,6 @@
 use Rattle.std.proofs.Common.{rules, ◌∙◌, refl, sym, ap, ap₂, subst, take, ℤ}
 use Rattle.exact_values.specs.Rational.{whole, zero_ℚ, ◌+ℚ◌, ◌*ℚ◌}
-use Rattle.exact_values.proofs.Ring_laws.{zero-mul}
+use Rattle.exact_values.proofs.RingLaws.{zero-mul}
 use Rattle.frac128.specs.Terms.{Fits}
 use Rattle.frac128.proofs.Parts.{read_fitting}
 use Rattle.lp_definitions.specs.LinearProgram.{value_at}

@@ -1,6 +1,6 @@
 use Rattle.std.proofs.Common.{◌≡◌, ◌∙◌, ap, sym}
 use Rattle.exact_values.specs.Rational.{zero_ℚ, ◌+ℚ◌, ◌*ℚ◌}
-use Rattle.exact_values.proofs.Ring_laws.{zero-mul, add-zero}
+use Rattle.exact_values.proofs.RingLaws.{zero-mul, add-zero}
 use Rattle.price_row.proofs.exact.exactly_added.Goals as goal
 
 pub returns-then-is_zero : goal.returns-then-is_zero

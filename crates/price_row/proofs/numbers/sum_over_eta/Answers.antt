@@ -1,6 +1,6 @@
 use Rattle.std.proofs.Common.{◌≡◌, ◌∙◌, ℕ, ap, ap₂, map}
 use Rattle.exact_values.specs.Rational.{zero_ℚ, ◌+ℚ◌, ◌*ℚ◌}
-use Rattle.exact_values.proofs.Ring_laws.{zero-add}
+use Rattle.exact_values.proofs.RingLaws.{zero-add}
 use Rattle.lp_definitions.specs.LinearProgram.{value_at}
 use Rattle.lp_definitions.specs.RatesEvidence.{sum_from}
 use Rattle.eta_file.proofs.FileLaws.{some_map}

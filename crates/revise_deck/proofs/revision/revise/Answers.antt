@@ -7,7 +7,7 @@ use Rattle.card_reader.specs.declared.stop.CardStop.TheVariants.{NoMemory}
 use Rattle.deck_fields.specs.Stops.{Stops}
 use Rattle.revise_definitions.specs.Revision.{revise_card_fault, revision}
 use Rattle.revise_deck.specs.State.{State, state_of}
-use Rattle.revise_deck.specs.Draft_view.{problem_named, state_view}
+use Rattle.revise_deck.specs.DraftView.{problem_named, state_view}
 use Rattle.revise_deck.specs.Revision.{Refuses}
 use Rattle.revise_deck.proofs.Ends.{faulty, nothing_read, is_problem, gives}
 use Rattle.revise_deck.proofs.revision.revise.Goals as goal

@@ -6,8 +6,8 @@ use Rattle.setup_verbs.specs.Kept.{Setup}
 use Rattle.setup_verbs.proofs.Selected.{no_change}
 use Rattle.setup_verbs.proofs.Present.{as_many_columns, as_many_rows, ready_solved}
 use Rattle.solving_verbs.specs.ParametricVerbs.{parametric_run_view}
-use Rattle.solving_verbs.proofs.Selected_again.{name_kept, now_is, rates_again}
-use Rattle.solving_verbs.proofs.Parametric_steps.{unselected_reported, unasked_reported, again_reported, serves, asked_of}
+use Rattle.solving_verbs.proofs.SelectedAgain.{name_kept, now_is, rates_again}
+use Rattle.solving_verbs.proofs.ParametricSteps.{unselected_reported, unasked_reported, again_reported, serves, asked_of}
 use Rattle.solving_verbs.proofs.parametric.find.Goals as goal
 
 pub returns-in-Err-clause-tells : goal.returns-in-Err-clause-tells

@@ -4,7 +4,7 @@ use Rattle.verb_answers.specs.Reports.{sheet_view}
 use Rattle.run_machine.specs.declared.finding.Finding.TheVariants.{Limit}
 use Rattle.solving_verbs.specs.ParametricVerbs.{parametric_run_view, StopsParametricRun, ParametricRunFinds, at_limit}
 use Rattle.setup_verbs.proofs.Reporting.{tells_quietly}
-use Rattle.solving_verbs.proofs.Parametric_steps.{is_way, run_overflow_tells}
+use Rattle.solving_verbs.proofs.ParametricSteps.{is_way, run_overflow_tells}
 use Rattle.solving_verbs.proofs.parametric.follow.Goals as goal
 
 pub returns-in-Ok-clause-tells : goal.returns-in-Ok-clause-tells

@@ -1,6 +1,6 @@
 use Rattle.std.proofs.lemmas.Result.{err_from_is_err_and}
 use Rattle.solving_verbs.specs.ParametricVerbs.{parametric_run_view}
-use Rattle.solving_verbs.proofs.Parametric_steps.{chain_reported, chain_cut}
+use Rattle.solving_verbs.proofs.ParametricSteps.{chain_reported, chain_cut}
 use Rattle.solving_verbs.proofs.parametric.print_chain.Goals as goal
 
 pub returns-in_err-text_of : goal.returns-in_err-text_of

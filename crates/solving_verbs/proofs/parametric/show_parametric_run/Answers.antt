@@ -3,7 +3,7 @@ use Rattle.std.proofs.Common.{None, Some}
 use Rattle.std.proofs.lemmas.Result.{err_from_is_err_and}
 use Rattle.solving_verbs.proofs.Keeping.{sound_cleared, sound_run_through}
 use Rattle.setup_verbs.proofs.Present.{ready_of}
-use Rattle.solving_verbs.proofs.Parametric_comes.{parametric_run_no_setup, parametric_run_found, parametric_run_cut}
+use Rattle.solving_verbs.proofs.ParametricComes.{parametric_run_no_setup, parametric_run_found, parametric_run_cut}
 use Rattle.solving_verbs.proofs.parametric.show_parametric_run.Goals as goal
 
 pub returns-in_default-clause-acts : goal.returns-in_default-clause-acts

@@ -5,8 +5,8 @@ use Rattle.run_definitions.specs.State.{choice_of}
 use Rattle.setup_verbs.specs.Kept.{Setup}
 use Rattle.setup_verbs.proofs.Selected.{no_change}
 use Rattle.setup_verbs.proofs.Present.{as_many_columns, as_many_rows}
-use Rattle.solving_verbs.proofs.Selected_again.{now_is, rates_again}
-use Rattle.solving_verbs.proofs.Solving_steps.{refusal_reported, again_reported, again_solved}
+use Rattle.solving_verbs.proofs.SelectedAgain.{now_is, rates_again}
+use Rattle.solving_verbs.proofs.SolvingSteps.{refusal_reported, again_reported, again_solved}
 use Rattle.solving_verbs.proofs.solving.find.Goals as goal
 
 pub returns-in-Err-clause-tells : goal.returns-in-Err-clause-tells

@@ -8,7 +8,7 @@ use Rattle.run_machine.specs.declared.finding.Finding.TheVariants.{WrongPrices, 
 use Rattle.solving_verbs.specs.Found.{PathFinds, wrong_prices, at_limit}
 use Rattle.setup_verbs.proofs.Reporting.{tells_quietly, overflow_tells}
 use Rattle.solving_verbs.proofs.Present.{dual_reached}
-use Rattle.solving_verbs.proofs.Solving_steps.{path_overflows}
+use Rattle.solving_verbs.proofs.SolvingSteps.{path_overflows}
 use Rattle.solving_verbs.proofs.solving.follow_dual.Goals as goal
 
 pub returns-in-Ok-clause-tells : goal.returns-in-Ok-clause-tells

@@ -8,7 +8,7 @@ use Rattle.run_machine.specs.declared.finding.Finding.TheVariants.{Limit}
 use Rattle.solving_verbs.specs.Found.{PathFinds, at_limit}
 use Rattle.setup_verbs.proofs.Reporting.{tells_quietly, overflow_tells}
 use Rattle.solving_verbs.proofs.Present.{path_reached}
-use Rattle.solving_verbs.proofs.Solving_steps.{limit_passed, path_overflows}
+use Rattle.solving_verbs.proofs.SolvingSteps.{limit_passed, path_overflows}
 use Rattle.solving_verbs.proofs.solving.follow_primal.Goals as goal
 
 pub returns-in-Ok-clause-tells : goal.returns-in-Ok-clause-tells

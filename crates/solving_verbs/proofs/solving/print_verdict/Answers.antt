@@ -1,7 +1,7 @@
 use Rattle.std.proofs.lemmas.Result.{err_from_is_err_and}
 use Rattle.report_text.specs.Verdicts.{verdict_view, check_view}
 use Rattle.verb_answers.specs.Reports.{sheet_view}
-use Rattle.solving_verbs.proofs.Solving_steps.{verdict_reported, verdict_cut}
+use Rattle.solving_verbs.proofs.SolvingSteps.{verdict_reported, verdict_cut}
 use Rattle.solving_verbs.proofs.solving.print_verdict.Goals as goal
 
 pub returns-in_err-text_of : goal.returns-in_err-text_of

@@ -3,7 +3,7 @@ use Rattle.std.proofs.Common.{None, Some}
 use Rattle.std.proofs.lemmas.Result.{err_from_is_err_and}
 use Rattle.solving_verbs.proofs.Keeping.{sound_cleared, sound_found}
 use Rattle.setup_verbs.proofs.Present.{ready_of}
-use Rattle.solving_verbs.proofs.Solving_comes.{solving_no_setup, solving_found, solving_cut}
+use Rattle.solving_verbs.proofs.SolvingComes.{solving_no_setup, solving_found, solving_cut}
 use Rattle.solving_verbs.proofs.solving.solve.Goals as goal
 
 pub returns-in_default-clause-acts : goal.returns-in_default-clause-acts

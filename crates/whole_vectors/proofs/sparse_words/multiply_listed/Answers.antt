@@ -2,7 +2,7 @@ use Rattle.std.proofs.Common.{rules, ◌≡◌, ◌<◌, ◌∙◌, length, get_
 use Rattle.std.proofs.lemmas.Int.{to_z-of_z}
 use Rattle.std.specs.Int.{w64}
 use Rattle.exact_values.specs.Rational.{◌*ℚ◌}
-use Rattle.exact_values.proofs.Ring_laws.{zero-add}
+use Rattle.exact_values.proofs.RingLaws.{zero-add}
 use Rattle.whole_vectors.specs.Words.{wholes}
 use Rattle.whole_vectors.proofs.Ranked.{kept_next}
 use Rattle.whole_vectors.proofs.Listed.{none_changed, changed_next, changed_at_end}

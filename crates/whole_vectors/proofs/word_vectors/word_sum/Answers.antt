@@ -3,7 +3,7 @@ use Rattle.std.proofs.lemmas.Int.{to_z-of_z}
 use Rattle.std.specs.Int.{w64}
 use Rattle.std.specs.Prelude.{◌+ℤ◌, ◌*ℤ◌}
 use Rattle.exact_values.specs.Rational.{whole, ◌+ℚ◌, ◌*ℚ◌}
-use Rattle.exact_values.proofs.Ring_laws.{zero-mul, add-zero}
+use Rattle.exact_values.proofs.RingLaws.{zero-mul, add-zero}
 use Rattle.whole_vectors.proofs.Words.{word_is, whole_total, checked_total}
 use Rattle.whole_vectors.proofs.word_vectors.word_sum.Goals as goal
 

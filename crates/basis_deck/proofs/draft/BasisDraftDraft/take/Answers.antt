@@ -1,7 +1,7 @@
 use Rattle.deck_fields.proofs.States.{no_fault, made, stop}
 use Rattle.basis_deck_definitions.specs.Reading.{basis_card_fault}
 use Rattle.basis_deck.specs.Reading.{state_of, fault_at, state_with}
-use Rattle.basis_deck.specs.Draft_view.{state_view}
+use Rattle.basis_deck.specs.DraftView.{state_view}
 use Rattle.basis_deck.proofs.CardStep.{fault-state, state-step}
 use Rattle.basis_deck.proofs.draft.BasisDraftDraft.take.Goals as goal
 

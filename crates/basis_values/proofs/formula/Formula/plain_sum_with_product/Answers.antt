@@ -1,6 +1,6 @@
 use Rattle.std.proofs.Common.{◌∙◌, ap}
 use Rattle.exact_values.specs.Rational.{ℚ, ◌*ℚ◌}
-use Rattle.exact_values.proofs.Ring_laws.{mul-zero}
+use Rattle.exact_values.proofs.RingLaws.{mul-zero}
 use Rattle.basis_values.proofs.TermLaws.{OnErr-map}
 use Rattle.basis_values.proofs.formula.Formula.plain_sum_with_product.Goals as goal
 

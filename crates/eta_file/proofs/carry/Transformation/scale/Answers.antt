@@ -1,6 +1,6 @@
 use Rattle.std.proofs.Common.{rules, ◌≡◌, ◌≢◌, ◌∙◌, sym, ap, Err, length, arith, subst}
 use Rattle.exact_values.specs.Rational.{◌*ℚ◌}
-use Rattle.exact_values.proofs.Ring_laws.{mul-zero}
+use Rattle.exact_values.proofs.RingLaws.{mul-zero}
 use Rattle.eta_file.specs.declared.eta.EtaEntry.{EtaEntry}
 use Rattle.eta_file.specs.Entries.{IsEntryWithin}
 use Rattle.eta_file.proofs.CarrySteps.{scaled_more, sum_next_other, others_next_same, others_next_other, others_room, entry_at}

@@ -1,7 +1,7 @@
 use Rattle.std.proofs.Common.{◌≡◌, None, OnOk, IfErr, sym, subst}
 use Rattle.deck_definitions.specs.Conversion.{data_card_fault}
 use Rattle.deck_fields.specs.Reported.{ReportsDeckFault}
-use Rattle.mps_convert.specs.Draft_view.{problem_view}
+use Rattle.mps_convert.specs.DraftView.{problem_view}
 use Rattle.deck_fields.specs.Views.{viewed}
 use Rattle.mps_convert.proofs.DataTaken.{fault_in_section}
 use Rattle.mps_convert.proofs.draft.DeckDraft.take_data.Goals as goal

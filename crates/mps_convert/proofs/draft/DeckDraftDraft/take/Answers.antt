@@ -1,7 +1,7 @@
 use Rattle.deck_definitions.specs.Conversion.{card_fault}
 use Rattle.deck_fields.proofs.States.{no_fault, made, stop}
 use Rattle.mps_convert.specs.State.{state_of, fault_at, state_with}
-use Rattle.mps_convert.specs.Draft_view.{state_view}
+use Rattle.mps_convert.specs.DraftView.{state_view}
 use Rattle.mps_convert.proofs.CardStep.{fault-state, state-step}
 use Rattle.mps_convert.proofs.draft.DeckDraftDraft.take.Goals as goal
 

@@ -1,7 +1,7 @@
 use Rattle.revise_definitions.specs.Revision.{revise_card_fault}
 use Rattle.deck_fields.proofs.States.{no_fault, made, stop}
 use Rattle.revise_deck.specs.State.{state_of, fault_at, state_with}
-use Rattle.revise_deck.specs.Draft_view.{state_view}
+use Rattle.revise_deck.specs.DraftView.{state_view}
 use Rattle.revise_deck.proofs.CardStep.{fault-state, state-step}
 use Rattle.revise_deck.proofs.draft.ReviseDraftDraft.take.Goals as goal
 

@@ -1,6 +1,6 @@
 use Rattle.std.proofs.Common.{◌-◌, ◌∙◌, ap, sym, length, ℕ, get_or}
 use Rattle.exact_values.specs.Rational.{zero_ℚ, ◌/ℚ◌, inverse_ℚ}
-use Rattle.exact_values.proofs.Ring_laws.{zero-mul}
+use Rattle.exact_values.proofs.RingLaws.{zero-mul}
 use Rattle.whole_vectors.specs.Words.{wholes}
 use Rattle.whole_vectors.specs.Quotients.{AreQuotients}
 use Rattle.whole_vectors.specs.Ranks.{IsRank, AreWritten}

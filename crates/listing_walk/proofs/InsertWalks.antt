@@ -40,10 +40,10 @@ use Rattle.listing_walk.specs.Choosing.{IsMade, IsRefused, IsNotMade}
 use Rattle.listing_walk.specs.Standing.{IsView, IsReady, Faces}
 use Rattle.listing_walk.specs.Walking.{TurnsTo, Passes, Walks}
 use Rattle.listing_walk.specs.Inserting.{taken_of, is_line_of, is_line_due, open_install, IsInstallDue, IsInstallRefused, RefusesInstall}
-use Rattle.listing_walk.proofs.Same_limits.{read_alike}
+use Rattle.listing_walk.proofs.SameLimits.{read_alike}
 use Rattle.listing_walk.proofs.Selected.{as_many_rows, as_many_columns}
-use Rattle.listing_walk.proofs.Setting_up.{faulted}
-use Rattle.listing_walk.proofs.Solving_walks.{present_with, present_at, ready_of, selecting, no_setup_walks, unselected_walks, made_walks, unmade_here}
+use Rattle.listing_walk.proofs.SettingUp.{faulted}
+use Rattle.listing_walk.proofs.SolvingWalks.{present_with, present_at, ready_of, selecting, no_setup_walks, unselected_walks, made_walks, unmade_here}
 
 -- what INSERT does with the basis that a deck stands for, and with the deck that is taken
 abbrev asks_install : ℕ → State → Present → LinearProgram → List Card × List (List Card) → Basis → StatementMove

@@ -31,10 +31,10 @@ use Rattle.listing_walk.specs.declared.walk_step.WalkStep.TheVariants as walk_st
 use Rattle.listing_walk.specs.Standing.{IsView, IsSolved}
 use Rattle.listing_walk.specs.Walking.{Passes, Walks}
 use Rattle.listing_walk.specs.Asking.{asked_turn, Answered, IsAny, IsStopStep}
-use Rattle.listing_walk.proofs.Follow_on.{placed, faces_still}
+use Rattle.listing_walk.proofs.FollowOn.{placed, faces_still}
 use Rattle.listing_walk.proofs.Selected.{fault_move, found_move, selected_move}
-use Rattle.listing_walk.proofs.Setting_up.{faulted}
-use Rattle.listing_walk.proofs.Solving_walks.{present_with, present_at, none_at, fault_stop}
+use Rattle.listing_walk.proofs.SettingUp.{faulted}
+use Rattle.listing_walk.proofs.SolvingWalks.{present_with, present_at, none_at, fault_stop}
 
 -- ---- faults
 

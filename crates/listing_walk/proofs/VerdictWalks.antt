@@ -41,7 +41,7 @@ use Rattle.listing_walk.specs.Standing.{IsView, IsSound, Faces}
 use Rattle.listing_walk.specs.Walking.{TurnsTo, IsOutcome, Finishes, Passes, Walks, Refuses}
 use Rattle.listing_walk.specs.Asking.{Answered, IsMarked, IsStopStep}
 use Rattle.listing_walk.specs.SolvingVerbs.{verb_of, solver_of}
-use Rattle.listing_walk.proofs.Solving_walks.{present_with, selecting, no_setup_walks, refusal_walks, made_walks, verdict_comes}
+use Rattle.listing_walk.proofs.SolvingWalks.{present_with, selecting, no_setup_walks, refusal_walks, made_walks, verdict_comes}
 
 abbrev limit_of : SolvingVerb → Cells → Option ℕ
 limit_of Primal cells = cells.xiterlim

@@ -58,10 +58,10 @@ use Rattle.listing_walk.specs.Standing.{IsView, IsSound, Faces}
 use Rattle.listing_walk.specs.Walking.{open_by, TurnsTo, IsOutcome, Finishes, Passes, Walks, Refuses}
 use Rattle.listing_walk.specs.Asking.{asked_turn, Answered, IsStopStep}
 use Rattle.listing_walk.specs.ParametricVerbs.{finding_of, left_by, IsUnasked}
-use Rattle.listing_walk.proofs.Follow_on.{finished_next}
+use Rattle.listing_walk.proofs.FollowOn.{finished_next}
 use Rattle.listing_walk.proofs.Selected.{fault_move, found_move, as_many_rows}
-use Rattle.listing_walk.proofs.Setting_up.{faulted}
-use Rattle.listing_walk.proofs.Solving_walks.{present_with, selecting, fault_stop, no_setup_walks, refusal_walks, made_walks, verdict_comes}
+use Rattle.listing_walk.proofs.SettingUp.{faulted}
+use Rattle.listing_walk.proofs.SolvingWalks.{present_with, selecting, fault_stop, no_setup_walks, refusal_walks, made_walks, verdict_comes}
 
 -- ---- what is asked for can be run
 

@@ -4,12 +4,12 @@ use Rattle.std.specs.Prelude.{not, ◌+ℤ◌, ◌*ℤ◌, unsigned_abs}
 use Rattle.std.proofs.Math.IntN.{*ℤ-one, zero-*ℤ, +ℤ_idr}
 use Rattle.std.proofs.Math.Nat.{div-one, mul-one}
 use Rattle.divisors.specs.Gcd.{gcd}
-use Rattle.divisors.proofs.Gcd_laws.{gcd-one_right}
+use Rattle.divisors.proofs.GcdLaws.{gcd-one_right}
 use Rattle.exact_values.specs.Rational.{ℚ, whole, zero_ℚ, ◌*ℚ◌}
-use Rattle.exact_values.proofs.Ring_laws.{zero-mul, mul-zero}
+use Rattle.exact_values.proofs.RingLaws.{zero-mul, mul-zero}
 use Rattle.frac128.specs.declared.Op.TheVariants.{Add, Mul}
 use Rattle.frac128.specs.Operations.{TermsFit, SumFits, terms_fit, refuses, shared_factor, raised_numerator, raised_sum, sum_denominator}
-use Rattle.frac128.proofs.Refusal_lemmas.{add_taken}
+use Rattle.frac128.proofs.RefusalLemmas.{add_taken}
 
 pub mul_taken_left : (x y : ℚ) → x ≡ zero_ℚ → refuses Mul x y ≡ false
 unfolding refuses whole

@@ -36,8 +36,8 @@ use Rattle.listing_walk.specs.Standing.{IsReady, IsSolved, Faces}
 use Rattle.listing_walk.specs.Walking.{Passes, IsReported, RefusesReport, Walks}
 use Rattle.listing_walk.specs.Asking.{is_optimal}
 use Rattle.listing_walk.proofs.Selected.{fault_move, found_move, selected_move}
-use Rattle.listing_walk.proofs.Solving_walks.{present_with, present_at, ready_of, selecting, no_setup_walks, unselected_walks, made_walks, unmade_here}
-use Rattle.listing_walk.proofs.Views_walks.{fault_walks, some_at, showing, showing_none, showing_unsolved, showing_mark, selected_now}
+use Rattle.listing_walk.proofs.SolvingWalks.{present_with, present_at, ready_of, selecting, no_setup_walks, unselected_walks, made_walks, unmade_here}
+use Rattle.listing_walk.proofs.ViewsWalks.{fault_walks, some_at, showing, showing_none, showing_unsolved, showing_mark, selected_now}
 
 -- the line stands where the walker is
 at_line : (place : ListingPlace) (stands made : Bool) (found : Found) → IsReported place stands made found → (tests : List ℕ → Bool) → stands ≡ tests place.cursor → (w : walks.Walker) → Faces place w →

@@ -24,7 +24,7 @@ use Rattle.listing_walk.specs.declared.walk_step.WalkStep.TheVariants as walk_st
 use Rattle.listing_walk.specs.Parameter.{use_of, as_next}
 use Rattle.listing_walk.specs.Standing.{IsView, Faces, holding, Represents}
 use Rattle.listing_walk.specs.Walking.{TurnsTo, Walks}
-use Rattle.listing_walk.proofs.Held_moves.{state_with, turn_with, verb_with, set_alike, walk_with}
+use Rattle.listing_walk.proofs.HeldMoves.{state_with, turn_with, verb_with, set_alike, walk_with}
 
 module _ (x : ℚ) (cards : List (List ℕ)) (machine : Machine Chosen) (place : ListingPlace) where
   -- the machine's state, but for this value in XPARAM

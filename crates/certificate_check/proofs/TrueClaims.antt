@@ -11,9 +11,9 @@ use Rattle.frac128.specs.Operations.{refuses}
 use Rattle.exact_values.specs.Rational.{ℚ, zero_ℚ, ◌+ℚ◌, ◌-ℚ◌, ◌*ℚ◌, ◌≤ℚ◌, ◌<ℚ◌, compare_ℚ}
 use Rattle.exact_values.specs.Sums.{sum_up_to}
 use Rattle.exact_values.specs.Tests.{lt_ℚ, eq_ℚ}
-use Rattle.exact_values.proofs.Tests_laws.{test_from_le, test_from_same}
+use Rattle.exact_values.proofs.TestsLaws.{test_from_le, test_from_same}
 use Rattle.exact_values.proofs.Compare.{lt_from_compare, same_from_compare, gt_from_compare}
-use Rattle.exact_values.proofs.Ring_laws.{zero-add}
+use Rattle.exact_values.proofs.RingLaws.{zero-add}
 use Rattle.lp_definitions.specs.declared.Change.{Change}
 use Rattle.lp_definitions.specs.LinearProgram.{LinearProgram, Vector, IsMatrix, IsColumn, IsVariable, KeepsEquations, numbers_from, entry, lower_of, upper_of, cost, for_min, size}
 use Rattle.lp_definitions.specs.Solutions.{IsWithinLimits, IsFeasible, IsDualCertificate, IsCrossed, IsRay, ProvesUnbounded, limit_against}

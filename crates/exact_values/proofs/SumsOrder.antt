@@ -2,7 +2,7 @@
 use Rattle.std.proofs.Common.{◌≡◌, ℕ, zero, suc, ◌<◌, refl, sym, ap, ap₂, ◌∙◌, subst, arith, pos, ◌⊎◌, inl, inr, List, [], ◌∷◌, All, Bool, true, false, cond, eq-or-lt_of_le}
 use Rattle.exact_values.specs.Rational.{ℚ, ◌+ℚ◌, ◌*ℚ◌, neg_ℚ, ◌-ℚ◌, zero_ℚ, ◌≤ℚ◌, ◌<ℚ◌}
 use Rattle.exact_values.specs.Sums.{sum_to, sum_over, only}
-use Rattle.exact_values.proofs.Ring_laws.{zero-add, mul-zero}
+use Rattle.exact_values.proofs.RingLaws.{zero-add, mul-zero}
 use Rattle.exact_values.proofs.Ring.{by_ring1, by_ring2, by_ring3, by_ring4, ◌⊕◌, ◌⊗◌, ◌⊖◌, opposite, number, ◌≐◌}
 use Rattle.exact_values.proofs.Order.{le_refl, le_antisymm, lt_or_le, lt_not_le, lt_irrefl, add-le-add, lt_by_two}
 use Rattle.exact_values.proofs.Sums.{sum_to-same, sum_to-zero, sum_to-add, sum_to-le, sum_to-exchange, sum_to-mul_left, sum_to-mul_right, sum_over-add}

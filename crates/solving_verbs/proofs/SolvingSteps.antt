@@ -55,7 +55,7 @@ use Rattle.solving_verbs.specs.Found.{solver_of, limit_of, PathReaches, PathFind
 use Rattle.setup_verbs.proofs.Selected.{no_change}
 use Rattle.setup_verbs.proofs.Reporting.{tells_more, tells_quietly}
 use Rattle.setup_verbs.proofs.Present.{one_problem, now_selected}
-use Rattle.solving_verbs.proofs.Selected_again.{name_kept, options_kept, basis_kept, engine_kept, now_is, rates_again}
+use Rattle.solving_verbs.proofs.SelectedAgain.{name_kept, options_kept, basis_kept, engine_kept, now_is, rates_again}
 
 -- ---- the path
 

@@ -48,7 +48,7 @@ use Rattle.run_machine.specs.declared.finding.Finding.{Finding}
 use Rattle.run_machine.specs.declared.finding.Finding.TheVariants.{Ended, Overflow, RanThrough}
 use Rattle.lp_model.specs.RatesState.{RatesState}
 use Rattle.setup_verbs.specs.Kept.{Setup}
-use Rattle.solving_verbs.proofs.Selected_again.{name_kept, options_kept, basis_kept, engine_kept, now_is}
+use Rattle.solving_verbs.proofs.SelectedAgain.{name_kept, options_kept, basis_kept, engine_kept, now_is}
 use Rattle.run_machine.specs.declared.selecting.Refusal.{Refusal}
 use Rattle.run_machine.specs.declared.selecting.Refusal.TheVariants.{Fault, NoMemory}
 use Rattle.run_machine.specs.declared.selecting.Refusal.TheVariants as refusal
@@ -65,8 +65,8 @@ use Rattle.parametric_request.specs.declared.request.RequestStop.TheVariants as 
 use Rattle.parametric_request.specs.Asking.{IsNotAsked, IsAsked, IsChangeOf, IsOf, ServesChange, Serves, parametric_run_of}
 use Rattle.solving_verbs.specs.ParametricVerbs.{refusal_of, parametric_run_view, value_left, IsRunOverflow, ParametricRunFinds, opened, chained, overflows, ParametricRuns, unselected, too_large, not_asked, run_through}
 use Rattle.setup_verbs.proofs.Reporting.{tells_more, tells_quietly, overflow_tells}
-use Rattle.solving_verbs.proofs.Limit_formula.{placed_apart, unplaced_limit}
-use Rattle.solving_verbs.proofs.Parametric_lines.{last_same, chain_same}
+use Rattle.solving_verbs.proofs.LimitFormula.{placed_apart, unplaced_limit}
+use Rattle.solving_verbs.proofs.ParametricLines.{last_same, chain_same}
 use Rattle.setup_verbs.proofs.Present.{as_many_rows, one_problem}
 
 -- ---- what is printed of a run

@@ -43,7 +43,7 @@ use Rattle.listing_walk.specs.Choosing.{IsMade, IsRefused, IsNotMade}
 use Rattle.listing_walk.specs.Standing.{IsView, IsReady, Faces}
 use Rattle.listing_walk.specs.Walking.{open_by, TurnsTo, IsOutcome, Passes, Walks, IsUnchecked, Refuses}
 use Rattle.listing_walk.proofs.Selected.{fault_move, found_move, unselected_move, selected_move, made_turn, refused_turn}
-use Rattle.listing_walk.proofs.Setting_up.{faulted}
+use Rattle.listing_walk.proofs.SettingUp.{faulted}
 
 -- ---- the setup of the state
 
