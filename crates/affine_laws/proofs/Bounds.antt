@@ -39,7 +39,9 @@ down_to b x q negative = (
 
 -- a bound is met on one side of its end
 meets_side : (b : ProductBound) → b.slope ≢ zero_ℚ → (x : ℚ) → Meets b x ↔ IsOnSide (is_high b) (b.number /ℚ b.slope) x
-meets_side b apart x = subst (λ n. MeetsBy b.at_most (x *ℚ b.slope) n ↔ IsOnSide (is_high b) (b.number /ℚ b.slope) x) (div-mul_cancel b.number b.slope apart) (at (lt_ℚ zero_ℚ b.slope) refl b.at_most)
+meets_side b apart x =
+    subst (λ n. MeetsBy b.at_most (x *ℚ b.slope) n ↔ IsOnSide (is_high b) (b.number /ℚ b.slope) x) (div-mul_cancel b.number b.slope apart)
+    (at (lt_ℚ zero_ℚ b.slope) refl b.at_most)
   where
     negative : lt_ℚ zero_ℚ b.slope ≡ false → b.slope <ℚ zero_ℚ
     negative e = lt_from_le (le_from_lt_fails zero_ℚ b.slope e) apart
@@ -89,7 +91,8 @@ module _ (high : Bool) (b : ProductBound) (apart : b.slope ≢ zero_ℚ) (side :
   pub kept_end : (kept : Option Endpoint) (present : Endpoint) → kept ≡ Some present → Meets b present.value → IsNearer high b kept (Some present)
   kept_end kept present is meets = subst (λ k. IsNearer high b k (Some present)) (sym is) (kept_there present ((meets_here present.value).0 meets))
 
-  pub kept_before : (kept : Option Endpoint) (present : Endpoint) → kept ≡ Some present → (made : Endpoint) → made ≡ end_of b → IsOnSide high made.value present.value → IsNearer high b kept (Some present)
+  pub kept_before : (kept : Option Endpoint) (present : Endpoint) → kept ≡ Some present → (made : Endpoint) → made ≡ end_of b →
+      IsOnSide high made.value present.value → IsNearer high b kept (Some present)
   kept_before kept present is made made_is within =
       subst (λ k. IsNearer high b k (Some present)) (sym is) (kept_there present (subst (λ (m : Endpoint). IsOnSide high m.value present.value) made_is within))
 
@@ -99,21 +102,26 @@ module _ (high : Bool) (b : ProductBound) (apart : b.slope ≢ zero_ℚ) (side :
     either = inr refl;
   }
 
-  pub made_end : (kept : Option Endpoint) (present : Endpoint) → kept ≡ Some present → (made : Endpoint) → made ≡ end_of b → (test : Bool) → test ≡ false → (IsOnSide high made.value present.value → test ≡ true) → IsNearer high b kept (Some made)
+  pub made_end : (kept : Option Endpoint) (present : Endpoint) → kept ≡ Some present → (made : Endpoint) → made ≡ end_of b → (test : Bool) → test ≡ false →
+      (IsOnSide high made.value present.value → test ≡ true) → IsNearer high b kept (Some made)
   made_end kept present is made made_is test fails reported =
       subst₂ (λ k m. IsNearer high b k (Some m)) (sym is) (sym made_is)
-      (made_there present (subst (λ (m : Endpoint). IsOnSide high present.value m.value) made_is (side_total high present.value made.value (λ h. both_ways _ fails (reported h)))))
+      (made_there present
+      (subst (λ (m : Endpoint). IsOnSide high present.value m.value) made_is
+      (side_total high present.value made.value (λ h. both_ways _ fails (reported h)))))
 
 -- ---- an interval
 
-pub high_tightened : (ends : Ends) (b : ProductBound) (high : Option Endpoint) → IsNearer true b ends.high high → IsTightened ends b (record { low = ends.low; high = high })
+pub high_tightened : (ends : Ends) (b : ProductBound) (high : Option Endpoint) → IsNearer true b ends.high high →
+    IsTightened ends b (record { low = ends.low; high = high })
 high_tightened ends b high near = record {
   exact = λ x. (λ h. let k = (near.exact x).0 h.1 in ((h.0, k.0), k.1), λ h. (h.0.0, (near.exact x).1 (h.0.1, h.1)));
   low = inl refl;
   high = near.either;
 }
 
-pub low_tightened : (ends : Ends) (b : ProductBound) (low : Option Endpoint) → IsNearer false b ends.low low → IsTightened ends b (record { low = low; high = ends.high })
+pub low_tightened : (ends : Ends) (b : ProductBound) (low : Option Endpoint) → IsNearer false b ends.low low →
+    IsTightened ends b (record { low = low; high = ends.high })
 low_tightened ends b low near = record {
   exact = λ x. (λ h. let k = (near.exact x).0 h.0 in ((k.0, h.1), k.1), λ h. ((near.exact x).1 (h.0.0, h.1), h.0.1));
   low = near.either;

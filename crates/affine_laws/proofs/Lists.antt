@@ -40,7 +40,8 @@ record IsNearer (c : Condition) (from before to : ℚ) : Type 0 where
 is_nearer : (c : Condition) (from before : ℚ) → Holds c from → from ≤ℚ before → IsNearer c from before (nearer c before)
 is_nearer c from before holds forward = at (lt_ℚ c.slope zero_ℚ) (lt_ℚ (zero_of c) before) refl refl
   where
-    at : (falls nears : Bool) → lt_ℚ c.slope zero_ℚ ≡ falls → lt_ℚ (zero_of c) before ≡ nears → IsNearer c from before (cond (falls && nears) (zero_of c) before)
+    at : (falls nears : Bool) → lt_ℚ c.slope zero_ℚ ≡ falls → lt_ℚ (zero_of c) before ≡ nears →
+        IsNearer c from before (cond (falls && nears) (zero_of c) before)
     at true true is_falls is_nears =
         let falls : c.slope <ℚ zero_ℚ = lt_from_test _ _ is_falls in
         record {
@@ -50,7 +51,8 @@ is_nearer c from before holds forward = at (lt_ℚ c.slope zero_ℚ) (lt_ℚ (ze
           ended = inr (record { falls = falls; is_zero = value_at_zero c (apart_from_below falls) });
         }
     at true false is_falls is_nears = record { forward = forward; no_more = le_refl before; own = λ _. le_from_lt_fails _ _ is_nears; ended = inl refl }
-    at false nears is_falls is_nears = record { forward = forward; no_more = le_refl before; own = λ falls. let e = test_from_lt _ _ falls in cc; ended = inl refl }
+    at false nears is_falls is_nears =
+        record { forward = forward; no_more = le_refl before; own = λ falls. let e = test_from_lt _ _ falls in cc; ended = inl refl }
 
 -- the end of a list
 record IsEnd (cs : List Condition) (from max to : ℚ) : Type 0 where
@@ -78,7 +80,9 @@ is_end (c ∷ cs) from max hold forward = with (is_end cs from max (λ i d withi
         on step = record {
           forward = step.forward;
           at_most = le_trans step.no_more rest.at_most;
-          before = All-cons (λ e. e.slope <ℚ zero_ℚ → reach_of max (c ∷ cs) ≤ℚ zero_of e) c cs step.own (λ i d within falls. le_trans step.no_more (rest.before i d within falls));
+          before =
+              All-cons (λ e. e.slope <ℚ zero_ℚ → reach_of max (c ∷ cs) ≤ℚ zero_of e) c cs step.own
+              (λ i d within falls. le_trans step.no_more (rest.before i d within falls));
           ended = end (reach_of max (c ∷ cs)) step.ended rest.ended;
         }
 

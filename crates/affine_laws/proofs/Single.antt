@@ -56,7 +56,8 @@ module _ (c : Condition) where
 
   -- where it doesn't fall, it holds from a number at which it does
   pub holds_on : zero_ℚ ≤ℚ c.slope → (from x : ℚ) → Holds c from → from ≤ℚ x → Holds c x
-  holds_on grows from x holds forward = le_sum (le_by_product grows forward (by_ring2 c.slope (x -ℚ from) (λ b d. b ⊗ d ≐ number (pos 0) ⊕ (b ⊖ number (pos 0)) ⊗ d) refl)) holds
+  holds_on grows from x holds forward =
+      le_sum (le_by_product grows forward (by_ring2 c.slope (x -ℚ from) (λ b d. b ⊗ d ≐ number (pos 0) ⊕ (b ⊖ number (pos 0)) ⊗ d) refl)) holds
     where
       le_sum : zero_ℚ ≤ℚ c.slope *ℚ (x -ℚ from) → zero_ℚ ≤ℚ value c from → zero_ℚ ≤ℚ value c x
       le_sum more there =
@@ -80,8 +81,10 @@ module _ (c : Condition) where
       at (inr grows) (inl rises) _ = holds_after rises x (above rises)
       at (inr grows) (inr most) (inr forward) = holds_on grows from x holds forward
       at (inr grows) (inr most) (inl back) =
-          le_by_two (le_by_product most (le_of_lt back) (by_ring2 c.slope (from -ℚ x) (λ b d. opposite b ⊗ d ≐ number (pos 0) ⊕ (number (pos 0) ⊖ b) ⊗ d) refl)) holds
-          (by_ring4 c.constant c.slope x from (λ a b x y. a ⊕ x ⊗ b ≐ number (pos 0) ⊕ ((opposite b ⊗ (y ⊖ x) ⊖ number (pos 0)) ⊕ ((a ⊕ y ⊗ b) ⊖ number (pos 0)))) refl)
+          le_by_two (le_by_product most (le_of_lt back)
+          (by_ring2 c.slope (from -ℚ x) (λ b d. opposite b ⊗ d ≐ number (pos 0) ⊕ (number (pos 0) ⊖ b) ⊗ d) refl)) holds
+          (by_ring4 c.constant c.slope x from
+          (λ a b x y. a ⊕ x ⊗ b ≐ number (pos 0) ⊕ ((opposite b ⊗ (y ⊖ x) ⊖ number (pos 0)) ⊕ ((a ⊕ y ⊗ b) ⊖ number (pos 0)))) refl)
 
   -- a falling function that isn't 0 where the condition holds has its zero beyond
   pub zero_beyond : c.slope <ℚ zero_ℚ → (from : ℚ) → Holds c from → value c from ≢ zero_ℚ → from <ℚ zero_of c
@@ -92,4 +95,5 @@ module _ (c : Condition) where
   zero_is x ends =
       let apart : c.slope ≢ zero_ℚ = apart_from_below ends.falls in
       div_is (neg_ℚ c.constant) c.slope x apart
-      (same_by_one (neg_ℚ one_ℚ) ends.is_zero (by_ring3 c.constant c.slope x (λ a b x. opposite a ≐ x ⊗ b ⊕ opposite (number (pos 1)) ⊗ (a ⊕ x ⊗ b ⊖ number (pos 0))) refl))
+      (same_by_one (neg_ℚ one_ℚ) ends.is_zero
+      (by_ring3 c.constant c.slope x (λ a b x. opposite a ≐ x ⊗ b ⊕ opposite (number (pos 1)) ⊗ (a ⊕ x ⊗ b ⊖ number (pos 0))) refl))

@@ -41,25 +41,32 @@ chain_text (Some sheet) changing from to parts end =
       end = end_of sheet to end;
     }))
 
-range_testprob : range_text (sheet_of "NAME          TESTPROB\nROWS\n N  COST\n L  LIM1\n G  LIM2\n E  MYEQN\nCOLUMNS\n    XONE      COST      1              LIM1      1\n    XONE      LIM2      1\n    YTWO      COST      4              LIM1      1\n    YTWO      MYEQN     -1\n    ZTHREE    COST      9              LIM2      1\n    ZTHREE    MYEQN     1\nRHS\n    RHS       LIM1      5              LIM2      10\n    RHS       MYEQN     7\nBOUNDS\n UP BND1      XONE      4\n LO BND1      YTWO      -1\n UP BND1      YTWO      1\nENDATA\n" (record { objective = None; rhs = None; options = record { bound = Some (codes "BND1"); range = None; sense = Min } })) (Bs ∷ Bs ∷ Ll ∷ Ll ∷ Bs ∷ Ll ∷ Bs ∷ []) (record {
-  limits = ends 3 (Some (fraction (pos 6) 1)) (Some (fraction (pos 10) 1)) ∷ ends 4 (Some (fraction (pos 7) 1)) (Some (fraction (pos 11) 1)) ∷ ends 6 (Some (fraction (negsuc 0) 1)) (Some (fraction (pos 1) 1)) ∷ [];
-  costs = ends 5 (Some (fraction (pos 0) 1)) (Some (fraction (pos 13) 1)) ∷ ends 6 (Some (fraction (negsuc 7) 1)) (None) ∷ ends 7 (Some (fraction (negsuc 2) 1)) (None) ∷ [];
-  rows = ends 2 (Some (fraction (negsuc 0) 1)) (None) ∷ [];
-})
+range_testprob : range_text
+    (sheet_of "NAME          TESTPROB\nROWS\n N  COST\n L  LIM1\n G  LIM2\n E  MYEQN\nCOLUMNS\n    XONE      COST      1              LIM1      1\n    XONE      LIM2      1\n    YTWO      COST      4              LIM1      1\n    YTWO      MYEQN     -1\n    ZTHREE    COST      9              LIM2      1\n    ZTHREE    MYEQN     1\nRHS\n    RHS       LIM1      5              LIM2      10\n    RHS       MYEQN     7\nBOUNDS\n UP BND1      XONE      4\n LO BND1      YTWO      -1\n UP BND1      YTWO      1\nENDATA\n" (record { objective = None; rhs = None; options = record { bound = Some (codes "BND1"); range = None; sense = Min } })) (Bs ∷ Bs ∷ Ll ∷ Ll ∷ Bs ∷ Ll ∷ Bs ∷ []) (record {
+      limits =
+          ends 3 (Some (fraction (pos 6) 1)) (Some (fraction (pos 10) 1)) ∷ ends 4 (Some (fraction (pos 7) 1)) (Some (fraction (pos 11) 1)) ∷ ends 6
+          (Some (fraction (negsuc 0) 1)) (Some (fraction (pos 1) 1)) ∷ [];
+      costs =
+          ends 5 (Some (fraction (pos 0) 1)) (Some (fraction (pos 13) 1)) ∷ ends 6 (Some (fraction (negsuc 7) 1)) (None) ∷ ends 7 (Some (fraction (negsuc 2) 1))
+          (None) ∷ [];
+      rows = ends 2 (Some (fraction (negsuc 0) 1)) (None) ∷ [];
+    })
     ≡ codes "RANGE\nSECTION 1 - ROWS AT LIMIT LEVEL\n    3 LIM2     LL 10 6 10\n    4 MYEQN    EQ 7 7 11\nSECTION 2 - COLUMNS AT LIMIT LEVEL\n    6 YTWO     LL -1 -1 1 4 -8 NONE\nSECTION 3 - ROWS AT INTERMEDIATE LEVEL\n    2 LIM1     BS 3 -1 NONE\nSECTION 4 - COLUMNS AT INTERMEDIATE LEVEL\n    5 XONE     BS 4 1 0 13\n    7 ZTHREE   BS 6 9 -3 NONE\n"
 unfolding ends range_text chain_text sheet_of card_fault deck_fault conversion described numbered number_of number_fault value_of reading_of cards_of tableau_for table_for fraction whole ◌+ℚ◌ ◌*ℚ◌ neg_ℚ inverse_ℚ reciprocal compare_ℚ sum_to gcd digits
 range_testprob = refl
 
-range_two : range_text (sheet_of "NAME          TWO\nROWS\n N  COST\n N  CHG\n L  LIM\nCOLUMNS\n    X         COST      -1\n    X         CHG       -1\n    X         LIM       1\n    Y         COST      -2\n    Y         LIM       1\nRHS\n    B         LIM       4\nBOUNDS\n UP BND       X         3\nENDATA\n" (record { objective = None; rhs = None; options = record { bound = Some (codes "BND"); range = None; sense = Min } })) (Bs ∷ Bs ∷ Ul ∷ Ll ∷ Bs ∷ []) (record {
-  limits = ends 3 (Some (fraction (pos 0) 1)) (None) ∷ ends 4 (None) (Some (fraction (pos 3) 1)) ∷ [];
-  costs = ends 4 (Some (fraction (negsuc 1) 1)) (None) ∷ ends 5 (None) (Some (fraction (negsuc 0) 1)) ∷ [];
-  rows = ends 2 (None) (Some (fraction (pos 1) 1)) ∷ [];
-})
+range_two : range_text
+    (sheet_of "NAME          TWO\nROWS\n N  COST\n N  CHG\n L  LIM\nCOLUMNS\n    X         COST      -1\n    X         CHG       -1\n    X         LIM       1\n    Y         COST      -2\n    Y         LIM       1\nRHS\n    B         LIM       4\nBOUNDS\n UP BND       X         3\nENDATA\n" (record { objective = None; rhs = None; options = record { bound = Some (codes "BND"); range = None; sense = Min } })) (Bs ∷ Bs ∷ Ul ∷ Ll ∷ Bs ∷ []) (record {
+      limits = ends 3 (Some (fraction (pos 0) 1)) (None) ∷ ends 4 (None) (Some (fraction (pos 3) 1)) ∷ [];
+      costs = ends 4 (Some (fraction (negsuc 1) 1)) (None) ∷ ends 5 (None) (Some (fraction (negsuc 0) 1)) ∷ [];
+      rows = ends 2 (None) (Some (fraction (pos 1) 1)) ∷ [];
+    })
     ≡ codes "RANGE\nSECTION 1 - ROWS AT LIMIT LEVEL\n    3 LIM      UL 4 0 NONE\nSECTION 2 - COLUMNS AT LIMIT LEVEL\n    4 X        LL 0 NONE 3 -1 -2 NONE\nSECTION 3 - ROWS AT INTERMEDIATE LEVEL\n    2 CHG      BS 0 NONE 1\nSECTION 4 - COLUMNS AT INTERMEDIATE LEVEL\n    5 Y        BS 4 -2 NONE -1\n"
 unfolding ends range_text chain_text sheet_of card_fault deck_fault conversion described numbered number_of number_fault value_of reading_of cards_of tableau_for table_for fraction whole ◌+ℚ◌ ◌*ℚ◌ neg_ℚ inverse_ℚ reciprocal compare_ℚ sum_to gcd digits
 range_two = refl
 
-paraobj_two_intervals : chain_text (sheet_of "NAME          TWO\nROWS\n N  COST\n N  CHG\n L  LIM\nCOLUMNS\n    X         COST      -1\n    X         CHG       -1\n    X         LIM       1\n    Y         COST      -2\n    Y         LIM       1\nRHS\n    B         LIM       4\nBOUNDS\n UP BND       X         3\nENDATA\n" (record { objective = None; rhs = None; options = record { bound = Some (codes "BND"); range = None; sense = Min } })) (Row (codes "CHG")) (fraction (pos 0) 1) (fraction (pos 5) 1)
+paraobj_two_intervals : chain_text
+    (sheet_of "NAME          TWO\nROWS\n N  COST\n N  CHG\n L  LIM\nCOLUMNS\n    X         COST      -1\n    X         CHG       -1\n    X         LIM       1\n    Y         COST      -2\n    Y         LIM       1\nRHS\n    B         LIM       4\nBOUNDS\n UP BND       X         3\nENDATA\n" (record { objective = None; rhs = None; options = record { bound = Some (codes "BND"); range = None; sense = Min } })) (Row (codes "CHG")) (fraction (pos 0) 1) (fraction (pos 5) 1)
     (record {
       from = fraction (pos 0) 1;
       to = fraction (pos 1) 1;
@@ -83,7 +90,10 @@ paraobj_two_intervals : chain_text (sheet_of "NAME          TWO\nROWS\n N  COST\
 unfolding ends range_text chain_text sheet_of card_fault deck_fault conversion described numbered number_of number_fault value_of reading_of cards_of tableau_for table_for fraction whole ◌+ℚ◌ ◌*ℚ◌ neg_ℚ inverse_ℚ reciprocal compare_ℚ sum_to gcd digits
 paraobj_two_intervals = refl
 
-paraobj_unbounded_past : chain_text (sheet_of "NAME          T\nROWS\n N  COST\n N  CHG\nCOLUMNS\n    X         COST      1\n    X         CHG       -1\nENDATA\n" (record { objective = None; rhs = None; options = record { bound = None; range = None; sense = Min } })) (Row (codes "CHG")) (fraction (pos 0) 1) (fraction (pos 1) 1)
+paraobj_unbounded_past : chain_text
+    (sheet_of "NAME          T\nROWS\n N  COST\n N  CHG\nCOLUMNS\n    X         COST      1\n    X         CHG       -1\nENDATA\n"
+    (record { objective = None; rhs = None; options = record { bound = None; range = None; sense = Min } })) (Row (codes "CHG")) (fraction (pos 0) 1)
+    (fraction (pos 1) 1)
     (record {
       from = fraction (pos 0) 1;
       to = fraction (pos 1) 1;
@@ -93,12 +103,14 @@ paraobj_unbounded_past : chain_text (sheet_of "NAME          T\nROWS\n N  COST\n
       price = fraction (pos 0) 1 ∷ fraction (pos 0) 1 ∷ fraction (pos 1) 1 ∷ [];
       price_rate = fraction (pos 0) 1 ∷ fraction (pos 0) 1 ∷ fraction (negsuc 0) 1 ∷ [];
     } ∷ [])
-    (PastUnbounded (fraction (pos 1) 1) (fraction (pos 0) 1 ∷ fraction (pos 0) 1 ∷ fraction (pos 0) 1 ∷ []) (fraction (pos 1) 1 ∷ fraction (negsuc 0) 1 ∷ fraction (pos 1) 1 ∷ []))
+    (PastUnbounded (fraction (pos 1) 1) (fraction (pos 0) 1 ∷ fraction (pos 0) 1 ∷ fraction (pos 0) 1 ∷ [])
+    (fraction (pos 1) 1 ∷ fraction (negsuc 0) 1 ∷ fraction (pos 1) 1 ∷ []))
     ≡ codes "PARAOBJ FROM 0 CHANGE CHG\nINTERVAL 1 FROM 0 TO 1\n    1 COST     BS 0 0 0 0\n    2 CHG      BS 0 0 0 0\n    3 X        LL 0 0 1 -1\nPARAOBJ UNBOUNDED PAST 1\n    1 COST     0 1\n    2 CHG      0 -1\n    3 X        0 1\n"
 unfolding ends range_text chain_text sheet_of card_fault deck_fault conversion described numbered number_of number_fault value_of reading_of cards_of tableau_for table_for fraction whole ◌+ℚ◌ ◌*ℚ◌ neg_ℚ inverse_ℚ reciprocal compare_ℚ sum_to gcd digits
 paraobj_unbounded_past = refl
 
-pararhs_infeasible_past : chain_text (sheet_of "NAME          ONE\nROWS\n N  COST\n G  LOW\nCOLUMNS\n    X         COST      1\n    X         LOW       1\nRHS\n    B         LOW       1\n    C         LOW       1\nBOUNDS\n UP BND       X         3\nENDATA\n" (record { objective = None; rhs = None; options = record { bound = Some (codes "BND"); range = None; sense = Min } })) (Set (codes "C")) (fraction (pos 0) 1) (fraction (pos 2) 1)
+pararhs_infeasible_past : chain_text
+    (sheet_of "NAME          ONE\nROWS\n N  COST\n G  LOW\nCOLUMNS\n    X         COST      1\n    X         LOW       1\nRHS\n    B         LOW       1\n    C         LOW       1\nBOUNDS\n UP BND       X         3\nENDATA\n" (record { objective = None; rhs = None; options = record { bound = Some (codes "BND"); range = None; sense = Min } })) (Set (codes "C")) (fraction (pos 0) 1) (fraction (pos 2) 1)
     (record {
       from = fraction (pos 0) 1;
       to = fraction (pos 2) 1;
@@ -113,7 +125,8 @@ pararhs_infeasible_past : chain_text (sheet_of "NAME          ONE\nROWS\n N  COS
 unfolding ends range_text chain_text sheet_of card_fault deck_fault conversion described numbered number_of number_fault value_of reading_of cards_of tableau_for table_for fraction whole ◌+ℚ◌ ◌*ℚ◌ neg_ℚ inverse_ℚ reciprocal compare_ℚ sum_to gcd digits
 pararhs_infeasible_past = refl
 
-pararhs_two_intervals : chain_text (sheet_of "NAME          T\nROWS\n N  COST\n G  LOW\nCOLUMNS\n    X         COST      1\n    X         LOW       1\n    Y         COST      2\n    Y         LOW       1\nRHS\n    B         LOW       1\n    C         LOW       1\nBOUNDS\n UP BND       X         3\nENDATA\n" (record { objective = None; rhs = None; options = record { bound = Some (codes "BND"); range = None; sense = Min } })) (Set (codes "C")) (fraction (pos 0) 1) (fraction (pos 5) 1)
+pararhs_two_intervals : chain_text
+    (sheet_of "NAME          T\nROWS\n N  COST\n G  LOW\nCOLUMNS\n    X         COST      1\n    X         LOW       1\n    Y         COST      2\n    Y         LOW       1\nRHS\n    B         LOW       1\n    C         LOW       1\nBOUNDS\n UP BND       X         3\nENDATA\n" (record { objective = None; rhs = None; options = record { bound = Some (codes "BND"); range = None; sense = Min } })) (Set (codes "C")) (fraction (pos 0) 1) (fraction (pos 5) 1)
     (record {
       from = fraction (pos 0) 1;
       to = fraction (pos 2) 1;
@@ -137,7 +150,8 @@ pararhs_two_intervals : chain_text (sheet_of "NAME          T\nROWS\n N  COST\n 
 unfolding ends range_text chain_text sheet_of card_fault deck_fault conversion described numbered number_of number_fault value_of reading_of cards_of tableau_for table_for fraction whole ◌+ℚ◌ ◌*ℚ◌ neg_ℚ inverse_ℚ reciprocal compare_ℚ sum_to gcd digits
 pararhs_two_intervals = refl
 
-pararhs_point_interval : chain_text (sheet_of "NAME          ONE\nROWS\n N  COST\n G  LOW\nCOLUMNS\n    X         COST      1\n    X         LOW       1\nRHS\n    B         LOW       1\n    C         LOW       1\nBOUNDS\n UP BND       X         3\nENDATA\n" (record { objective = None; rhs = None; options = record { bound = Some (codes "BND"); range = None; sense = Min } })) (Set (codes "C")) (fraction (pos 0) 1) (fraction (pos 0) 1)
+pararhs_point_interval : chain_text
+    (sheet_of "NAME          ONE\nROWS\n N  COST\n G  LOW\nCOLUMNS\n    X         COST      1\n    X         LOW       1\nRHS\n    B         LOW       1\n    C         LOW       1\nBOUNDS\n UP BND       X         3\nENDATA\n" (record { objective = None; rhs = None; options = record { bound = Some (codes "BND"); range = None; sense = Min } })) (Set (codes "C")) (fraction (pos 0) 1) (fraction (pos 0) 1)
     (record {
       from = fraction (pos 0) 1;
       to = fraction (pos 0) 1;

@@ -23,7 +23,8 @@ last_basis [] = []
 last_basis (first ∷ bases) = last_of first bases
 
 -- evidence at a basis, which is printed with its basics and those of its waypoint
-pub record IsEvidence (statement : SolvingStatement) (breakpoint : Option ℚ) (left : ℕ) (bases : List Basis) (ends : List ℚ) (e : Evidence) (place : Option Place) : Type 0 where
+pub record IsEvidence (statement : SolvingStatement) (breakpoint : Option ℚ) (left : ℕ) (bases : List Basis) (ends : List ℚ) (e : Evidence)
+    (place : Option Place) : Type 0 where
   pub basis : Basis
   pub way : List Bool
   pub holds : EvidenceHolds statement breakpoint left bases ends basis way e
@@ -31,7 +32,8 @@ pub record IsEvidence (statement : SolvingStatement) (breakpoint : Option ℚ) (
 
 -- a solving verb has gone over these bases in this statement, by its rule, and has so many steps left; without a limit any number is
 -- left
-pub record RuleOverflowsOnPath (rule : Rule) (statement : SolvingStatement) (sheet : Sheet) (bases : List Basis) (limit : Option ℕ) (e : Evidence) (place : Option Place) : Type 0 where
+pub record RuleOverflowsOnPath (rule : Rule) (statement : SolvingStatement) (sheet : Sheet) (bases : List Basis) (limit : Option ℕ) (e : Evidence)
+    (place : Option Place) : Type 0 where
   pub steps : List Basis
   pub is_path : RulePath rule sheet.lp (last_basis bases) steps
   pub left : ℕ
@@ -66,16 +68,19 @@ pub record StandsAt (sheet : Sheet) (bases : List Basis) (parametric_run : Param
   pub standing : RunPlace
   pub steps : List Basis
   pub ends : List ℚ
-  pub reaches : Reaches (family_of sheet parametric_run.changing) (IsFace sheet parametric_run.changing) parametric_run.from parametric_run.to (last_basis bases) standing steps ends
+  pub reaches : Reaches (family_of sheet parametric_run.changing) (IsFace sheet parametric_run.changing) parametric_run.from parametric_run.to
+      (last_basis bases) standing steps ends
   pub left : ℕ
   pub is_left : length steps + left ≡ parametric_run.limit
 
 -- evidence at a basis, or of a limit at a value, which has no place
 pub data OverflowsOnParametricRun (sheet : Sheet) (bases : List Basis) (parametric_run : ParametricRun) (e : Evidence) (place : Option Place) : Type 0 where
   at_basis : (now : StandsAt sheet bases parametric_run) →
-      IsEvidence (parametric_run_statement sheet parametric_run.changing parametric_run.from) (breakpoint_of now.standing) now.left (bases ++ now.steps) now.ends e place → OverflowsOnParametricRun sheet bases parametric_run e place
+      IsEvidence (parametric_run_statement sheet parametric_run.changing parametric_run.from) (breakpoint_of now.standing) now.left
+      (bases ++ now.steps) now.ends e place → OverflowsOnParametricRun sheet bases parametric_run e place
   of_limit : (now : StandsAt sheet bases parametric_run) →
-      ShiftHolds (parametric_run_statement sheet parametric_run.changing parametric_run.from) now.ends e → place ≡ None → OverflowsOnParametricRun sheet bases parametric_run e place
+      ShiftHolds (parametric_run_statement sheet parametric_run.changing parametric_run.from) now.ends e → place ≡ None →
+      OverflowsOnParametricRun sheet bases parametric_run e place
 
 abbrev pub OverflowsAt : Question → Sheet → List Basis → Evidence → Option Place → Type 0
 OverflowsAt (OfPath solver limit) sheet bases e place = OverflowsBy solver sheet bases limit e place

@@ -74,4 +74,5 @@ module _ (sheet : Sheet) (s : Basis) (parametric_run : ParametricRun) where
   abbrev pub IsParametricRun : ParametricRunEnd → Type 0
   IsParametricRun (Opening bases verdict check) = FailsToOpen bases verdict check
   IsParametricRun (Chained bases intervals end) = IsChained bases intervals end
-  IsParametricRun ParametricRunLimit = RunGoesOnFor (family_of sheet parametric_run.changing) (IsFace sheet parametric_run.changing) parametric_run.from parametric_run.to s parametric_run.limit
+  IsParametricRun ParametricRunLimit =
+      RunGoesOnFor (family_of sheet parametric_run.changing) (IsFace sheet parametric_run.changing) parametric_run.from parametric_run.to s parametric_run.limit

@@ -23,7 +23,8 @@ abbrev pub verdict_of : Sheet → ℕ → PathEnding → PathVerdict
 verdict_of sheet steps (EndsOptimal point prices) = OptimalAt (counted_steps steps) (value_at point sheet.lp.objective)
 verdict_of sheet steps (EndsCrossed k) = CrossedAt k
 verdict_of sheet steps (EndsInfeasible ray) = InfeasibleBy (counted_steps steps) (ray_lines sheet ray)
-verdict_of sheet steps (EndsUnbounded point direction) = UnboundedBy (counted_steps steps) (value_at point sheet.lp.objective) (pair_lines sheet point direction)
+verdict_of sheet steps (EndsUnbounded point direction) =
+    UnboundedBy (counted_steps steps) (value_at point sheet.lp.objective) (pair_lines sheet point direction)
 
 -- the check of an end
 abbrev pub check_of : LinearProgram → PathEnding → Verdict
@@ -42,7 +43,8 @@ pub record IsVerdict (sheet : Sheet) (steps : ℕ) (ending : PathEnding) (verdic
   pub is_check : check_of sheet.lp ending ≡ found check
 
 -- the path by this rule goes over these bases, within its limit if it has one, and ends with this verdict
-pub record RuleReachesVerdict (rule : Rule) (sheet : Sheet) (s : Basis) (limit : Option ℕ) (bases : List Basis) (verdict : PathVerdict) (check : Check) : Type 0 where
+pub record RuleReachesVerdict (rule : Rule) (sheet : Sheet) (s : Basis) (limit : Option ℕ) (bases : List Basis) (verdict : PathVerdict)
+    (check : Check) : Type 0 where
   pub ending : PathEnding
   pub ends : RulePathEnds rule sheet.lp s bases ending
   pub within_limit : IfSome limit (λ most. length bases ≤ most)

@@ -46,23 +46,32 @@ module _ {X : Type 0} where
 
     left_widens : (op : Op) (left : ℚ) → Widens (after_left reads op left) (after_left others op left)
     left_widens op left =
-        after_text (codes " ") (with_word (fraction_in checker_of_128_bits) (after_right reads op left)) (with_word (fraction_in checker_of_128_bits) (after_right others op left))
-        (after_word (fraction_in checker_of_128_bits) (fraction_in checker_of_128_bits) (after_right reads op left) (after_right others op left) (λ word x e. e) (right_widens op left))
+        after_text (codes " ") (with_word (fraction_in checker_of_128_bits) (after_right reads op left))
+        (with_word (fraction_in checker_of_128_bits) (after_right others op left))
+        (after_word (fraction_in checker_of_128_bits) (fraction_in checker_of_128_bits) (after_right reads op left) (after_right others op left) (λ word x e. e)
+        (right_widens op left))
 
     operation_widens : (op : Op) → Widens (after_operation reads op) (after_operation others op)
     operation_widens op =
-        after_text (codes " ") (with_word (fraction_in checker_of_128_bits) (after_left reads op)) (with_word (fraction_in checker_of_128_bits) (after_left others op))
-        (after_word (fraction_in checker_of_128_bits) (fraction_in checker_of_128_bits) (after_left reads op) (after_left others op) (λ word x e. e) (left_widens op))
+        after_text (codes " ") (with_word (fraction_in checker_of_128_bits) (after_left reads op))
+        (with_word (fraction_in checker_of_128_bits) (after_left others op))
+        (after_word (fraction_in checker_of_128_bits) (fraction_in checker_of_128_bits) (after_left reads op) (after_left others op) (λ word x e. e)
+        (left_widens op))
 
     unchecked_widens : Widens (after_unchecked reads) (after_unchecked others)
-    unchecked_widens = after_word (named all_operations) (named all_operations) (after_operation reads) (after_operation others) (λ word op e. e) operation_widens
+    unchecked_widens =
+        after_word (named all_operations) (named all_operations) (after_operation reads) (after_operation others) (λ word op e. e) operation_widens
 
-  not_checked : (others : Check → List ℕ → Option X) (rest left : List ℕ) → left_after (codes "UNCHECKED ") rest ≡ Some left → with_text (codes "CHECKED\n") (others Checked) rest ≡ None
-  not_checked others rest left stands = ap (λ r. option_and_then (others Checked) (left_after (codes "CHECKED\n") r)) (is_text (codes "UNCHECKED ") rest left stands)
+  not_checked : (others : Check → List ℕ → Option X) (rest left : List ℕ) → left_after (codes "UNCHECKED ") rest ≡ Some left →
+      with_text (codes "CHECKED\n") (others Checked) rest ≡ None
+  not_checked others rest left stands =
+      ap (λ r. option_and_then (others Checked) (left_after (codes "CHECKED\n") r)) (is_text (codes "UNCHECKED ") rest left stands)
 
-check_widens : {X : Type 0} (reads others : Check → List ℕ → Option X) → ((check : Check) → Widens (reads check) (others check)) → Widens (with_check reads) (with_check others)
+check_widens : {X : Type 0} (reads others : Check → List ℕ → Option X) → ((check : Check) → Widens (reads check) (others check)) →
+    Widens (with_check reads) (with_check others)
 check_widens reads others widens =
-    either (with_text (codes "CHECKED\n") (reads Checked)) (unchecked_in reads) (with_text (codes "CHECKED\n") (others Checked)) (unchecked_in others) (after_text (codes "CHECKED\n") (reads Checked) (others Checked) (widens Checked))
+    either (with_text (codes "CHECKED\n") (reads Checked)) (unchecked_in reads) (with_text (codes "CHECKED\n") (others Checked)) (unchecked_in others)
+    (after_text (codes "CHECKED\n") (reads Checked) (others Checked) (widens Checked))
     (after_text (codes "UNCHECKED ") (after_unchecked reads) (after_unchecked others) (unchecked_widens reads others widens))
     (λ rest x none e. let stands = text_stands (codes "UNCHECKED ") (after_unchecked reads) rest x e in not_checked others rest stands.0 stands.1)
 
@@ -78,7 +87,8 @@ module _ (of other : List ℕ → Option ℚ) (means : (word : List ℕ) (x : �
 
   slot_widens : (slot : Slot) → Widens (slot_in of slot) (slot_in other slot)
   slot_widens slot =
-      after_text (codes " ") (with_word (value_in of slot) (λ value left. Some (value, left))) (with_word (value_in other slot) (λ value left. Some (value, left)))
+      after_text (codes " ") (with_word (value_in of slot) (λ value left. Some (value, left)))
+      (with_word (value_in other slot) (λ value left. Some (value, left)))
       (after_word (value_in of slot) (value_in other slot) _ _ (value_widens slot) (λ value. same (λ left. Some (value, left))))
 
   values_widen : (slots : List Slot) → Widens (values_in of slots) (values_in other slots)
@@ -93,35 +103,46 @@ module _ (of other : List ℕ → Option ℚ) (means : (word : List ℕ) (x : �
 
     pub table_widens : (slots : ℕ → List Slot) (ks : List ℕ) → Widens (table_in of sheet slots ks) (table_in other sheet slots ks)
     table_widens slots [] = same (λ rest. Some ([], rest))
-    table_widens slots (k ∷ ks) = more (line_in of sheet (slots k) k) (line_in other sheet (slots k) k) (table_in of sheet slots ks) (table_in other sheet slots ks) (line_widens (slots k) k) (table_widens slots ks)
+    table_widens slots (k ∷ ks) =
+        more (line_in of sheet (slots k) k) (line_in other sheet (slots k) k) (table_in of sheet slots ks) (table_in other sheet slots ks)
+        (line_widens (slots k) k) (table_widens slots ks)
 
     multiplier_widens : (k : ℕ) → Widens (multiplier_in of sheet k) (multiplier_in other sheet k)
-    multiplier_widens k = gone_on _ _ (line_in of sheet (AnyNumber ∷ []) k) (line_in other sheet (AnyNumber ∷ []) k) (line_widens (AnyNumber ∷ []) k) (λ got line e. e)
+    multiplier_widens k =
+        gone_on _ _ (line_in of sheet (AnyNumber ∷ []) k) (line_in other sheet (AnyNumber ∷ []) k) (line_widens (AnyNumber ∷ []) k) (λ got line e. e)
 
     pub ray_widens : (ks : List ℕ) → Widens (ray_in of sheet ks) (ray_in other sheet ks)
     ray_widens [] = same (λ rest. if begins_table_line rest then None else Some ([], rest))
     ray_widens (k ∷ ks) =
         by_text (left_after (line_head sheet k)) (ray_in of sheet ks) (λ rest. then_more (multiplier_in of sheet k rest) (ray_in of sheet ks))
         (ray_in other sheet ks) (λ rest. then_more (multiplier_in other sheet k rest) (ray_in other sheet ks))
-        (ray_widens ks) (more (multiplier_in of sheet k) (multiplier_in other sheet k) (ray_in of sheet ks) (ray_in other sheet ks) (multiplier_widens k) (ray_widens ks))
+        (ray_widens ks)
+        (more (multiplier_in of sheet k) (multiplier_in other sheet k) (ray_in of sheet ks) (ray_in other sheet ks) (multiplier_widens k) (ray_widens ks))
 
     -- ---- verdicts
 
     pub optimal_widens : Widens (optimal_in of sheet) (optimal_in other sheet)
     optimal_widens =
-        after_text (codes "OPTIMAL STEPS ") _ _ (after_word (count_in max_count) (count_in max_count) _ _ (λ word n e. e) (λ steps. after_text (codes " OBJECTIVE ") _ _ (after_word of other _ _ means (λ objective.
+        after_text (codes "OPTIMAL STEPS ") _ _
+        (after_word (count_in max_count) (count_in max_count) _ _ (λ word n e. e)
+        (λ steps. after_text (codes " OBJECTIVE ") _ _ (after_word of other _ _ means (λ objective.
         after_text (codes " ") _ _ (check_widens _ _ (λ check. same (λ rest. Some ((OptimalAt steps objective, check), rest))))))))
 
     pub infeasible_widens : Widens (infeasible_in of sheet) (infeasible_in other sheet)
     infeasible_widens =
-        after_text (codes "INFEASIBLE STEPS ") _ _ (after_word (count_in max_count) (count_in max_count) _ _ (λ word n e. e) (λ steps. after_text (codes " RAY ") _ _ (check_widens _ _ (λ check.
-        mapped (λ got. ((InfeasibleBy steps got.0, check), got.1)) (ray_in of sheet (variables sheet.lp.matrix)) (ray_in other sheet (variables sheet.lp.matrix)) (ray_widens (variables sheet.lp.matrix))))))
+        after_text (codes "INFEASIBLE STEPS ") _ _
+        (after_word (count_in max_count) (count_in max_count) _ _ (λ word n e. e) (λ steps. after_text (codes " RAY ") _ _ (check_widens _ _ (λ check.
+        mapped (λ got. ((InfeasibleBy steps got.0, check), got.1)) (ray_in of sheet (variables sheet.lp.matrix))
+        (ray_in other sheet (variables sheet.lp.matrix)) (ray_widens (variables sheet.lp.matrix))))))
 
     unbounded_widens : Widens (unbounded_in of sheet) (unbounded_in other sheet)
     unbounded_widens =
-        after_text (codes "UNBOUNDED STEPS ") _ _ (after_word (count_in max_count) (count_in max_count) _ _ (λ word n e. e) (λ steps. after_text (codes " OBJECTIVE ") _ _ (after_word of other _ _ means (λ objective.
+        after_text (codes "UNBOUNDED STEPS ") _ _
+        (after_word (count_in max_count) (count_in max_count) _ _ (λ word n e. e)
+        (λ steps. after_text (codes " OBJECTIVE ") _ _ (after_word of other _ _ means (λ objective.
         after_text (codes " ") _ _ (check_widens _ _ (λ check.
-        mapped (λ got. ((UnboundedBy steps objective got.0, check), got.1)) (table_in of sheet pair_slots (variables sheet.lp.matrix)) (table_in other sheet pair_slots (variables sheet.lp.matrix))
+        mapped (λ got. ((UnboundedBy steps objective got.0, check), got.1)) (table_in of sheet pair_slots (variables sheet.lp.matrix))
+        (table_in other sheet pair_slots (variables sheet.lp.matrix))
         (table_widens pair_slots (variables sheet.lp.matrix))))))))
 
     -- none of the others begins with the text of an optimal verdict, and that of an unbounded one doesn't begin as an infeasible one
@@ -141,14 +162,17 @@ module _ (of other : List ℕ → Option ℚ) (means : (word : List ℕ) (x : �
         let stands = text_stands (codes "INFEASIBLE STEPS 0 CROSSED ") _ rest got e in
         (codes "0 CROSSED " ++ stands.0, ap (left_after (codes "INFEASIBLE STEPS ")) (is_text (codes "INFEASIBLE STEPS 0 CROSSED ") rest stands.0 stands.1))
 
-    late_opens : (rest : List ℕ) (got : Claim × List ℕ) → option_or (infeasible_in of sheet rest) (unbounded_in of sheet rest) ≡ Some got → OpensWith (codes "INFEASIBLE STEPS ") rest ⊎ OpensWith (codes "UNBOUNDED STEPS ") rest
+    late_opens : (rest : List ℕ) (got : Claim × List ℕ) → option_or (infeasible_in of sheet rest) (unbounded_in of sheet rest) ≡ Some got →
+        OpensWith (codes "INFEASIBLE STEPS ") rest ⊎ OpensWith (codes "UNBOUNDED STEPS ") rest
     late_opens rest got e = at (infeasible_in of sheet rest) refl e
       where
-        at : (o : Parsed Claim) → infeasible_in of sheet rest ≡ o → option_or o (unbounded_in of sheet rest) ≡ Some got → OpensWith (codes "INFEASIBLE STEPS ") rest ⊎ OpensWith (codes "UNBOUNDED STEPS ") rest
+        at : (o : Parsed Claim) → infeasible_in of sheet rest ≡ o → option_or o (unbounded_in of sheet rest) ≡ Some got →
+            OpensWith (codes "INFEASIBLE STEPS ") rest ⊎ OpensWith (codes "UNBOUNDED STEPS ") rest
         at None is e = inr (text_stands (codes "UNBOUNDED STEPS ") _ rest got e)
         at (Some first) is e = inl (text_stands (codes "INFEASIBLE STEPS ") _ rest first is)
 
-    late_widens : Widens (λ rest. option_or (infeasible_in of sheet rest) (unbounded_in of sheet rest)) (λ rest. option_or (infeasible_in other sheet rest) (unbounded_in other sheet rest))
+    late_widens : Widens (λ rest. option_or (infeasible_in of sheet rest) (unbounded_in of sheet rest))
+        (λ rest. option_or (infeasible_in other sheet rest) (unbounded_in other sheet rest))
     late_widens =
         either (infeasible_in of sheet) (unbounded_in of sheet) (infeasible_in other sheet) (unbounded_in other sheet) infeasible_widens unbounded_widens
         (λ rest got none e. no_infeasible rest (text_stands (codes "UNBOUNDED STEPS ") _ rest got e))
@@ -163,7 +187,8 @@ module _ (of other : List ℕ → Option ℚ) (means : (word : List ℕ) (x : �
     abbrev Opens : List ℕ → Type 0
     Opens rest = OpensWith (codes "INFEASIBLE STEPS ") rest ⊎ OpensWith (codes "UNBOUNDED STEPS ") rest
 
-    crossed_or_late : (reads : List ℕ → Parsed Claim) → ((rest : List ℕ) (got : Claim × List ℕ) → reads rest ≡ Some got → Opens rest) → (rest : List ℕ) (got : Claim × List ℕ) → behind_crossed reads rest ≡ Some got → Opens rest
+    crossed_or_late : (reads : List ℕ → Parsed Claim) → ((rest : List ℕ) (got : Claim × List ℕ) → reads rest ≡ Some got → Opens rest) →
+        (rest : List ℕ) (got : Claim × List ℕ) → behind_crossed reads rest ≡ Some got → Opens rest
     crossed_or_late reads opens rest got e = at (crossed_in sheet rest) refl e
       where
         at : (o : Parsed Claim) → crossed_in sheet rest ≡ o → option_or o (reads rest) ≡ Some got → Opens rest
@@ -172,12 +197,14 @@ module _ (of other : List ℕ → Option ℚ) (means : (word : List ℕ) (x : �
 
     claim_widens : (solver : Solver) → Widens (claim_in of sheet solver) (claim_in other sheet solver)
     claim_widens Primal =
-        either (optimal_in of sheet) (behind_crossed (λ rest. option_or (infeasible_in of sheet rest) (unbounded_in of sheet rest))) (optimal_in other sheet) (behind_crossed (λ rest. option_or (infeasible_in other sheet rest) (unbounded_in other sheet rest)))
+        either (optimal_in of sheet) (behind_crossed (λ rest. option_or (infeasible_in of sheet rest) (unbounded_in of sheet rest))) (optimal_in other sheet)
+        (behind_crossed (λ rest. option_or (infeasible_in other sheet rest) (unbounded_in other sheet rest)))
         optimal_widens (crossed_widens _ _ late_widens) (λ rest got none e. no_optimal rest (crossed_or_late _ late_opens rest got e))
     claim_widens Dual =
         either (optimal_in of sheet) (behind_crossed (infeasible_in of sheet)) (optimal_in other sheet) (behind_crossed (infeasible_in other sheet))
         optimal_widens (crossed_widens _ _ infeasible_widens)
-        (λ rest got none e. no_optimal rest (crossed_or_late (infeasible_in of sheet) (λ rest got e. inl (text_stands (codes "INFEASIBLE STEPS ") _ rest got e)) rest got e))
+        (λ rest got none e. no_optimal rest
+        (crossed_or_late (infeasible_in of sheet) (λ rest got e. inl (text_stands (codes "INFEASIBLE STEPS ") _ rest got e)) rest got e))
     claim_widens Paraobj = crossed_widens _ _ late_widens
     claim_widens Pararhs = crossed_widens _ _ late_widens
 
@@ -190,19 +217,23 @@ module _ (of other : List ℕ → Option ℚ) (means : (word : List ℕ) (x : �
     solution_widens mark =
         let rows_head = codes "SOLUTION " ++ (mark_text mark ++ codes "\nSECTION 1 - ROWS\nNUMBER ROW AT ACTIVITY SLACK LOWER UPPER DUAL\n") in
         let columns_head = codes "SECTION 2 - COLUMNS\nNUMBER COLUMN AT ACTIVITY COST LOWER UPPER REDUCED\n" in
-        gone_on _ _ (with_text rows_head (table_in of sheet (row_slots sheet) (row_numbers sheet.lp))) (with_text rows_head (table_in other sheet (row_slots sheet) (row_numbers sheet.lp)))
+        gone_on _ _ (with_text rows_head (table_in of sheet (row_slots sheet) (row_numbers sheet.lp)))
+        (with_text rows_head (table_in other sheet (row_slots sheet) (row_numbers sheet.lp)))
         (after_text rows_head _ _ (table_widens (row_slots sheet) (row_numbers sheet.lp)))
         (λ got.
         (mapped {X = List Line × List ℕ} {Y = SolutionLines × List ℕ} (λ later. (record { rows = got.0; columns = later.0 }, later.1))
-        (with_text columns_head (table_in of sheet (column_slots sheet) (column_numbers sheet.lp))) (with_text columns_head (table_in other sheet (column_slots sheet) (column_numbers sheet.lp)))
+        (with_text columns_head (table_in of sheet (column_slots sheet) (column_numbers sheet.lp)))
+        (with_text columns_head (table_in other sheet (column_slots sheet) (column_numbers sheet.lp)))
         (after_text columns_head _ _ (table_widens (column_slots sheet) (column_numbers sheet.lp)))).by got.1)
 
     -- ---- parametric runs
 
     pub interval_widens : (number : ℕ) (from : ℚ) → Widens (interval_in of sheet number from) (interval_in other sheet number from)
     interval_widens number from =
-        after_text (codes "INTERVAL " ++ (digits number ++ (codes " FROM " ++ (rational_text from ++ codes " TO ")))) _ _ (after_word of other _ _ means (λ to. after_text (codes "\n") _ _
-        (mapped (λ got. (record { from = from; to = to; lines = got.0 }, got.1)) (table_in of sheet part_slots (variables sheet.lp.matrix)) (table_in other sheet part_slots (variables sheet.lp.matrix))
+        after_text (codes "INTERVAL " ++ (digits number ++ (codes " FROM " ++ (rational_text from ++ codes " TO ")))) _ _
+        (after_word of other _ _ means (λ to. after_text (codes "\n") _ _
+        (mapped (λ got. (record { from = from; to = to; lines = got.0 }, got.1)) (table_in of sheet part_slots (variables sheet.lp.matrix))
+        (table_in other sheet part_slots (variables sheet.lp.matrix))
         (table_widens part_slots (variables sheet.lp.matrix)))))
 
     abbrev ends_by : (List ℕ → Option ℚ) → List ℕ → Parsed ChainEnd
@@ -222,19 +253,25 @@ module _ (of other : List ℕ → Option ℚ) (means : (word : List ℕ) (x : �
     unbounded_by_widens : Widens (unbounded_by of) (unbounded_by other)
     unbounded_by_widens =
         after_text (codes " UNBOUNDED PAST ") _ _ (after_word of other _ _ means (λ t. after_text (codes "\n") _ _
-        (mapped (λ got. (UnboundedPast t got.0, got.1)) (table_in of sheet pair_slots (variables sheet.lp.matrix)) (table_in other sheet pair_slots (variables sheet.lp.matrix)) (table_widens pair_slots (variables sheet.lp.matrix)))))
+        (mapped (λ got. (UnboundedPast t got.0, got.1)) (table_in of sheet pair_slots (variables sheet.lp.matrix))
+        (table_in other sheet pair_slots (variables sheet.lp.matrix)) (table_widens pair_slots (variables sheet.lp.matrix)))))
 
     infeasible_by_widens : Widens (infeasible_by of) (infeasible_by other)
     infeasible_by_widens =
         after_text (codes " INFEASIBLE PAST ") _ _ (after_word of other _ _ means (λ t. after_text (codes "\n") _ _
-        (mapped (λ got. (InfeasiblePast t got.0, got.1)) (ray_in of sheet (variables sheet.lp.matrix)) (ray_in other sheet (variables sheet.lp.matrix)) (ray_widens (variables sheet.lp.matrix)))))
+        (mapped (λ got. (InfeasiblePast t got.0, got.1)) (ray_in of sheet (variables sheet.lp.matrix)) (ray_in other sheet (variables sheet.lp.matrix))
+        (ray_widens (variables sheet.lp.matrix)))))
 
     no_end : (text rest : List ℕ) → OpensWith text rest → ((left : List ℕ) → ends_by other (text ++ left) ≡ None) → ends_by other rest ≡ None
     no_end text rest opens none = ap (ends_by other) (is_text text rest opens.0 opens.1) ∙ none opens.0
 
     pub close_widens : (solver : Solver) → Widens (close_in of sheet solver) (close_in other sheet solver)
-    close_widens Primal = after_text (solver_text Primal) _ _ (either (ends_by of) (λ left. None) (ends_by other) (λ left. None) ends_widen (same (λ left. None)) (λ rest got none e. absurd (cc e)))
-    close_widens Dual = after_text (solver_text Dual) _ _ (either (ends_by of) (λ left. None) (ends_by other) (λ left. None) ends_widen (same (λ left. None)) (λ rest got none e. absurd (cc e)))
+    close_widens Primal =
+        after_text (solver_text Primal) _ _
+        (either (ends_by of) (λ left. None) (ends_by other) (λ left. None) ends_widen (same (λ left. None)) (λ rest got none e. absurd (cc e)))
+    close_widens Dual =
+        after_text (solver_text Dual) _ _
+        (either (ends_by of) (λ left. None) (ends_by other) (λ left. None) ends_widen (same (λ left. None)) (λ rest got none e. absurd (cc e)))
     close_widens Paraobj =
         after_text (solver_text Paraobj) _ _ (either (ends_by of) (unbounded_by of) (ends_by other) (unbounded_by other) ends_widen unbounded_by_widens
         (λ rest got none e. no_end (codes " UNBOUNDED PAST ") rest (text_stands (codes " UNBOUNDED PAST ") _ rest got e) (λ left. refl)))

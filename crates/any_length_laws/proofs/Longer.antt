@@ -44,7 +44,8 @@ module _ (C : Checker) where
   pub nothing : {X : Type 0} → Reads {X = X} (λ rest. None) (λ rest. None)
   nothing {X} = record { agree = λ rest got e. absurd (cc e); leaves = λ rest got e. absurd (cc e) }
 
-  pub unless : {X : Type 0} (refuses : List ℕ → Bool) (x : X) → Reads (λ rest. if refuses rest then None else Some (x, rest)) (λ rest. if refuses rest then None else Some (x, rest))
+  pub unless : {X : Type 0} (refuses : List ℕ → Bool) (x : X) →
+      Reads (λ rest. if refuses rest then None else Some (x, rest)) (λ rest. if refuses rest then None else Some (x, rest))
   unless {X} refuses x = record { agree = λ rest got e. inl e; leaves = λ rest got e. by rest got (refuses rest) e }
     where
       by : (rest : List ℕ) (got : X × List ℕ) (b : Bool) → ◌≡◌ {A = Parsed X} (if b then None else Some (x, rest)) (Some got) → IsSuffix rest got.1
@@ -54,9 +55,11 @@ module _ (C : Checker) where
   -- ---- a text, a word, a number
 
   pub after_text : {X : Type 0} (text : List ℕ) (forms values : List ℕ → Parsed X) → Reads forms values → Reads (with_text text forms) (with_text text values)
-  after_text {X} text forms values reads = record { agree = λ rest got e. agrees rest got (left_after text rest) refl e; leaves = λ rest got e. left rest got (left_after text rest) refl e }
+  after_text {X} text forms values reads =
+      record { agree = λ rest got e. agrees rest got (left_after text rest) refl e; leaves = λ rest got e. left rest got (left_after text rest) refl e }
     where
-      agrees : (rest : List ℕ) (got : X × List ℕ) (o : Option (List ℕ)) → left_after text rest ≡ o → option_and_then forms o ≡ Some got → (option_and_then values o ≡ Some got) ⊎ HasLong C rest
+      agrees : (rest : List ℕ) (got : X × List ℕ) (o : Option (List ℕ)) → left_after text rest ≡ o → option_and_then forms o ≡ Some got →
+          (option_and_then values o ≡ Some got) ⊎ HasLong C rest
       agrees rest got None stands e = absurd (cc e)
       agrees rest got (Some after) stands e = lifted (reads.agree after got e)
         where
@@ -68,7 +71,8 @@ module _ (C : Checker) where
       left rest got None stands e = absurd (cc e)
       left rest got (Some after) stands e = suffix_of rest after got.1 (text_suffix text rest after stands) (reads.leaves after got e)
 
-  module _ {X Y : Type 0} (of other : List ℕ → Option X) (known : (word : List ℕ) → (of word ≡ other word) ⊎ (is_long C word ≡ true)) (forms values : X → List ℕ → Parsed Y) (reads : (x : X) → Reads (forms x) (values x)) where
+  module _ {X Y : Type 0} (of other : List ℕ → Option X) (known : (word : List ℕ) → (of word ≡ other word) ⊎ (is_long C word ≡ true))
+      (forms values : X → List ℕ → Parsed Y) (reads : (x : X) → Reads (forms x) (values x)) where
     abbrev behind : List ℕ → List ℕ
     behind rest = drop (length (word_in rest)) rest
 
@@ -90,7 +94,8 @@ module _ (C : Checker) where
     pub after_word : Reads (with_word of forms) (with_word other values)
     after_word = record { agree = λ rest got e. by rest got (known (word_in rest)) e; leaves = λ rest got e. word_leaves rest got (of (word_in rest)) e }
       where
-        by : (rest : List ℕ) (got : Y × List ℕ) → (of (word_in rest) ≡ other (word_in rest)) ⊎ (is_long C (word_in rest) ≡ true) → on forms rest (of (word_in rest)) ≡ Some got →
+        by : (rest : List ℕ) (got : Y × List ℕ) → (of (word_in rest) ≡ other (word_in rest)) ⊎ (is_long C (word_in rest) ≡ true) →
+            on forms rest (of (word_in rest)) ≡ Some got →
             (on values rest (other (word_in rest)) ≡ Some got) ⊎ HasLong C rest
         by rest got (inl same) e = word_agrees rest got (other (word_in rest)) (ap (on forms rest) (sym same) ∙ e)
         by rest got (inr long) e = inr ([], rest, refl, long)
@@ -109,19 +114,23 @@ module _ (C : Checker) where
   -- ---- what is made of what was read
 
   pub mapped : {X Y : Type 0} (f : X → Y) (forms values : List ℕ → Parsed X) → Reads forms values →
-      Reads (λ rest. option_map {U = Y × List ℕ} (λ got. (f got.0, got.1)) (forms rest)) (λ rest. option_map {U = Y × List ℕ} (λ got. (f got.0, got.1)) (values rest))
-  mapped {X} {Y} f forms values reads = record { agree = λ rest got e. agrees rest got (forms rest) refl e; leaves = λ rest got e. left rest got (forms rest) refl e }
+      Reads (λ rest. option_map {U = Y × List ℕ} (λ got. (f got.0, got.1)) (forms rest))
+      (λ rest. option_map {U = Y × List ℕ} (λ got. (f got.0, got.1)) (values rest))
+  mapped {X} {Y} f forms values reads =
+      record { agree = λ rest got e. agrees rest got (forms rest) refl e; leaves = λ rest got e. left rest got (forms rest) refl e }
     where
       agrees : (rest : List ℕ) (got : Y × List ℕ) (o : Parsed X) → forms rest ≡ o → option_map {U = Y × List ℕ} (λ got. (f got.0, got.1)) o ≡ Some got →
           (option_map {U = Y × List ℕ} (λ got. (f got.0, got.1)) (values rest) ≡ Some got) ⊎ HasLong C rest
       agrees rest got None is e = absurd (cc e)
       agrees rest got (Some first) is e = lifted (reads.agree rest first is)
         where
-          lifted : (values rest ≡ Some first) ⊎ HasLong C rest → (option_map {U = Y × List ℕ} (λ got. (f got.0, got.1)) (values rest) ≡ Some got) ⊎ HasLong C rest
+          lifted : (values rest ≡ Some first) ⊎ HasLong C rest →
+              (option_map {U = Y × List ℕ} (λ got. (f got.0, got.1)) (values rest) ≡ Some got) ⊎ HasLong C rest
           lifted (inl same) = inl (ap (option_map {U = Y × List ℕ} (λ got. (f got.0, got.1))) same ∙ e)
           lifted (inr long) = inr long
 
-      left : (rest : List ℕ) (got : Y × List ℕ) (o : Parsed X) → forms rest ≡ o → option_map {U = Y × List ℕ} (λ got. (f got.0, got.1)) o ≡ Some got → IsSuffix rest got.1
+      left : (rest : List ℕ) (got : Y × List ℕ) (o : Parsed X) → forms rest ≡ o → option_map {U = Y × List ℕ} (λ got. (f got.0, got.1)) o ≡ Some got →
+          IsSuffix rest got.1
       left rest got None is e = absurd (cc e)
       left rest got (Some first) is e = let last : first.1 ≡ got.1 = cc e in subst (IsSuffix rest) last (reads.leaves rest first is)
 
@@ -129,13 +138,16 @@ module _ (C : Checker) where
   pub gone_on : {X Y : Type 0} (f g : X × List ℕ → Parsed Y) (forms values : List ℕ → Parsed X) → Reads forms values →
       ((first : X × List ℕ) (got : Y × List ℕ) → f first ≡ Some got → ((g first ≡ Some got) ⊎ HasLong C first.1) × IsSuffix first.1 got.1) →
       Reads (λ rest. option_and_then f (forms rest)) (λ rest. option_and_then g (values rest))
-  gone_on {X} {Y} f g forms values reads later = record { agree = λ rest got e. agrees rest got (forms rest) refl e; leaves = λ rest got e. left rest got (forms rest) refl e }
+  gone_on {X} {Y} f g forms values reads later =
+      record { agree = λ rest got e. agrees rest got (forms rest) refl e; leaves = λ rest got e. left rest got (forms rest) refl e }
     where
-      agrees : (rest : List ℕ) (got : Y × List ℕ) (o : Parsed X) → forms rest ≡ o → option_and_then f o ≡ Some got → (option_and_then g (values rest) ≡ Some got) ⊎ HasLong C rest
+      agrees : (rest : List ℕ) (got : Y × List ℕ) (o : Parsed X) → forms rest ≡ o → option_and_then f o ≡ Some got →
+          (option_and_then g (values rest) ≡ Some got) ⊎ HasLong C rest
       agrees rest got None is e = absurd (cc e)
       agrees rest got (Some first) is e = lifted (reads.agree rest first is) (later first got e).0
         where
-          lifted : (values rest ≡ Some first) ⊎ HasLong C rest → (g first ≡ Some got) ⊎ HasLong C first.1 → (option_and_then g (values rest) ≡ Some got) ⊎ HasLong C rest
+          lifted : (values rest ≡ Some first) ⊎ HasLong C rest → (g first ≡ Some got) ⊎ HasLong C first.1 →
+              (option_and_then g (values rest) ≡ Some got) ⊎ HasLong C rest
           lifted (inr long) on = inr long
           lifted (inl same) (inr long) = inr (long_before rest first.1 (reads.leaves rest first is) long)
           lifted (inl same) (inl on) = inl (ap (option_and_then g) same ∙ on)
@@ -145,17 +157,21 @@ module _ (C : Checker) where
       left rest got (Some first) is e = suffix_of rest first.1 got.1 (reads.leaves rest first is) (later first got e).1
 
   -- one thing, and more after it
-  pub more : {X : Type 0} (form value : List ℕ → Parsed X) (forms values : List ℕ → Parsed (List X)) → Reads form value → Reads forms values → Reads (λ rest. then_more (form rest) forms) (λ rest. then_more (value rest) values)
-  more {X} form value forms values first later = record { agree = λ rest got e. agrees rest got (form rest) refl e; leaves = λ rest got e. left rest got (form rest) refl e }
+  pub more : {X : Type 0} (form value : List ℕ → Parsed X) (forms values : List ℕ → Parsed (List X)) → Reads form value → Reads forms values →
+      Reads (λ rest. then_more (form rest) forms) (λ rest. then_more (value rest) values)
+  more {X} form value forms values first later =
+      record { agree = λ rest got e. agrees rest got (form rest) refl e; leaves = λ rest got e. left rest got (form rest) refl e }
     where
       joined : X → (List ℕ → Parsed (List X)) → List ℕ → Parsed (List X)
       joined x reads rest = option_map {U = List X × List ℕ} (λ more. (x ∷ more.0, more.1)) (reads rest)
 
-      agrees : (rest : List ℕ) (got : List X × List ℕ) (o : Parsed X) → form rest ≡ o → then_more o forms ≡ Some got → (then_more (value rest) values ≡ Some got) ⊎ HasLong C rest
+      agrees : (rest : List ℕ) (got : List X × List ℕ) (o : Parsed X) → form rest ≡ o → then_more o forms ≡ Some got →
+          (then_more (value rest) values ≡ Some got) ⊎ HasLong C rest
       agrees rest got None is e = absurd (cc e)
       agrees rest got (Some one) is e = lifted (first.agree rest one is) ((mapped (λ xs. one.0 ∷ xs) forms values later).agree one.1 got e)
         where
-          lifted : (value rest ≡ Some one) ⊎ HasLong C rest → (option_map {U = List X × List ℕ} (λ more. (one.0 ∷ more.0, more.1)) (values one.1) ≡ Some got) ⊎ HasLong C one.1 →
+          lifted : (value rest ≡ Some one) ⊎ HasLong C rest →
+              (option_map {U = List X × List ℕ} (λ more. (one.0 ∷ more.0, more.1)) (values one.1) ≡ Some got) ⊎ HasLong C one.1 →
               (then_more (value rest) values ≡ Some got) ⊎ HasLong C rest
           lifted (inr long) on = inr long
           lifted (inl same) (inr long) = inr (long_before rest one.1 (first.leaves rest one is) long)
@@ -168,22 +184,27 @@ module _ (C : Checker) where
   -- one of two, by what stands there
   pub by_text : {X : Type 0} (test : List ℕ → Option (List ℕ)) (form forms value values : List ℕ → Parsed X) → Reads form value → Reads forms values →
       Reads (λ rest. elim (test rest) [ None ↦ form rest | Some left ↦ forms rest ]) (λ rest. elim (test rest) [ None ↦ value rest | Some left ↦ values rest ])
-  by_text {X} test form forms value values one two = record { agree = λ rest got e. agrees rest got (test rest) e; leaves = λ rest got e. left rest got (test rest) e }
+  by_text {X} test form forms value values one two =
+      record { agree = λ rest got e. agrees rest got (test rest) e; leaves = λ rest got e. left rest got (test rest) e }
     where
       agrees : (rest : List ℕ) (got : X × List ℕ) (o : Option (List ℕ)) → ◌≡◌ {A = Parsed X} (elim o [ None ↦ form rest | Some left ↦ forms rest ]) (Some got) →
           (◌≡◌ {A = Parsed X} (elim o [ None ↦ value rest | Some left ↦ values rest ]) (Some got)) ⊎ HasLong C rest
       agrees rest got None e = one.agree rest got e
       agrees rest got (Some at) e = two.agree rest got e
 
-      left : (rest : List ℕ) (got : X × List ℕ) (o : Option (List ℕ)) → ◌≡◌ {A = Parsed X} (elim o [ None ↦ form rest | Some left ↦ forms rest ]) (Some got) → IsSuffix rest got.1
+      left : (rest : List ℕ) (got : X × List ℕ) (o : Option (List ℕ)) → ◌≡◌ {A = Parsed X} (elim o [ None ↦ form rest | Some left ↦ forms rest ]) (Some got) →
+          IsSuffix rest got.1
       left rest got None e = one.leaves rest got e
       left rest got (Some at) e = two.leaves rest got e
 
   -- one of two, where the first form reads all that its values are read of
-  pub either : {X : Type 0} (form forms value values : List ℕ → Parsed X) → readers.Widens value form → Reads form value → Reads forms values → Reads (λ rest. option_or (form rest) (forms rest)) (λ rest. option_or (value rest) (values rest))
-  either {X} form forms value values widens one two = record { agree = λ rest got e. agrees rest got (form rest) refl e; leaves = λ rest got e. left rest got (form rest) refl e }
+  pub either : {X : Type 0} (form forms value values : List ℕ → Parsed X) → readers.Widens value form → Reads form value → Reads forms values →
+      Reads (λ rest. option_or (form rest) (forms rest)) (λ rest. option_or (value rest) (values rest))
+  either {X} form forms value values widens one two =
+      record { agree = λ rest got e. agrees rest got (form rest) refl e; leaves = λ rest got e. left rest got (form rest) refl e }
     where
-      agrees : (rest : List ℕ) (got : X × List ℕ) (o : Parsed X) → form rest ≡ o → option_or o (forms rest) ≡ Some got → (option_or (value rest) (values rest) ≡ Some got) ⊎ HasLong C rest
+      agrees : (rest : List ℕ) (got : X × List ℕ) (o : Parsed X) → form rest ≡ o → option_or o (forms rest) ≡ Some got →
+          (option_or (value rest) (values rest) ≡ Some got) ⊎ HasLong C rest
       agrees rest got (Some first) is e = lifted (one.agree rest first is)
         where
           lifted : (value rest ≡ Some first) ⊎ HasLong C rest → (option_or (value rest) (values rest) ≡ Some got) ⊎ HasLong C rest

@@ -85,7 +85,8 @@ size_is_short : (size : List ℕ) → length size ≤ 80 → is_longer 100000 si
 size_is_short size short =
     let top = take_shorter (position_or_len is_slash size) size in
     let bottom = drop_shorter (position_or_len is_slash size + 1) size in
-    ap₂ (λ a b. has_number_form size && (a || b)) (not_more (length (before_first is_slash size)) (omega (arith, top, short))) (not_more (length (after_first is_slash size)) (omega (arith, bottom, short)))
+    ap₂ (λ a b. has_number_form size && (a || b)) (not_more (length (before_first is_slash size)) (omega (arith, top, short)))
+    (not_more (length (after_first is_slash size)) (omega (arith, bottom, short)))
     ∙ by (has_number_form size)
   where
     by : (b : Bool) → (b && (false || false)) ≡ false

@@ -59,7 +59,8 @@ next {one = one} {other = other} first later = record {
   never = λ limit refused e. at (one (any limit)) (other (any limit)) (first.never limit) (later.never limit) refused e;
 }
   where
-    at : (v w : Verdict) → ((refused : Refused) → v ≡ Unchecked refused → ⊥) → ((refused : Refused) → w ≡ Unchecked refused → ⊥) → (refused : Refused) → followed_by v w ≡ Unchecked refused → ⊥
+    at : (v w : Verdict) → ((refused : Refused) → v ≡ Unchecked refused → ⊥) → ((refused : Refused) → w ≡ Unchecked refused → ⊥) → (refused : Refused) →
+        followed_by v w ≡ Unchecked refused → ⊥
     at Checked w off on refused e = on refused e
     at (Failed part number) w off on refused e = cc e
     at (Unchecked other) w off on refused e = off other refl
@@ -72,7 +73,8 @@ module _ (sheet : Sheet) where
   claim_is (CrossedAt k) = of_steps (crossed_steps sheet.lp k)
   claim_is (InfeasibleBy steps lines) = of_steps (infeasible_steps sheet.lp (value_at (multipliers sheet lines)))
   claim_is (UnboundedBy steps objective lines) =
-      next (of_steps (unbounded_steps sheet.lp (value_at (column_of 0 lines)) (value_at (column_of 1 lines)))) (next (of_asked (eq_ℚ objective (value_at (column_of 0 lines) sheet.lp.objective))) over)
+      next (of_steps (unbounded_steps sheet.lp (value_at (column_of 0 lines)) (value_at (column_of 1 lines))))
+      (next (of_asked (eq_ℚ objective (value_at (column_of 0 lines) sheet.lp.objective))) over)
 
   pub verdict_is : (verdict : PathVerdict) (check : Check) → IsTest (λ C. verdict_test C sheet verdict check)
   verdict_is (OptimalAt steps objective) check = over
@@ -88,34 +90,42 @@ module _ (sheet : Sheet) where
   pub solution_is : (mark : Mark) (lines : SolutionLines) → IsTest (λ C. solution_test C sheet mark lines)
   solution_is mark lines =
       next (of_steps (equations sheet.lp 1 (point_of sheet lines))) (next (of_steps (reduced_costs sheet.lp (prices_of sheet lines)))
-      (next (of_steps (flat_map (slack_steps sheet (point_of sheet lines) (slacks_of sheet lines)) (row_numbers sheet.lp))) (next (best_is mark (point_of sheet lines) (prices_of sheet lines)) over)))
+      (next (of_steps (flat_map (slack_steps sheet (point_of sheet lines) (slacks_of sheet lines)) (row_numbers sheet.lp)))
+      (next (best_is mark (point_of sheet lines) (prices_of sheet lines)) over)))
 
   module _ (changing : Changing) where
     end_is : (theta : ℚ) (value value_rate price price_rate : List ℚ) → IsTest (λ C. end_test C sheet changing theta value value_rate price price_rate)
     end_is theta value value_rate price price_rate =
-        next (of_steps (making_steps sheet changing theta)) (next (of_steps (along_steps sheet theta value value_rate)) (next (of_steps (along_steps sheet theta price price_rate))
+        next (of_steps (making_steps sheet changing theta))
+        (next (of_steps (along_steps sheet theta value value_rate)) (next (of_steps (along_steps sheet theta price price_rate))
         (next (of_steps (optimal_steps (family_of sheet changing theta) (along theta value value_rate) (along theta price price_rate))) over)))
 
-    part_is : (from to : ℚ) (value value_rate price price_rate : List ℚ) (is_first : Bool) (max : ℚ) → IsTest (λ C. part_test C sheet changing from to value value_rate price price_rate is_first max)
+    part_is : (from to : ℚ) (value value_rate price price_rate : List ℚ) (is_first : Bool) (max : ℚ) →
+        IsTest (λ C. part_test C sheet changing from to value value_rate price price_rate is_first max)
     part_is from to value value_rate price price_rate is_first max =
-        next (of_asked (lt_ℚ from to || (is_first && eq_ℚ from to))) (next (of_asked (le_ℚ to max)) (next (end_is from value value_rate price price_rate) (next (end_is to value value_rate price price_rate)
+        next (of_asked (lt_ℚ from to || (is_first && eq_ℚ from to)))
+        (next (of_asked (le_ℚ to max)) (next (end_is from value value_rate price price_rate) (next (end_is to value value_rate price price_rate)
         (next (of_steps (keeping_steps sheet changing from to value value_rate price price_rate)) over))))
 
     pub interval_is : (is_first : Bool) (max : ℚ) (interval : ParametricInterval) → IsTest (λ C. interval_test C sheet changing is_first max interval)
     interval_is is_first max interval =
-        part_is interval.from interval.to (column_of 1 interval.lines) (column_of 2 interval.lines) (column_of 3 interval.lines) (column_of 4 interval.lines) is_first max
+        part_is interval.from interval.to (column_of 1 interval.lines) (column_of 2 interval.lines) (column_of 3 interval.lines)
+        (column_of 4 interval.lines) is_first max
 
     unbounded_is : (h : ℕ) (t : ℚ) (z d : Vector) → IsTest (λ C. unbounded_past C sheet changing h t z d)
     unbounded_is h t z d =
         let lp : LinearProgram = sheet.lp in
-        next (of_steps (feasible_point lp z)) (next (of_steps (equations lp 3 d)) (next (of_steps (free_direction lp d)) (next (of_steps (sum_steps (d lp.objective) (record { left = t; right = d h } ∷ [])))
+        next (of_steps (feasible_point lp z))
+        (next (of_steps (equations lp 3 d))
+        (next (of_steps (free_direction lp d)) (next (of_steps (sum_steps (d lp.objective) (record { left = t; right = d h } ∷ [])))
         (next (of_asked (le_ℚ (for_min lp.sense (d lp.objective +ℚ t *ℚ d h)) zero_ℚ)) (next (of_asked (lt_ℚ (for_min lp.sense (d h)) zero_ℚ)) over)))))
 
     infeasible_is : (shift : List ℚ) (t : ℚ) (w : Vector) → IsTest (λ C. infeasible_past C sheet changing shift t w)
     infeasible_is shift t w =
         let lp : LinearProgram = family_of sheet changing t in
         next (of_steps (making_steps sheet changing t)) (next (of_steps (ray_columns lp w)) (next (of_steps (ray_limits lp w zero_ℚ (multiplied lp w)))
-        (next (of_asked (le_ℚ (sum_of zero_ℚ (map (limit_product lp w) (multiplied lp w))) zero_ℚ)) (next (of_steps (sum_steps zero_ℚ (shift_products sheet changing shift w)))
+        (next (of_asked (le_ℚ (sum_of zero_ℚ (map (limit_product lp w) (multiplied lp w))) zero_ℚ))
+        (next (of_steps (sum_steps zero_ℚ (shift_products sheet changing shift w)))
         (next (of_asked (lt_ℚ (sum_of zero_ℚ (shift_products sheet changing shift w)) zero_ℚ)) over)))))
 
   past_is : (max last t : ℚ) {test : Checker → Verdict} → IsTest test → IsTest (λ C. past_test max last t (test C))
@@ -125,9 +135,11 @@ module _ (sheet : Sheet) where
   ends_is max last t = next (of_asked (eq_ℚ t last)) (next (of_asked (eq_ℚ t max)) over)
 
   pub close_is : (changing : Changing) (max last : ℚ) (end : ChainEnd) → IsTest (λ C. close_test C sheet changing max last end)
-  close_is (Row name) max last (UnboundedPast t lines) = past_is max last t (unbounded_is (Row name) (row_of sheet.problem name) t (value_at (column_of 0 lines)) (value_at (column_of 1 lines)))
+  close_is (Row name) max last (UnboundedPast t lines) =
+      past_is max last t (unbounded_is (Row name) (row_of sheet.problem name) t (value_at (column_of 0 lines)) (value_at (column_of 1 lines)))
   close_is (Row name) max last (InfeasiblePast t lines) = of_failed 6 0
   close_is (Row name) max last (EndsAt t) = ends_is max last t
   close_is (Set name) max last (UnboundedPast t lines) = of_failed 6 0
-  close_is (Set name) max last (InfeasiblePast t lines) = past_is max last t (infeasible_is (Set name) (shifts_of sheet.problem name) t (value_at (multipliers sheet lines)))
+  close_is (Set name) max last (InfeasiblePast t lines) =
+      past_is max last t (infeasible_is (Set name) (shifts_of sheet.problem name) t (value_at (multipliers sheet lines)))
   close_is (Set name) max last (EndsAt t) = ends_is max last t

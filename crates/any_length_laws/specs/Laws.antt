@@ -24,11 +24,14 @@ abbrev pub HasLong : Checker → List ℕ → Type 0
 HasLong C rest = (front : List ℕ) × (left : List ℕ) × (rest ≡ front ++ left) × (is_long C (word_in left) ≡ true)
 
 abbrev pub RefusesLong : Type 0
-RefusesLong = (question : Question) (sheet : Sheet) (rest : List ℕ) → judged checker_of_any_length question sheet rest ≡ Refuses → HasLong checker_of_any_length rest
+RefusesLong =
+    (question : Question) (sheet : Sheet) (rest : List ℕ) → judged checker_of_any_length question sheet rest ≡ Refuses → HasLong checker_of_any_length rest
 
 pub record Widens : Type 0 where
   -- an answer that is right in numbers of 128 bits is right
-  pub right : (question : Question) (sheet : Sheet) (rest after : List ℕ) (answer : AnswerTo question) → judged checker_of_128_bits question sheet rest ≡ Right answer after →
+  pub right : (question : Question) (sheet : Sheet) (rest after : List ℕ) (answer : AnswerTo question) →
+      judged checker_of_128_bits question sheet rest ≡ Right answer after →
       judged checker_of_any_length question sheet rest ≡ Right answer after
   -- and so is the listing
-  pub attested : (bytes lines : List ℕ) (count : ℕ) → EndsIn checker_of_128_bits bytes lines (Attested count) → EndsIn checker_of_any_length bytes lines (Attested count)
+  pub attested : (bytes lines : List ℕ) (count : ℕ) → EndsIn checker_of_128_bits bytes lines (Attested count) →
+      EndsIn checker_of_any_length bytes lines (Attested count)

@@ -28,7 +28,8 @@ module _ (problem : Problem ℕ) (lp : LinearProgram) (deck : List Card) where
     pub faulty : (stop : CardStop DeckFault) → Stops (basis_card_fault start.problem start.lp) deck stop → Refuses problem lp deck stop
     faulty stop h = refused stop (subst (λ (s : State). Stops (basis_card_fault s.problem s.lp) deck stop) begins h)
 
-    pub gives : (now : State) → fault_by (basis_card_fault start.problem start.lp) deck ≡ None → now ≡ state_of start.problem start.lp (live deck) → basis_reading problem lp deck ≡ Ok now.statuses
+    pub gives : (now : State) → fault_by (basis_card_fault start.problem start.lp) deck ≡ None → now ≡ state_of start.problem start.lp (live deck) →
+        basis_reading problem lp deck ≡ Ok now.statuses
     gives now fine is =
         whole (subst (λ (s : State). fault_by (basis_card_fault s.problem s.lp) deck ≡ None) begins fine)
         ∙ ap (λ (s : State). Ok s.statuses) (sym (subst (λ (s : State). now ≡ state_of s.problem s.lp (live deck)) begins is))

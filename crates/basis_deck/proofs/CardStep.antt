@@ -46,7 +46,8 @@ module _ (problem : Problem ℕ) (lp : LinearProgram) (names : HasNames problem 
 
   -- ---- tests
 
-  code-same : (seen : List Card) (card : Reading) (code : Code) → code_fault problem lp (placings_of problem seen) card code ≡ code_test (state_of problem lp seen) card code
+  code-same : (seen : List Card) (card : Reading) (code : Code) →
+      code_fault problem lp (placings_of problem seen) card code ≡ code_test (state_of problem lp seen) card code
   code-same seen card (Exchanges to) = by (has_group problem.columns card.name1) (has_row problem.rows card.name2) refl refl
     where
       tests : Bool → Bool → Bool → Option DeckFaultKind
@@ -61,7 +62,8 @@ module _ (problem : Problem ℕ) (lp : LinearProgram) (names : HasNames problem 
       marked = list_any (is_marked (marks_of lp (placings_of problem seen))) (placings_by problem card (Exchanges to))
 
       agree : has_group problem.columns card.name1 ≡ true → has_row problem.rows card.name2 ≡ true
-          → list_any (is_named_in (placings_of problem seen)) (placings_by problem card (Exchanges to)) ≡ list_any (is_marked (marks_of lp (placings_of problem seen))) (placings_by problem card (Exchanges to))
+          → list_any (is_named_in (placings_of problem seen)) (placings_by problem card (Exchanges to)) ≡ list_any
+          (is_marked (marks_of lp (placings_of problem seen))) (placings_by problem card (Exchanges to))
       agree column row =
           ap₂ (λ c r. c || (r || false)) (sym (marked_at lp (placings_of problem seen) (column_placing card Bs) (column_variable_is card column)))
           (sym (marked_at lp (placings_of problem seen) (row_placing card to) (row_variable_is card row)))
@@ -72,7 +74,8 @@ module _ (problem : Problem ℕ) (lp : LinearProgram) (names : HasNames problem 
       by true false c r = rw (c, r) refl
       by true true c r = ap (λ b. first_fault (
           (not (has_group problem.columns card.name1) ⟹ UnknownColumn) ∷ (not (has_row problem.rows card.name2) ⟹ UnknownRow) ∷ (b ⟹ NamedTwice) ∷
-          (list_any (λ placing. not (has_limit_of lp placing)) (placings_by problem card (Exchanges to)) ⟹ NoSuchLimit) ∷ filled_after card (Exchanges to) ∷ [])) (agree c r)
+          (list_any (λ placing. not (has_limit_of lp placing)) (placings_by problem card (Exchanges to)) ⟹ NoSuchLimit) ∷ filled_after card
+          (Exchanges to) ∷ [])) (agree c r)
   code-same seen card (Stands at) = by (has_group problem.columns card.name1) refl
     where
       by : (column : Bool) → has_group problem.columns card.name1 ≡ column
@@ -83,7 +86,8 @@ module _ (problem : Problem ℕ) (lp : LinearProgram) (names : HasNames problem 
           (list_any (λ placing. not (has_limit_of lp placing)) (placings_by problem card (Stands at)) ⟹ NoSuchLimit) ∷ filled_after card (Stands at) ∷ []))
           (sym (marked_at lp (placings_of problem seen) (column_placing card at) (column_variable_is card c)))
 
-  read-same : (seen : List Card) (card : Reading) (code : Option Code) → by_code problem lp (placings_of problem seen) card code ≡ read_test (state_of problem lp seen) card code
+  read-same : (seen : List Card) (card : Reading) (code : Option Code) →
+      by_code problem lp (placings_of problem seen) card code ≡ read_test (state_of problem lp seen) card code
   read-same seen card None = refl
   read-same seen card (Some code) = code-same seen card code
 
@@ -105,19 +109,22 @@ module _ (problem : Problem ℕ) (lp : LinearProgram) (names : HasNames problem 
       let row = passed (has_row problem.rows card.name2) _ _ (no_second (not (has_group problem.columns card.name1) ⟹ UnknownColumn) _ fine) in
       ap (marks_of lp) (sym (append_assoc (placings_of problem seen) (column_placing card Bs ∷ []) (row_placing card to ∷ [])))
       ∙ marks_more lp (placings_of problem seen ++ column_placing card Bs ∷ []) (row_placing card to) (row_variable_is card row)
-      ∙ ap (λ marks. set marks (row_variable problem card.name2 - 1) true) (marks_more lp (placings_of problem seen) (column_placing card Bs) (column_variable_is card column))
+      ∙ ap (λ marks. set marks (row_variable problem card.name2 - 1) true)
+      (marks_more lp (placings_of problem seen) (column_placing card Bs) (column_variable_is card column))
     where
       passed : (b : Bool) (kind : DeckFaultKind) (rest : Option DeckFaultKind) → option_or (not b ⟹ kind) rest ≡ None → b ≡ true
       passed true kind rest h = refl
       passed false kind rest h = absurd (cc h)
-  code-marks seen card (Stands at) fine = marks_more lp (placings_of problem seen) (column_placing card at) (column_variable_is card (passed (has_group problem.columns card.name1) _ _ fine))
+  code-marks seen card (Stands at) fine =
+      marks_more lp (placings_of problem seen) (column_placing card at) (column_variable_is card (passed (has_group problem.columns card.name1) _ _ fine))
     where
       passed : (b : Bool) (kind : DeckFaultKind) (rest : Option DeckFaultKind) → option_or (not b ⟹ kind) rest ≡ None → b ≡ true
       passed true kind rest h = refl
       passed false kind rest h = absurd (cc h)
 
   code-state : (seen : List Card) (card : Reading) (code : Code) (statuses : List Status) (marks : List Bool)
-      → statuses ≡ fold (λ s placing. with_status s placing.variable placing.status) (stands_for problem lp seen) (placings_by problem card code) → marks ≡ (with_code (state_of problem lp seen) card code).marks
+      → statuses ≡ fold (λ s placing. with_status s placing.variable placing.status) (stands_for problem lp seen) (placings_by problem card code)
+      → marks ≡ (with_code (state_of problem lp seen) card code).marks
       → record (state_of problem lp seen) { statuses = statuses; marks = marks } ≡ with_code (state_of problem lp seen) card code
   code-state seen card (Exchanges to) statuses marks s m = λ i. record (state_of problem lp seen) { statuses = s i; marks = m i }
   code-state seen card (Stands at) statuses marks s m = λ i. record (state_of problem lp seen) { statuses = s i; marks = m i }
@@ -139,18 +146,23 @@ module _ (problem : Problem ℕ) (lp : LinearProgram) (names : HasNames problem 
     said section placings s p =
         let all : placings_of problem (seen ++ card ∷ []) ≡ placings_of problem seen ++ placings
         = flat_map-append (placings_on problem) seen (card ∷ []) ∙ ap (λ more. placings_of problem seen ++ more) (append-nil (placings_on problem card) ∙ p) in
-        let statuses : stands_for problem lp (seen ++ card ∷ []) ≡ fold (λ (s : List Status) (placing : Placing). with_status s placing.variable placing.status) (stands_for problem lp seen) placings
+        let statuses : stands_for problem lp (seen ++ card ∷ []) ≡ fold (λ (s : List Status) (placing : Placing). with_status s placing.variable placing.status)
+        (stands_for problem lp seen) placings
         = ap (fold (λ (s : List Status) (placing : Placing). with_status s placing.variable placing.status) (opening_statuses lp)) all
-        ∙ fold-append (λ (s : List Status) (placing : Placing). with_status s placing.variable placing.status) (opening_statuses lp) (placings_of problem seen) placings in
+        ∙ fold-append (λ (s : List Status) (placing : Placing). with_status s placing.variable placing.status) (opening_statuses lp)
+        (placings_of problem seen) placings in
         λ i. record { problem = problem; lp = lp; section = s i; statuses = statuses i; marks = marks_of lp (all i) }
 
-    section-is : (b : Bool) → is_section_card card.bytes ≡ b → section_after (seen ++ card ∷ []) ≡ option_or (cond b (named section_words (section_word card.bytes)) None) (section_after seen)
+    section-is : (b : Bool) → is_section_card card.bytes ≡ b →
+        section_after (seen ++ card ∷ []) ≡ option_or (cond b (named section_words (section_word card.bytes)) None) (section_after seen)
     section-is b e = section_after-push seen card ∙ ap (λ b. option_or (cond b (named section_words (section_word card.bytes)) None) (section_after seen)) e
 
-    placings-are : (b : Bool) (code : Option Code) → is_section_card card.bytes ≡ b → named code_words read.kind ≡ code → placings_on problem card ≡ cond b [] (unwrap_or (option_map (placings_by problem read) code) [])
+    placings-are : (b : Bool) (code : Option Code) → is_section_card card.bytes ≡ b → named code_words read.kind ≡ code →
+        placings_on problem card ≡ cond b [] (unwrap_or (option_map (placings_by problem read) code) [])
     placings-are b code e k = ap₂ (λ b o. cond b [] (unwrap_or (option_map (placings_by problem read) o) [])) e k
 
-    data-step : (code : Option Code) → is_section_card card.bytes ≡ false → named code_words read.kind ≡ code → read_test (state_of problem lp seen) read code ≡ None
+    data-step : (code : Option Code) → is_section_card card.bytes ≡ false → named code_words read.kind ≡ code
+        → read_test (state_of problem lp seen) read code ≡ None
         → state_of problem lp (seen ++ card ∷ []) ≡ with_read (state_of problem lp seen) read code
     data-step None e k fine =
         said (section_after seen) [] (section-is false e) (placings-are false None e k)
@@ -160,24 +172,35 @@ module _ (problem : Problem ℕ) (lp : LinearProgram) (names : HasNames problem 
         ∙ code-state seen read code _ _ refl (code-marks seen read code fine)
 
     step-by : (b header : Bool) → is_section_card card.bytes ≡ b → cond b (section_card_fault ends_after (section_after seen) card.bytes)
-        (cond header (option_or (gaps_fault card.bytes) (option_or (read_test (state_of problem lp seen) read (named code_words read.kind)) None)) (Some SectionOrder)) ≡ None
+        (cond header (option_or (gaps_fault card.bytes) (option_or (read_test (state_of problem lp seen) read (named code_words read.kind)) None))
+        (Some SectionOrder)) ≡ None
         → state_of problem lp (seen ++ card ∷ [])
-        ≡ cond b (record (state_of problem lp seen) { section = option_or (cond b (named section_words (section_word card.bytes)) None) (section_after seen) }) (with_read (state_of problem lp seen) read (named code_words read.kind))
+        ≡ cond b (record (state_of problem lp seen) { section = option_or (cond b (named section_words (section_word card.bytes)) None) (section_after seen) })
+        (with_read (state_of problem lp seen) read (named code_words read.kind))
     step-by true header e fine =
-        said (option_or (named section_words (section_word card.bytes)) (section_after seen)) [] (section-is true e) (placings-are true (named code_words read.kind) e refl)
-        ∙ ap (λ list. record (state_of problem lp seen) { section = option_or (named section_words (section_word card.bytes)) (section_after seen); marks = marks_of lp list }) (append-nil (placings_of problem seen))
+        said (option_or (named section_words (section_word card.bytes)) (section_after seen)) [] (section-is true e)
+        (placings-are true (named code_words read.kind) e refl)
+        ∙ ap (λ list. record
+        (state_of problem lp seen) { section = option_or (named section_words (section_word card.bytes)) (section_after seen); marks = marks_of lp list })
+        (append-nil (placings_of problem seen))
     step-by false false e fine = absurd (cc fine)
     step-by false true e fine =
-        data-step (named code_words read.kind) e refl (no_first (read_test (state_of problem lp seen) read (named code_words read.kind)) None (no_second (gaps_fault card.bytes) _ fine))
+        data-step (named code_words read.kind) e refl
+        (no_first (read_test (state_of problem lp seen) read (named code_words read.kind)) None (no_second (gaps_fault card.bytes) _ fine))
 
     -- one more card takes the state one step on
-    pub state-step : fault_at (state_of problem lp seen) card.bytes ≡ None → state_of problem lp (seen ++ card ∷ []) ≡ state_with (state_of problem lp seen) card.bytes
+    pub state-step : fault_at (state_of problem lp seen) card.bytes ≡ None →
+        state_of problem lp (seen ++ card ∷ []) ≡ state_with (state_of problem lp seen) card.bytes
     state-step fine =
         step-by (is_section_card card.bytes) (is_section_after Header seen) refl fine
-        ∙ ap (λ b. cond (is_section_card card.bytes) (record (state_of problem lp seen) { section = option_or (cond b (named section_words (section_word card.bytes)) None) (section_after seen) }) (with_read (state_of problem lp seen) read (named code_words read.kind))) refl
+        ∙ ap (λ b. cond (is_section_card card.bytes)
+        (record (state_of problem lp seen) { section = option_or (cond b (named section_words (section_word card.bytes)) None) (section_after seen) })
+        (with_read (state_of problem lp seen) read (named code_words read.kind))) refl
 
 -- after no card
-pub nothing_read : (problem : Problem ℕ) (lp : LinearProgram) (section : Option Section) (statuses : List Status) (marks : List Bool) → section ≡ None → statuses ≡ opening_statuses lp → marks ≡ replicate (size lp.matrix) false
+pub nothing_read : (problem : Problem ℕ) (lp : LinearProgram) (section : Option Section) (statuses : List Status) (marks : List Bool) → section ≡ None
+    → statuses ≡ opening_statuses lp → marks ≡ replicate (size lp.matrix) false
     → record { problem = problem; lp = lp; section = section; statuses = statuses; marks = marks } ≡ state_of problem lp []
 unfolding stands_for
-nothing_read problem lp section statuses marks s st m = λ i. record { problem = problem; lp = lp; section = s i; statuses = st i; marks = (m ∙ sym (unmarked lp)) i }
+nothing_read problem lp section statuses marks s st m =
+    λ i. record { problem = problem; lp = lp; section = s i; statuses = st i; marks = (m ∙ sym (unmarked lp)) i }

@@ -9,7 +9,8 @@ use Rattle.basis_deck_definitions.specs.Dependencies.{IsCombination, IsDependenc
 use Rattle.basis_deck_laws.proofs.Dependencies.{order}
 use Rattle.basis_deck.specs.Installing.{IsOnWay}
 
-module _ (a : Matrix) (b w : Basics) (c : ℕ) (d : Vector) (way : IsOnWay a b w c) (column : a.rows < c) (basic : IsBasic a b c) (direction : IsDirectionOf a w c d)
+module _ (a : Matrix) (b w : Basics) (c : ℕ) (d : Vector) (way : IsOnWay a b w c) (column : a.rows < c) (basic : IsBasic a b c)
+    (direction : IsDirectionOf a w c d)
     (none : (k : ℕ) → IsVariable a k → k ≤ a.rows → is_in b k ≡ false → is_in w k ≡ true → d k ≡ zero_ℚ) where
   apart : (k : ℕ) → is_in b k ≡ false → k ≡ c → ⊥
   apart k out same = clash (sym (subst_mark k same) ∙ out)

@@ -16,7 +16,8 @@ module _ (f g : ℕ → Bool) where
   same_marks first (suc n) same = ap₂ (λ x xs. x ∷ xs) (same first (omega arith)) (same_marks (suc first) n (λ k above. same k (omega arith)))
 
   -- marks of two tests that differ in one number, which passes the second
-  one_more : (first n i : ℕ) → i < n → g (first + i) ≡ true → ((k : ℕ) → k ≢ first + i → g k ≡ f k) → map g (numbers_from first n) ≡ set (map f (numbers_from first n)) i true
+  one_more : (first n i : ℕ) → i < n → g (first + i) ≡ true → ((k : ℕ) → k ≢ first + i → g k ≡ f k) →
+      map g (numbers_from first n) ≡ set (map f (numbers_from first n)) i true
   one_more first zero i below own others = absurd (omega arith)
   one_more first (suc n) zero below own others =
       let here : first + 0 ≡ first = omega arith in
@@ -42,7 +43,8 @@ module _ (lp : LinearProgram) where
       let k = placing.variable in
       let below : k - 1 < length (variables lp.matrix) = rw (length-numbers_from 1 (size lp.matrix)) (omega (arith, is.0, is.1)) in
       get_or-map (λ (k : ℕ). list_any (λ (earlier : Placing). nat_eq earlier.variable k) placings) (variables lp.matrix) (k - 1) 0 false below
-      ∙ ap (λ (n : ℕ). list_any (λ (earlier : Placing). nat_eq earlier.variable n) placings) (numbers_from-at 1 (size lp.matrix) (k - 1) 0 (omega (arith, is.0, is.1)) ∙ omega (arith, is.0))
+      ∙ ap (λ (n : ℕ). list_any (λ (earlier : Placing). nat_eq earlier.variable n) placings)
+      (numbers_from-at 1 (size lp.matrix) (k - 1) 0 (omega (arith, is.0, is.1)) ∙ omega (arith, is.0))
 
   -- one more placing marks its variable
   pub marks_more : (placings : List Placing) (placing : Placing) → IsVariable lp.matrix placing.variable
@@ -59,7 +61,9 @@ module _ (lp : LinearProgram) where
       after : ℕ → Bool
       after k = list_any (λ earlier. nat_eq earlier.variable k) (placings ++ placing ∷ [])
 
-      split : (k : ℕ) → list_any (λ (earlier : Placing). nat_eq earlier.variable k) (placings ++ placing ∷ []) ≡ (list_any (λ (earlier : Placing). nat_eq earlier.variable k) placings || (nat_eq placing.variable k || false))
+      split : (k : ℕ) →
+          list_any (λ (earlier : Placing). nat_eq earlier.variable k) (placings ++ placing ∷ []) ≡
+          (list_any (λ (earlier : Placing). nat_eq earlier.variable k) placings || (nat_eq placing.variable k || false))
       split k = list_any-append (λ (earlier : Placing). nat_eq earlier.variable k) placings (placing ∷ [])
 
       differs : (k : ℕ) → placing.variable ≢ k → nat_eq placing.variable k ≡ false

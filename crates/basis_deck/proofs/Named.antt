@@ -15,7 +15,8 @@ place_past : {X : Type 0} (p : X → Bool) (xs : List X) → list_any p xs ≡ f
 place_past p [] e = refl
 place_past p (x ∷ xs) e = by (p x) e (place_past p xs)
   where
-    by : (b : Bool) → (b || list_any p xs) ≡ false → (list_any p xs ≡ false → position_or_len p xs ≡ length xs) → cond (not b) (1 + position_or_len p xs) 0 ≡ suc (length xs)
+    by : (b : Bool) → (b || list_any p xs) ≡ false → (list_any p xs ≡ false → position_or_len p xs ≡ length xs) →
+        cond (not b) (1 + position_or_len p xs) 0 ≡ suc (length xs)
     by true e rest = absurd (cc e)
     by false e rest = let inner : position_or_len p xs ≡ length xs = rest e in omega (arith, inner)
 
@@ -56,7 +57,8 @@ module _ (names : List Name) (name : Name) where
   number k some = sym (ap (λ o. unwrap_or o 0) some)
 
 -- in a list of different names, no name stands before itself
-apart : (name : Name) (names : List Name) (i : ℕ) (other : Name) → AllByRecursion (λ other. same name other ≡ false) names → slice_get names i ≡ Some other → same name other ≡ false
+apart : (name : Name) (names : List Name) (i : ℕ) (other : Name) → AllByRecursion (λ other. same name other ≡ false) names → slice_get names i ≡ Some other →
+    same name other ≡ false
 apart name [] i other h at = absurd (cc at)
 apart name (n ∷ names) zero other h at = subst (λ o. same name o ≡ false) (cc at) h.0
 apart name (n ∷ names) (suc i) other h at = apart name names i other h.1 at
@@ -70,5 +72,6 @@ new_at (n ∷ names) (suc i) name distinct at =
     ap (λ b. b || has_name (take i names) name) first ∙ new_at names i name distinct.1 at
 
 -- the next name of a list of different names is new
-pub next_is_new : (names so_far : List Name) (i : ℕ) (name : Name) → IsDistinct same names → slice_get names i ≡ Some name → so_far ≡ take i names → number_of name so_far ≡ None
+pub next_is_new : (names so_far : List Name) (i : ℕ) (name : Name) → IsDistinct same names → slice_get names i ≡ Some name → so_far ≡ take i names →
+    number_of name so_far ≡ None
 next_is_new names so_far i name distinct at is = absent so_far name (ap (λ list. has_name list name) is ∙ new_at names i name distinct at)

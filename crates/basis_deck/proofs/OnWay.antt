@@ -93,7 +93,8 @@ module _ (a : Matrix) (b w : Basics) (ways : List Basics) (c : ℕ) (h : IsUnder
   named_within zero few = way_within
   named_within (suc n) few = h.within n w (omega arith)
 
-  pub refuses : (around : List Basics) (e : Evidence) → All (λ way. HasColumnsWithin a way b) around → ExchangeRefused a around w ways e → RefusesWay a b w ways e
+  pub refuses : (around : List Basics) (e : Evidence) → All (λ way. HasColumnsWithin a way b) around → ExchangeRefused a around w ways e →
+      RefusesWay a b w ways e
   refuses around e near refused = record {
     is_way = refused.at.is_way;
     refused = subst (λ way. InstallRefused a b way e) refused.at.is_waypoint (record {
@@ -101,7 +102,11 @@ module _ (a : Matrix) (b w : Basics) (ways : List Basics) (c : ℕ) (h : IsUnder
       are_rates = refused.at.are_rates;
       formula = refused.formula;
       is_way = (refused.at.nonsingular, inl (subst (λ way. HasColumnsWithin a way b) (sym refused.at.is_waypoint) (named_within e.way refused.at.is_way)));
-      reaches = (refused.at.reaches.0, covered a (exchanged refused.way e.p e.q) around (b ∷ []) (Covers-all a around (b ∷ []) (λ k d below. inl (near k d below))) refused.at.reaches.1);
+      reaches = (
+        refused.at.reaches.0,
+        covered a (exchanged refused.way e.p e.q) around (b ∷ [])
+            (Covers-all a around (b ∷ []) (λ k d below. inl (near k d below))) refused.at.reaches.1,
+      );
       no_theta = refused.at.no_theta;
     });
   }
@@ -158,7 +163,8 @@ module _ (a : Matrix) (b w : Basics) (ways : List Basics) (c : ℕ) (h : IsUnder
             remains k is not_p not_c ∙ h.on_way.ahead k is (omega (arith, from));
       }
         where
-          by : (k : ℕ) → IsVariable a k → a.rows < k → k < c + 1 → (((eqb k c ≡ true) × (k ≡ c)) ⊎ ((eqb k c ≡ false) × (k ≢ c))) → is_in (exchanged w p c) k ≡ is_in b k
+          by : (k : ℕ) → IsVariable a k → a.rows < k → k < c + 1 → (((eqb k c ≡ true) × (k ≡ c)) ⊎ ((eqb k c ≡ false) × (k ≢ c))) →
+              is_in (exchanged w p c) k ≡ is_in b k
           by k is past before (inl same) =
               ap (is_in (exchanged w p c)) same.1 ∙ entering_in a w h.on_way.nonsingular.counted p c leaves enters ∙ sym (ap (is_in b) same.1 ∙ basic.1)
           by k is past before (inr apart) =
@@ -166,7 +172,8 @@ module _ (a : Matrix) (b w : Basics) (ways : List Basics) (c : ℕ) (h : IsUnder
               remains k is not_p apart.1 ∙ h.on_way.done k is past (omega (arith, before, apart.1))
 
 -- after the exchange
-module _ (a : Matrix) (b w : Basics) (ways : List Basics) (c : ℕ) (h : IsUnderWay a b w ways c) (column : a.rows < c) (basic : IsBasic a b c) (xs : List ℚ) (direction : IsDirectionOf a w c (value_at xs)) (p : ℕ) (leaver : IsLeaver a b xs p) where
+module _ (a : Matrix) (b w : Basics) (ways : List Basics) (c : ℕ) (h : IsUnderWay a b w ways c) (column : a.rows < c) (basic : IsBasic a b c) (xs : List ℚ)
+    (direction : IsDirectionOf a w c (value_at xs)) (p : ℕ) (leaver : IsLeaver a b xs p) where
   next_way : IsOnWay a b (exchanged w p c) (c + 1)
   next_way = exchanged_on_way a b w ways c h column basic xs direction p leaver
 
@@ -180,9 +187,11 @@ module _ (a : Matrix) (b w : Basics) (ways : List Basics) (c : ℕ) (h : IsUnder
   }
 
   -- what an exchange is refused with
-  pub exchange_refuses : (after : Basics) (now : List Basics) (e : Evidence) → after ≡ w → KeepsWaypoints a w ways after now → ExchangeRefused a (w ∷ exchanged w p c ∷ ways) w now e → RefusesWay a b after now e
+  pub exchange_refuses : (after : Basics) (now : List Basics) (e : Evidence) → after ≡ w → KeepsWaypoints a w ways after now →
+      ExchangeRefused a (w ∷ exchanged w p c ∷ ways) w now e → RefusesWay a b after now e
   exchange_refuses after now e same keeps refused =
-      refuses a b after now c (stays a b w ways c h after now same keeps) (w ∷ exchanged w p c ∷ ways) e near (subst (λ w'. ExchangeRefused a (w ∷ exchanged w p c ∷ ways) w' now e) (sym same) refused)
+      refuses a b after now c (stays a b w ways c h after now same keeps) (w ∷ exchanged w p c ∷ ways) e near
+      (subst (λ w'. ExchangeRefused a (w ∷ exchanged w p c ∷ ways) w' now e) (sym same) refused)
     where
       near : All (λ way. HasColumnsWithin a way b) (w ∷ exchanged w p c ∷ ways)
       near zero d below = way_within a b w ways c h
@@ -190,10 +199,12 @@ module _ (a : Matrix) (b w : Basics) (ways : List Basics) (c : ℕ) (h : IsUnder
       near (suc (suc k)) d below = h.within k d (omega arith)
 
 -- what a column is refused with
-pub column_refuses : (a : Matrix) (b w : Basics) (ways : List Basics) (c : ℕ) → IsUnderWay a b w ways c → (after : Basics) (now : List Basics) (e : Evidence) → after ≡ w → KeepsWaypoints a w ways after now
+pub column_refuses : (a : Matrix) (b w : Basics) (ways : List Basics) (c : ℕ) → IsUnderWay a b w ways c → (after : Basics) (now : List Basics) (e : Evidence)
+    → after ≡ w → KeepsWaypoints a w ways after now
     → ExchangeRefused a (w ∷ ways) w now e → RefusesWay a b after now e
 column_refuses a b w ways c h after now e same keeps refused =
-    refuses a b after now c (stays a b w ways c h after now same keeps) (w ∷ ways) e near (subst (λ w'. ExchangeRefused a (w ∷ ways) w' now e) (sym same) refused)
+    refuses a b after now c (stays a b w ways c h after now same keeps) (w ∷ ways) e near
+    (subst (λ w'. ExchangeRefused a (w ∷ ways) w' now e) (sym same) refused)
   where
     near : All (λ way. HasColumnsWithin a way b) (w ∷ ways)
     near zero d below = way_within a b w ways c h
@@ -219,21 +230,26 @@ same_basics a b w c counted marks all h =
     inside i basic =
         let here : i + 1 - 1 ≡ i = omega arith in
         let within : i < size a = subst (λ n. i < n) counted (marked_below b i basic) in
-        ap (λ n. get_or w n false) (sym here) ∙ has (i + 1) (omega arith, omega (arith, within)) (ap (λ n. get_or b n false) here ∙ basic) (nat_le (i + 1) a.rows) refl
+        ap (λ n. get_or w n false) (sym here)
+        ∙ has (i + 1) (omega arith, omega (arith, within)) (ap (λ n. get_or b n false) here ∙ basic) (nat_le (i + 1) a.rows) refl
 
 -- ---- one column of b, by an engine: its matrix is m, and then m'
 
-viewed : (a : Matrix) (b : Basics) (xs : List ℚ) (after : Basics) (now : List Basics) (stop : Stop) (P : Evidence → Type 0) → ((e : Evidence) → P e → RefusesWay a b after now e) → IfOverflow stop P → FillStops a b xs after now (fill_stop stop)
+viewed : (a : Matrix) (b : Basics) (xs : List ℚ) (after : Basics) (now : List Basics) (stop : Stop) (P : Evidence → Type 0) →
+    ((e : Evidence) → P e → RefusesWay a b after now e) → IfOverflow stop P → FillStops a b xs after now (fill_stop stop)
 viewed a b xs after now (stops.Overflow e) P gives refused = gives e refused
 viewed a b xs after now stops.NoMemory P gives refused = tt
 
 module _ (a : Matrix) (b : Basics) (m : Matrix) (w : Basics) (ways : List Basics) (k : ℕ) (same_m : m ≡ a) (h : IsUnderWay a b w ways k) where
-  pub column_stops : (xs : List ℚ) (after : Basics) (now : List Basics) (stop : Stop) → after ≡ w → KeepsWaypoints m w ways after now → IfOverflow stop (ExchangeRefused m (w ∷ ways) w now) → FillStops a b xs after now (fill_stop stop)
+  pub column_stops : (xs : List ℚ) (after : Basics) (now : List Basics) (stop : Stop) → after ≡ w → KeepsWaypoints m w ways after now →
+      IfOverflow stop (ExchangeRefused m (w ∷ ways) w now) → FillStops a b xs after now (fill_stop stop)
   column_stops xs after now stop same keeps refused =
       viewed a b xs after now stop (ExchangeRefused m (w ∷ ways) w now)
-      (λ e r. column_refuses a b w ways k h after now e same (subst (λ m. KeepsWaypoints m w ways after now) same_m keeps) (subst (λ m. ExchangeRefused m (w ∷ ways) w now e) same_m r)) refused
+      (λ e r. column_refuses a b w ways k h after now e same (subst (λ m. KeepsWaypoints m w ways after now) same_m keeps)
+      (subst (λ m. ExchangeRefused m (w ∷ ways) w now e) same_m r)) refused
 
-  module _ (column : a.rows < k) (is : IsVariable a k) (mark : is_in b k ≡ true) (m' : Matrix) (w' : Basics) (mid : List Basics) (same_m' : m' ≡ m) (same_w' : w' ≡ w) (keeps : KeepsWaypoints m w ways w' mid)
+  module _ (column : a.rows < k) (is : IsVariable a k) (mark : is_in b k ≡ true) (m' : Matrix) (w' : Basics) (mid : List Basics) (same_m' : m' ≡ m)
+      (same_w' : w' ≡ w) (keeps : KeepsWaypoints m w ways w' mid)
       (xs : List ℚ) (direction : IsDirectionOf m w k (value_at xs)) where
     at_w : IsDirectionOf a w k (value_at xs)
     at_w = subst (λ m. IsDirectionOf m w k (value_at xs)) same_m direction
@@ -251,11 +267,16 @@ module _ (a : Matrix) (b : Basics) (m : Matrix) (w : Basics) (ways : List Basics
       pub pivot : HasPivot m' w' p k
       pivot = (value_at xs, subst (λ m. IsDirectionOf m w' k (value_at xs)) (sym (same_m' ∙ same_m)) at_w', leaver.apart)
 
-      pub engine_entered : (after : Basics) (now : List Basics) → after ≡ exchanged w' p k → KeepsWaypoints m' w' mid after now → IsUnderWay a b after now (k + 1)
-      engine_entered after now same kept = entered a b w' mid k after_column column (is, mark) xs at_w' p leaver after now same (subst (λ m. KeepsWaypoints m w' mid after now) (same_m' ∙ same_m) kept)
+      pub engine_entered : (after : Basics) (now : List Basics) → after ≡ exchanged w' p k → KeepsWaypoints m' w' mid after now →
+          IsUnderWay a b after now (k + 1)
+      engine_entered after now same kept =
+          entered a b w' mid k after_column column (is, mark) xs at_w' p leaver after now same
+          (subst (λ m. KeepsWaypoints m w' mid after now) (same_m' ∙ same_m) kept)
 
-      pub exchange_stops : (after : Basics) (now : List Basics) (stop : Stop) → after ≡ w' → KeepsWaypoints m' w' mid after now → IfOverflow stop (ExchangeRefused m' (w' ∷ exchanged w' p k ∷ mid) w' now) → FillStops a b xs after now (fill_stop stop)
+      pub exchange_stops : (after : Basics) (now : List Basics) (stop : Stop) → after ≡ w' → KeepsWaypoints m' w' mid after now →
+          IfOverflow stop (ExchangeRefused m' (w' ∷ exchanged w' p k ∷ mid) w' now) → FillStops a b xs after now (fill_stop stop)
       exchange_stops after now stop same kept refused =
           viewed a b xs after now stop (ExchangeRefused m' (w' ∷ exchanged w' p k ∷ mid) w' now)
-          (λ e r. exchange_refuses a b w' mid k after_column column (is, mark) xs at_w' p leaver after now e same (subst (λ m. KeepsWaypoints m w' mid after now) (same_m' ∙ same_m) kept)
+          (λ e r. exchange_refuses a b w' mid k after_column column (is, mark) xs at_w' p leaver after now e same
+          (subst (λ m. KeepsWaypoints m w' mid after now) (same_m' ∙ same_m) kept)
           (subst (λ m. ExchangeRefused m (w' ∷ exchanged w' p k ∷ mid) w' now e) (same_m' ∙ same_m) r)) refused

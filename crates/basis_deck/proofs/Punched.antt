@@ -25,7 +25,8 @@ module _ (p : ℕ → Bool) (m n i : ℕ) (below : i < n) where
   one_more =
       let left : n - i ≡ suc (n - (i + 1)) = omega (arith, below) in
       let next : suc (m + i) ≡ m + (i + 1) = omega arith in
-      ap (λ k. filter p (numbers_from (m + i) k)) left ∙ ap (λ k. cond (p (m + i)) ((m + i) ∷ filter p (numbers_from k (n - (i + 1)))) (filter p (numbers_from k (n - (i + 1))))) next
+      ap (λ k. filter p (numbers_from (m + i) k)) left
+      ∙ ap (λ k. cond (p (m + i)) ((m + i) ∷ filter p (numbers_from k (n - (i + 1)))) (filter p (numbers_from k (n - (i + 1))))) next
 
   pub next_passes : p (m + i) ≡ true → passing p m n i ≡ (m + i) ∷ passing p m n (i + 1)
   next_passes e = one_more ∙ ap (λ b. cond b ((m + i) ∷ passing p m n (i + 1)) (passing p m n (i + 1))) e
@@ -47,7 +48,8 @@ module _ (lp : LinearProgram) (s : List Status) (i : ℕ) (below : i < lp.rows) 
   pub nonbasic_row : is_basic (status_of s (i + 1)) ≡ false → rows_from lp s i ≡ (i + 1) ∷ rows_from lp s (i + 1)
   nonbasic_row e =
       let place : 1 + i ≡ i + 1 = omega arith in
-      next_passes (λ k. not (is_basic (status_of s k))) 1 lp.rows i below (ap not (ap (λ k. is_basic (status_of s k)) place ∙ e)) ∙ ap (λ k. k ∷ rows_from lp s (i + 1)) place
+      next_passes (λ k. not (is_basic (status_of s k))) 1 lp.rows i below (ap not (ap (λ k. is_basic (status_of s k)) place ∙ e))
+      ∙ ap (λ k. k ∷ rows_from lp s (i + 1)) place
 
 -- ---- cards
 
@@ -56,7 +58,8 @@ zip_none [] ys e = refl
 zip_none (x ∷ xs) [] e = refl
 zip_none (x ∷ xs) (y ∷ ys) e = absurd (cc e)
 
-pub text_more : (written : List ℕ) (card : List ℕ) (rest : List (List ℕ)) (left : List (List ℕ)) (whole : List ℕ) → left ≡ card ∷ rest → written ++ card_text left ≡ whole → (written ++ line card) ++ card_text rest ≡ whole
+pub text_more : (written : List ℕ) (card : List ℕ) (rest : List (List ℕ)) (left : List (List ℕ)) (whole : List ℕ) → left ≡ card ∷ rest →
+    written ++ card_text left ≡ whole → (written ++ line card) ++ card_text rest ≡ whole
 text_more written card rest left whole is split = append_assoc written (line card) (card_text rest) ∙ ap (λ cards. written ++ card_text cards) (sym is) ∙ split
 
 module _ (problem : Problem ℕ) (lp : LinearProgram) (s : List Status) (c i : ℕ) (below : c < lp.cols) where
@@ -72,10 +75,12 @@ module _ (problem : Problem ℕ) (lp : LinearProgram) (s : List Status) (c i : �
         ap (λ cs. map (exchange_card problem lp s) (zip cs (rows_from lp s i)))
         (next_fails (λ k. is_basic (status_of s k)) (lp.rows + 1) lp.cols c below (ap (λ k. is_basic (status_of s k)) place ∙ e))
 
-    pub exchange_next : is_basic (status_of s column) ≡ true → (r : ℕ) → rows_from lp s i ≡ r ∷ rows_from lp s r → exchanges_from problem lp s c i ≡ exchange_card problem lp s (column, r) ∷ exchanges_from problem lp s (c + 1) r
+    pub exchange_next : is_basic (status_of s column) ≡ true → (r : ℕ) → rows_from lp s i ≡ r ∷ rows_from lp s r →
+        exchanges_from problem lp s c i ≡ exchange_card problem lp s (column, r) ∷ exchanges_from problem lp s (c + 1) r
     exchange_next e r rows =
         ap₂ (λ cs rs. map (exchange_card problem lp s) (zip cs rs))
-        (next_passes (λ k. is_basic (status_of s k)) (lp.rows + 1) lp.cols c below (ap (λ k. is_basic (status_of s k)) place ∙ e) ∙ ap (λ k. k ∷ columns_from lp s (c + 1)) place) rows
+        (next_passes (λ k. is_basic (status_of s k)) (lp.rows + 1) lp.cols c below (ap (λ k. is_basic (status_of s k)) place ∙ e)
+        ∙ ap (λ k. k ∷ columns_from lp s (c + 1)) place) rows
 
     pub limit_skipped : is_raised lp s column ≡ false → limits_from problem lp s c ≡ limits_from problem lp s (c + 1)
     limit_skipped e = ap (map (limit_card problem lp)) (next_fails (is_raised lp s) (lp.rows + 1) lp.cols c below (ap (is_raised lp s) place ∙ e))
@@ -100,7 +105,8 @@ passing_all p m n = ap₂ (λ first count. filter p (numbers_from first count)) 
 module _ (problem : Problem ℕ) (lp : LinearProgram) (s : List Status) where
   all_exchanges : exchanges_from problem lp s 0 0 ≡ map (exchange_card problem lp s) (zip (basic_columns lp s) (nonbasic_rows lp s))
   all_exchanges =
-      ap₂ (λ cs rs. map (exchange_card problem lp s) (zip cs rs)) (passing_all (λ k. is_basic (status_of s k)) (lp.rows + 1) lp.cols) (passing_all (λ k. not (is_basic (status_of s k))) 1 lp.rows)
+      ap₂ (λ cs rs. map (exchange_card problem lp s) (zip cs rs)) (passing_all (λ k. is_basic (status_of s k)) (lp.rows + 1) lp.cols)
+      (passing_all (λ k. not (is_basic (status_of s k))) 1 lp.rows)
 
   all_limits : limits_from problem lp s 0 ≡ map (limit_card problem lp) (raised lp s)
   all_limits = ap (map (limit_card problem lp)) (passing_all (is_raised lp s) (lp.rows + 1) lp.cols)
@@ -123,7 +129,9 @@ module _ (problem : Problem ℕ) (lp : LinearProgram) (s : List Status) where
       let exchanges = exchanges_from problem lp s 0 0 in
       let limits = limits_from problem lp s 0 in
       let last : List (List ℕ) = codes "ENDATA" ∷ [] in
-      let two = flat_map-append (λ (card : List ℕ). card ++ 10 ∷ []) exchanges (limits ++ last) ∙ ap (λ w. card_text exchanges ++ w) (flat_map-append (λ (card : List ℕ). card ++ 10 ∷ []) limits last) in
+      let two =
+      flat_map-append (λ (card : List ℕ). card ++ 10 ∷ []) exchanges (limits ++ last)
+      ∙ ap (λ w. card_text exchanges ++ w) (flat_map-append (λ (card : List ℕ). card ++ 10 ∷ []) limits last) in
       ap (λ name. line (name_card name) ++ after_name) is
       ∙ sym (ap card_text deck_is ∙ ap (λ w. line (name_card problem.name) ++ w) (ap card_text (append_assoc exchanges limits last) ∙ two))
 

@@ -36,7 +36,15 @@ marks_of lp placings = map (λ k. list_any (λ placing. nat_eq placing.variable 
 
 -- after these cards
 abbrev pub state_of : Problem ℕ → LinearProgram → List Card → State
-state_of problem lp cards = record { problem = problem; lp = lp; section = section_after cards; statuses = stands_for problem lp cards; marks = marks_of lp (placings_of problem cards) }
+state_of problem lp cards =
+    record {
+      problem = problem;
+      lp = lp;
+      section = section_after cards;
+      statuses = stands_for problem lp cards;
+      marks = marks_of lp
+          (placings_of problem cards);
+    }
 
 -- after NAME comes ENDATA
 abbrev pub ends_after : Section → Section → Bool
@@ -72,7 +80,8 @@ fault_at state card = if is_section_card card then section_card_fault ends_after
 
 -- one more placing
 abbrev pub with_placing : State → Placing → State
-with_placing state placing = record state { statuses = with_status state.statuses placing.variable placing.status; marks = slice_set state.marks (placing.variable - 1) true }
+with_placing state placing =
+    record state { statuses = with_status state.statuses placing.variable placing.status; marks = slice_set state.marks (placing.variable - 1) true }
 
 -- what a card with a code adds
 abbrev pub with_code : State → Reading → Code → State

@@ -41,7 +41,8 @@ pub fn has_limit(lp: &Lp, k: u32, at: Status) -> bool
 
 /// Whether one of the fields 4 to 6 isn't blank.
 pub fn has_more_from_4(card: &DataCard<'_>) -> bool
-    ensures { result ≡ not (is_empty (card.now.value1.now ++ card.now.name3 ++ card.now.value2.now)) }
+    ensures { result ≡
+        not (is_empty (card.now.value1.now ++ card.now.name3 ++ card.now.value2.now)) }
 {
     !(is_blank(card.value1) && is_blank(card.name3.bytes()) && is_blank(card.value2))
 }

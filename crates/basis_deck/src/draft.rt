@@ -100,7 +100,8 @@ impl<'a> BasisDraft<'a> {
     // The variable of the column of this name.
     fn column_variable(&self, name: &Name) -> Option<u32>
         ensures missing { IfNone result (has_group self.now.problem.now.columns name.now ≡ false) }
-        ensures there { IfSome result (λ k. has_group self.now.problem.now.columns name.now ≡ true) }
+        ensures there { IfSome result
+            (λ k. has_group self.now.problem.now.columns name.now ≡ true) }
         ensures number { IfSome result (λ k. k ≡ column_variable self.now.problem.now name.now) }
         ensures variable { IfSome result (IsVariable self.now.lp.now.matrix) }
     {
@@ -301,7 +302,8 @@ impl<'a> Draft for BasisDraft<'a> {
 
     ghost test = { λ start. basis_card_fault start.problem.now start.lp.now };
 
-    ghost is_made_of = { λ start draft seen. state_view draft ≡ state_of start.problem.now start.lp.now seen };
+    ghost is_made_of = { λ start draft seen. state_view draft ≡
+        state_of start.problem.now start.lp.now seen };
 
     fn section(&self) -> Option<Section> {
         self.section

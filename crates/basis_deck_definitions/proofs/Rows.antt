@@ -77,6 +77,7 @@ punched : basis_deck small program (Bs ∷ Bs ∷ Bs ∷ Ll ∷ Ul ∷ Ul ∷ Bs
 unfolding basis_deck data_card
 punched = refl
 
-punched_two : basis_deck small program (Bs ∷ Ul ∷ Bs ∷ Ll ∷ Bs ∷ Ul ∷ Bs ∷ []) ≡ map codes ("NAME          SMALL" ∷ " XU A         UPR" ∷ " XL C         EQ" ∷ "ENDATA" ∷ [])
+punched_two : basis_deck small program (Bs ∷ Ul ∷ Bs ∷ Ll ∷ Bs ∷ Ul ∷ Bs ∷ []) ≡ map codes
+    ("NAME          SMALL" ∷ " XU A         UPR" ∷ " XL C         EQ" ∷ "ENDATA" ∷ [])
 unfolding basis_deck data_card
 punched_two = refl

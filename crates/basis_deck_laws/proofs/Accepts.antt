@@ -45,31 +45,44 @@ pub accepts-none : (from : Option Section) (p : Problem Name) → Accepts from p
 accepts-none from p = λ n before s. record {
   alive = refl;
   fine = refl;
-  after = record { style_is = ap style_of (append-nil before) ∙ s.style_is; place_is = ap section_after (append-nil before) ∙ s.place_is; seen_is = ap (described []) (append-nil before) ∙ s.seen_is };
+  after =
+      record {
+        style_is = ap style_of (append-nil before) ∙ s.style_is;
+        place_is = ap section_after (append-nil before)
+            ∙ s.place_is;
+        seen_is = ap (described []) (append-nil before) ∙ s.seen_is;
+      };
 }
 
-pub accepts-then : {a b c : Option Section} {p q r : Problem Name} (xs ys : List (List ℕ)) → Accepts a p xs b q → Accepts b q ys c r → Accepts a p (xs ++ ys) c r
+pub accepts-then : {a b c : Option Section} {p q r : Problem Name} (xs ys : List (List ℕ)) → Accepts a p xs b q → Accepts b q ys c r →
+    Accepts a p (xs ++ ys) c r
 accepts-then {c = c} {r = r} xs ys f h = λ n before s.
     let first = f n before s in
     let second = h (n + length xs) (before ++ numbered_from n xs) first.after in
-    joined before (numbered_from n xs) (numbered_from (n + length xs) ys) (numbered_from n (xs ++ ys)) (numbered_from-append n xs ys) first.alive first.fine second
+    joined before (numbered_from n xs) (numbered_from (n + length xs) ys) (numbered_from n (xs ++ ys))
+    (numbered_from-append n xs ys) first.alive first.fine second
   where
-    joined : (before one two whole : List Card) → whole ≡ one ++ two → live one ≡ one → first_faulty card_fault before one ≡ None → AreTaken (before ++ one) two c r → AreTaken before whole c r
+    joined : (before one two whole : List Card) → whole ≡ one ++ two → live one ≡ one → first_faulty card_fault before one ≡ None →
+        AreTaken (before ++ one) two c r → AreTaken before whole c r
     joined before one two whole e alive fine second = subst (λ cards. AreTaken before cards c r) (sym e) (record {
       alive = live-append one two ∙ ap₂ (λ x y. x ++ y) alive second.alive;
-      fine = first_faulty-append card_fault before one two ∙ none_or (first_faulty card_fault before one) (first_faulty card_fault (before ++ one) two) fine second.fine;
+      fine =
+          first_faulty-append card_fault before one two
+          ∙ none_or (first_faulty card_fault before one) (first_faulty card_fault (before ++ one) two) fine second.fine;
       after = subst (λ cards. Stands cards c r) (append_assoc before one two) second.after;
     })
 
 -- one card that isn't skipped and has no fault
-one_card : (before : List Card) (card : Card) (place : Option Section) (problem : Problem Name) → is_skipped card.bytes ≡ false → card_fault before card.bytes ≡ None → Stands (before ++ card ∷ []) place problem → AreTaken before (card ∷ []) place problem
+one_card : (before : List Card) (card : Card) (place : Option Section) (problem : Problem Name) → is_skipped card.bytes ≡ false →
+    card_fault before card.bytes ≡ None → Stands (before ++ card ∷ []) place problem → AreTaken before (card ∷ []) place problem
 one_card before card place problem there fine after = record {
   alive = ap (λ b. cond (not b) (card ∷ []) []) there;
   fine = ap (λ o. option_or (option_map (λ kind. record { card = card.number; kind = kind }) o) None) fine;
   after = after;
 }
 
-data_fine : (problem : Problem Name) (place : Section) (card : List ℕ) (read : Reading) → IsWritten card read → section_fault problem place read ≡ None → data_card_fault problem FixedFields (Some place) card ≡ None
+data_fine : (problem : Problem Name) (place : Section) (card : List ℕ) (read : Reading) → IsWritten card read → section_fault problem place read ≡ None →
+    data_card_fault problem FixedFields (Some place) card ≡ None
 data_fine problem place card read is fine = by place fine
   where
     form : gaps_fault card ≡ None
@@ -88,11 +101,13 @@ data_fine problem place card read is fine = by place fine
     by Bounds h = two (gaps_fault card) (section_fault problem Bounds (reading_of Fixed card)) form (ap (section_fault problem Bounds) is.reads ∙ h)
 
 -- A data card without a fault in its section changes the problem by what it reads as.
-pub accepts-data : (place : Section) (problem : Problem Name) (card : List ℕ) (read : Reading) → IsWritten card read → section_fault problem place read ≡ None → Accepts (Some place) problem (card ∷ []) (Some place) (with_card place read problem)
+pub accepts-data : (place : Section) (problem : Problem Name) (card : List ℕ) (read : Reading) → IsWritten card read → section_fault problem place read ≡ None →
+    Accepts (Some place) problem (card ∷ []) (Some place) (with_card place read problem)
 unfolding card_fault
 accepts-data place problem card read is fine = λ n before s.
     one_card before (record { number = n; bytes = card }) (Some place) (with_card place read problem) is.there
-    (ap (λ b. cond b (section_card_fault may_follow (section_after before) card) (data_card_fault (described [] before) (style_of before) (section_after before) card)) is.data_card
+    (ap (λ b. cond b (section_card_fault may_follow (section_after before) card)
+    (data_card_fault (described [] before) (style_of before) (section_after before) card)) is.data_card
     ∙ (λ i. data_card_fault (s.seen_is i) (s.style_is i) (s.place_is i) card)
     ∙ data_fine problem place card read is fine)
     (record {
@@ -105,12 +120,15 @@ accepts-data place problem card read is fine = λ n before s.
     })
 
 -- A section card that may follow, and leaves the deck fixed, changes the section alone.
-section-taken : (from : Option Section) (section : Section) (problem : Problem Name) (card : List ℕ) → is_section_card card ≡ true → section_begun card ≡ Some section → is_skipped card ≡ false
-    → section_card_fault may_follow from card ≡ None → unwrap_or (style_begun card) FixedFields ≡ FixedFields → Accepts from problem (card ∷ []) (Some section) problem
+section-taken : (from : Option Section) (section : Section) (problem : Problem Name) (card : List ℕ) → is_section_card card ≡ true
+    → section_begun card ≡ Some section → is_skipped card ≡ false
+    → section_card_fault may_follow from card ≡ None → unwrap_or (style_begun card) FixedFields ≡ FixedFields
+    → Accepts from problem (card ∷ []) (Some section) problem
 unfolding card_fault
 section-taken from section problem card is begun there fine fixed = λ n before s.
     one_card before (record { number = n; bytes = card }) (Some section) problem there
-    (ap (λ b. cond b (section_card_fault may_follow (section_after before) card) (data_card_fault (described [] before) (style_of before) (section_after before) card)) is
+    (ap (λ b. cond b (section_card_fault may_follow (section_after before) card)
+    (data_card_fault (described [] before) (style_of before) (section_after before) card)) is
     ∙ ap (λ at. section_card_fault may_follow at card) s.place_is ∙ fine)
     (record {
       style_is = style_of-push before (record { number = n; bytes = card }) ∙ ap (unwrap_or (style_begun card)) s.style_is ∙ fixed;
@@ -118,7 +136,8 @@ section-taken from section problem card is begun there fine fixed = λ n before 
       seen_is = described-section [] before (record { number = n; bytes = card }) is ∙ s.seen_is;
     })
 
-pub accepts-section : (from : Option Section) (section : Section) (problem : Problem Name) (card : List ℕ) → is_section_card card ≡ true → section_begun card ≡ Some section → is_section Header section ≡ false → is_skipped card ≡ false
+pub accepts-section : (from : Option Section) (section : Section) (problem : Problem Name) (card : List ℕ) → is_section_card card ≡ true
+    → section_begun card ≡ Some section → is_section Header section ≡ false → is_skipped card ≡ false
     → section_card_fault may_follow from card ≡ None → Accepts from problem (card ∷ []) (Some section) problem
 accepts-section from section problem card is begun other there fine = section-taken from section problem card is begun there fine (rw (begun, other) refl)
 

@@ -30,10 +30,13 @@ names_of : (entries : List (Entry Name)) (row : Name) → has_entry entries row 
 names_of [] row = refl
 names_of (entry ∷ entries) row = ap (λ b. same row entry.row || b) (names_of entries row)
 
-pub may-add : (rows : List (Row Name)) → AllByRecursion IsLabel (map (λ row. row.name) rows) → (taken : List (Entry Name)) (entry : Entry Name) (items : List (Entry Name)) → AreLawfulEntries rows (taken ++ entry ∷ items) → MayAdd rows taken entry
+pub may-add : (rows : List (Row Name)) → AllByRecursion IsLabel (map (λ row. row.name) rows) →
+    (taken : List (Entry Name)) (entry : Entry Name) (items : List (Entry Name)) → AreLawfulEntries rows (taken ++ entry ∷ items) → MayAdd rows taken entry
 may-add rows labels taken entry items lawful =
     let there : has_row rows entry.row ≡ true = all-at (λ (e : Entry Name). has_row rows e.row ≡ true) taken entry items lawful.on_rows in
-    let apart = apart-before same (map (λ (e : Entry Name). e.row) taken) entry.row (map (λ (e : Entry Name). e.row) items) (subst (IsDistinct same) (map-append (λ (e : Entry Name). e.row) taken (entry ∷ items)) lawful.distinct) in
+    let apart =
+    apart-before same (map (λ (e : Entry Name). e.row) taken) entry.row (map (λ (e : Entry Name). e.row) items)
+    (subst (IsDistinct same) (map-append (λ (e : Entry Name). e.row) taken (entry ∷ items)) lawful.distinct) in
     record {
       label = label-of (map (λ row. row.name) rows) entry.row labels (sym (row_is_named entry.row rows) ∙ there);
       there = there;
@@ -47,7 +50,8 @@ pair_of entry = record { row = entry.row; value = entry.value.text; column = 25 
 
 -- the pair of a card of which the entry may be added
 pub pair-fine : (seen : Problem Name) (section : Section) (taken : List (Entry Name)) (count : ℕ) (entry : Entry Name) → MayAdd seen.rows taken entry
-    → (is_section Columns section && has_combination seen.rows entry.row) ≡ false → (is_section Ranges section && has_free_row seen.rows entry.row) ≡ false → (is_section Columns section && nat_le MAX_ENTRIES count) ≡ false
+    → (is_section Columns section && has_combination seen.rows entry.row) ≡ false → (is_section Ranges section && has_free_row seen.rows entry.row) ≡ false
+    → (is_section Columns section && nat_le MAX_ENTRIES count) ≡ false
     → pairs_fault seen section taken count (pair_of entry ∷ []) ≡ None
 pair-fine seen section taken count entry may plain limited few =
     pairs_fault-cons seen section taken count (pair_of entry) [] ∙ ap (λ o. option_or o None) (none_found (

@@ -77,11 +77,14 @@ fits-value : (o : Option Decimal) → IfSome o IsDecimal → FitsField 12 (text_
 fits-value None is = record { short = lit≤ tt; trimmed = refl }
 fits-value (Some number) is = fits-number number is
 
-value-fine : (kind : BoundKind) (o : Option Decimal) → is_some o ≡ takes_value kind → IfSome o IsDecimal → cond (takes_value kind) (value_fault 25 (text_of o)) None ≡ None
+value-fine : (kind : BoundKind) (o : Option Decimal) → is_some o ≡ takes_value kind → IfSome o IsDecimal →
+    cond (takes_value kind) (value_fault 25 (text_of o)) None ≡ None
 value-fine kind None h is = ap (λ b. cond b (value_fault 25 []) None) (sym h)
-value-fine kind (Some number) h is = ap (λ b. cond b (value_fault 25 number.text) None) (sym h) ∙ ap (option_map (number_fault_from 25)) ((reads-as number is).fine)
+value-fine kind (Some number) h is =
+    ap (λ b. cond b (value_fault 25 number.text) None) (sym h) ∙ ap (option_map (number_fault_from 25)) ((reads-as number is).fine)
 
-value-again : (kind : BoundKind) (o : Option Decimal) → is_some o ≡ takes_value kind → IfSome o IsDecimal → cond (takes_value kind) (Some (decimal_of (text_of o))) None ≡ o
+value-again : (kind : BoundKind) (o : Option Decimal) → is_some o ≡ takes_value kind → IfSome o IsDecimal →
+    cond (takes_value kind) (Some (decimal_of (text_of o))) None ≡ o
 value-again kind None h is = ap (λ b. cond b (Some (decimal_of [])) None) (sym h)
 value-again kind (Some number) h is = ap (λ b. cond b (Some (decimal_of number.text)) None) (sym h) ∙ ap Some ((reads-as number is).again)
 
@@ -96,10 +99,12 @@ and_comm false false = refl
 meet_sym : (a b : BoundKind) → meet a b ≡ meet b a
 meet_sym a b = ap₂ (λ x y. x || y) (and_comm (touches_upper a) (touches_upper b)) (and_comm (touches_lower a) (touches_lower b))
 
-not-twice : (bound : Bound Name) (taken : List (Bound Name)) → AllByRecursion (λ other. clash_by_name other bound ≡ false) taken → is_bound_already taken bound.column bound.kind ≡ false
+not-twice : (bound : Bound Name) (taken : List (Bound Name)) → AllByRecursion (λ other. clash_by_name other bound ≡ false) taken →
+    is_bound_already taken bound.column bound.kind ≡ false
 not-twice bound [] each = refl
 not-twice bound (other ∷ taken) each =
-    ap (λ b. b || is_bound_already taken bound.column bound.kind) (ap₂ (λ x y. x && y) (same_sym bound.column other.column) (meet_sym bound.kind other.kind) ∙ each.0) ∙ not-twice bound taken each.1
+    ap (λ b. b || is_bound_already taken bound.column bound.kind)
+    (ap₂ (λ x y. x && y) (same_sym bound.column other.column) (meet_sym bound.kind other.kind) ∙ each.0) ∙ not-twice bound taken each.1
 
 -- a bound that may be added to these
 record MayAdd (columns : List (Group (Entry Name))) (taken : List (Bound Name)) (bound : Bound Name) : Type 0 where
@@ -109,7 +114,8 @@ record MayAdd (columns : List (Group (Entry Name))) (taken : List (Bound Name)) 
   valued : is_some bound.value ≡ takes_value bound.kind
   value : IfSome bound.value IsDecimal
 
-may-add : (columns : List (Group (Entry Name))) → AllByRecursion IsLabel (group_names columns) → (taken : List (Bound Name)) (bound : Bound Name) (items : List (Bound Name)) → AreLawfulBounds columns (taken ++ bound ∷ items) → MayAdd columns taken bound
+may-add : (columns : List (Group (Entry Name))) → AllByRecursion IsLabel (group_names columns) →
+    (taken : List (Bound Name)) (bound : Bound Name) (items : List (Bound Name)) → AreLawfulBounds columns (taken ++ bound ∷ items) → MayAdd columns taken bound
 may-add columns labels taken bound items lawful =
     let there : has_group columns bound.column ≡ true = all-at (λ (b : Bound Name). has_group columns b.column ≡ true) taken bound items lawful.on_columns in
     record {
@@ -120,9 +126,11 @@ may-add columns labels taken bound items lawful =
       value = all-at (λ (b : Bound Name). IfSome b.value IsDecimal) taken bound items lawful.values;
     }
 
-written-bound : (name : Name) (bound : Bound Name) → IsName name → IsLabel bound.column → IfSome bound.value IsDecimal → IsWritten (bound_card name bound) (bound_fields name bound)
+written-bound : (name : Name) (bound : Bound Name) → IsName name → IsLabel bound.column → IfSome bound.value IsDecimal →
+    IsWritten (bound_card name bound) (bound_fields name bound)
 written-bound name bound is label value =
-    written-card (bound_kind_text bound.kind) name bound.column (bound_text bound) (fits-kind bound.kind) (kind-kept bound.kind) (fits-name name is) (fits-name bound.column label.name_of)
+    written-card (bound_kind_text bound.kind) name bound.column (bound_text bound) (fits-kind bound.kind) (kind-kept bound.kind) (fits-name name is)
+    (fits-name bound.column label.name_of)
     (subst (FitsField 12) (sym (text-is bound)) (fits-value bound.value value)) (some (is_empty name) (is_empty bound.column) label.present)
   where
     some : (a b : Bool) → b ≡ false → (a && b) ≡ false
@@ -130,7 +138,8 @@ written-bound name bound is label value =
     some false b h = refl
 
 -- the card of a bound that may be added
-bound-fine : (seen : Problem Name) (taken : List (Bound Name)) (name : Name) (bound : Bound Name) → MayAdd seen.columns taken bound → items_of name seen.bounds ≡ taken → bounds_fault seen (bound_fields name bound) ≡ None
+bound-fine : (seen : Problem Name) (taken : List (Bound Name)) (name : Name) (bound : Bound Name) → MayAdd seen.columns taken bound →
+    items_of name seen.bounds ≡ taken → bounds_fault seen (bound_fields name bound) ≡ None
 bound-fine seen taken name bound may items = type-known seen bound.kind name bound.column (bound_text bound) ∙ none_found (
     (is_empty bound.column ⟹ EmptyName) ∷
     (not (has_group seen.columns bound.column) ⟹ UnknownColumn) ∷
@@ -141,7 +150,8 @@ bound-fine seen taken name bound may items = type-known seen bound.kind name bou
       (
         not_found (not (has_group seen.columns bound.column)) UnknownColumn (ap not may.there),
         (
-          not_found (is_bound_already (items_of name seen.bounds) bound.column bound.kind) BoundTwice (ap (λ list. is_bound_already list bound.column bound.kind) items ∙ may.new),
+          not_found (is_bound_already (items_of name seen.bounds) bound.column bound.kind) BoundTwice
+              (ap (λ list. is_bound_already list bound.column bound.kind) items ∙ may.new),
           (
             ap (λ text. cond (takes_value bound.kind) (value_fault 25 text) None) (text-is bound) ∙ value-fine bound.kind bound.value may.valued may.value,
             (refl, tt),
@@ -150,33 +160,46 @@ bound-fine seen taken name bound may items = type-known seen bound.kind name bou
       ),
     )
 
-module _ (rows : List (Row Name)) (columns rhs ranges : List (Group (Entry Name))) (labels : AllByRecursion IsLabel (group_names columns)) (whole : List (Group (Bound Name))) where
+module _ (rows : List (Row Name)) (columns rhs ranges : List (Group (Entry Name))) (labels : AllByRecursion IsLabel (group_names columns))
+    (whole : List (Group (Bound Name))) where
   abbrev pub with_bounds : List (Group (Bound Name)) → Problem Name
   with_bounds bounds = record { name = []; rows = rows; columns = columns; rhs = rhs; ranges = ranges; bounds = bounds }
 
   -- what a card of a bound adds to its set
-  adds-bound : (sets : List (Group (Bound Name))) (name : Name) (bound : Bound Name) → is_some bound.value ≡ takes_value bound.kind → IfSome bound.value IsDecimal
+  adds-bound : (sets : List (Group (Bound Name))) (name : Name) (bound : Bound Name) → is_some bound.value ≡ takes_value bound.kind
+      → IfSome bound.value IsDecimal
       → with_card Bounds (bound_fields name bound) (with_bounds sets) ≡ with_bounds (in_set name (λ items. items ++ bound ∷ []) sets)
   adds-bound sets name bound valued value =
-      ap (λ o. with_bounds (with_group (option_map (λ (kind : BoundKind). record { name = name; items = bound_of (bound_fields name bound) kind ∷ [] }) o) sets)) (bound_words bound.kind)
+      ap (λ o. with_bounds
+      (with_group (option_map (λ (kind : BoundKind). record { name = name; items = bound_of (bound_fields name bound) kind ∷ [] }) o) sets))
+      (bound_words bound.kind)
       ∙ ap (λ v. with_bounds (in_set name (λ items. items ++ record { kind = bound.kind; column = bound.column; value = v } ∷ []) sets))
       (ap (λ text. cond (takes_value bound.kind) (Some (decimal_of text)) None) (text-is bound) ∙ value-again bound.kind bound.value valued value)
 
   bounds-add : AreGroups IsName (AreBoundSets columns) whole → EachAdds Bounds with_bounds bound_card whole
   bounds-add lawful done group after e taken item items h =
       let absent = new-group done group after (subst (λ all. IsDistinct same (group_names all)) (sym e) lawful.distinct) in
-      let is : IsName group.name = all-at (λ (g : Group (Bound Name)). IsName g.name) done group after (subst (AllByRecursion (λ (g : Group (Bound Name)). IsName g.name)) (sym e) (from-map IsName (λ (g : Group (Bound Name)). g.name) whole lawful.names)) in
-      let set : AreBoundSets columns group.items = all-at (λ (g : Group (Bound Name)). AreBoundSets columns g.items) done group after (subst (AllByRecursion (λ (g : Group (Bound Name)). AreBoundSets columns g.items)) (sym e) lawful.items) in
+      let is : IsName group.name =
+      all-at (λ (g : Group (Bound Name)). IsName g.name) done group after
+      (subst (AllByRecursion (λ (g : Group (Bound Name)). IsName g.name)) (sym e)
+      (from-map IsName (λ (g : Group (Bound Name)). g.name) whole lawful.names)) in
+      let set : AreBoundSets columns group.items =
+      all-at (λ (g : Group (Bound Name)). AreBoundSets columns g.items) done group after
+      (subst (AllByRecursion (λ (g : Group (Bound Name)). AreBoundSets columns g.items)) (sym e) lawful.items) in
       let may = may-add columns labels taken item items (subst (AreLawfulBounds columns) (sym h) set.bounds_lawful) in
       let now = groups_at done group.name taken in
-      subst (λ p. Accepts (Some Bounds) (with_bounds now) (bound_card group.name item ∷ []) (Some Bounds) p) (adds-bound now group.name item may.valued may.value)
+      subst (λ p. Accepts (Some Bounds) (with_bounds now) (bound_card group.name item ∷ []) (Some Bounds) p)
+      (adds-bound now group.name item may.valued may.value)
       (accepts-data Bounds (with_bounds now) (bound_card group.name item) (bound_fields group.name item) (written-bound group.name item is may.label may.value)
       (bound-fine (with_bounds now) taken group.name item may (items-taken done group.name taken absent)))
 
   -- The cards of the sets of bounds.
-  pub bounds-accepted : AreGroups IsName (AreBoundSets columns) whole → Accepts (Some Bounds) (with_bounds []) (flat_map (λ (set : Group (Bound Name)). map (bound_card set.name) set.items) whole) (Some Bounds) (with_bounds whole)
+  pub bounds-accepted : AreGroups IsName (AreBoundSets columns) whole →
+      Accepts (Some Bounds) (with_bounds []) (flat_map (λ (set : Group (Bound Name)). map (bound_card set.name) set.items) whole) (Some Bounds)
+      (with_bounds whole)
   bounds-accepted lawful = groups-accepted Bounds with_bounds bound_card whole (bounds-add lawful) lawful.distinct [] whole refl (filled whole lawful.items)
     where
-      filled : (groups : List (Group (Bound Name))) → AllByRecursion (λ (group : Group (Bound Name)). AreBoundSets columns group.items) groups → AllByRecursion (λ (group : Group (Bound Name)). is_empty group.items ≡ false) groups
+      filled : (groups : List (Group (Bound Name))) → AllByRecursion (λ (group : Group (Bound Name)). AreBoundSets columns group.items) groups →
+          AllByRecursion (λ (group : Group (Bound Name)). is_empty group.items ≡ false) groups
       filled [] each = tt
       filled (group ∷ groups) each = (each.0.filled, filled groups each.1)

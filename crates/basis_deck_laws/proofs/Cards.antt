@@ -99,9 +99,12 @@ no_section xs = ap is_section_card (without_trailing-cons is_blank 32 xs) ∙ by
 
 -- nor is a card skipped that begins with a blank and isn't blank
 not_skipped : (xs : List ℕ) → is_empty (without_trailing is_blank (32 ∷ xs)) ≡ false → is_skipped (without_trailing is_blank (32 ∷ xs)) ≡ false
-not_skipped xs some = ap is_skipped (without_trailing-cons is_blank 32 xs) ∙ by (is_empty (without_trailing is_blank xs)) (ap is_empty (sym (without_trailing-cons is_blank 32 xs)) ∙ some)
+not_skipped xs some =
+    ap is_skipped (without_trailing-cons is_blank 32 xs)
+    ∙ by (is_empty (without_trailing is_blank xs)) (ap is_empty (sym (without_trailing-cons is_blank 32 xs)) ∙ some)
   where
-    by : (b : Bool) → is_empty (cond (b && true) [] (32 ∷ without_trailing is_blank xs)) ≡ false → is_skipped (cond (b && true) [] (32 ∷ without_trailing is_blank xs)) ≡ false
+    by : (b : Bool) → is_empty (cond (b && true) [] (32 ∷ without_trailing is_blank xs)) ≡ false →
+        is_skipped (cond (b && true) [] (32 ∷ without_trailing is_blank xs)) ≡ false
     by true h = absurd (cc h)
     by false h = refl
 
@@ -125,14 +128,19 @@ pub record IsWritten (card : List ℕ) (read : Reading) : Type 0 where
 
 -- the fields of a card without fields 5 and 6
 abbrev pub fields : List ℕ → List ℕ → List ℕ → List ℕ → Reading
-fields kind name1 name2 value = record { kind = kind; name1 = name1; name2 = name2; value1 = value; name3 = []; value2 = []; value1_column = 25; value2_column = 50 }
+fields kind name1 name2 value =
+    record { kind = kind; name1 = name1; name2 = name2; value1 = value; name3 = []; value2 = []; value1_column = 25; value2_column = 50 }
 
-pub written-card : (kind name1 name2 value : List ℕ) → FitsField 2 kind → without_leading is_blank kind ≡ kind → FitsField 8 name1 → FitsField 8 name2 → FitsField 12 value
+pub written-card : (kind name1 name2 value : List ℕ) → FitsField 2 kind → without_leading is_blank kind ≡ kind → FitsField 8 name1 → FitsField 8 name2
+    → FitsField 12 value
     → (is_empty name1 && is_empty name2) ≡ false → IsWritten (data_card kind name1 name2 value) (fields kind name1 name2 value)
 unfolding data_card reading_of
 written-card kind name1 name2 value fk lead f1 f2 fv some = record {
   reads = read;
-  spaced = ap gaps_are_blank card_is ∙ gaps_blank (padded 2 kind) (padded 8 name1) (padded 8 name2) value (length-padded 2 kind fk.short) (length-padded 8 name1 f1.short) (length-padded 8 name2 f2.short) fv.short;
+  spaced =
+      ap gaps_are_blank card_is
+      ∙ gaps_blank (padded 2 kind) (padded 8 name1) (padded 8 name2) value (length-padded 2 kind fk.short) (length-padded 8 name1 f1.short)
+      (length-padded 8 name2 f2.short) fv.short;
   data_card = ap is_section_card card_is ∙ no_section after;
   there = ap is_skipped card_is ∙ not_skipped after (ap is_empty (sym card_is) ∙ present (is_empty name1) (is_empty name2) some refl refl);
 }

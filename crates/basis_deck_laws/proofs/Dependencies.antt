@@ -79,7 +79,8 @@ module _ (a : Matrix) (b : Basics) (c : ℕ) (d f : Vector) (left : IsDependency
       by (inl past) = u_later k past is
       by (inr (inl own)) = subst (λ k. u k ≡ zero_ℚ) own u_own
       by (inr (inr before)) = absurd (omega (arith, before, from, at))
-  u_columns (suc n) j at column k from is = by (order j k) (λ k past is. u_columns n (suc j) (omega (arith, at)) (omega (arith, column)) k (omega (arith, past)) is)
+  u_columns (suc n) j at column k from is =
+      by (order j k) (λ k past is. u_columns n (suc j) (omega (arith, at)) (omega (arith, column)) k (omega (arith, past)) is)
     where
       by : (j < k) ⊎ ((j ≡ k) ⊎ (k < j)) → ((k : ℕ) → j < k → IsVariable a k → u k ≡ zero_ℚ) → u k ≡ zero_ℚ
       by (inl past) rest = rest k past is
@@ -96,7 +97,9 @@ module _ (a : Matrix) (b : Basics) (c : ℕ) (d f : Vector) (left : IsDependency
       at_row : k ≤ a.rows → u k ≡ zero_ℚ
       at_row low =
           u_keeps k (is.0, low)
-          ∙ sum_to-zero a.cols (λ j. entry a k (suc j) *ℚ u (a.rows + suc j)) (λ j below. ap (λ x. entry a k (suc j) *ℚ x) (column_zero (a.rows + suc j) (omega arith) (omega arith, omega (arith, below))) ∙ mul-zero (entry a k (suc j)))
+          ∙ sum_to-zero a.cols (λ j. entry a k (suc j) *ℚ u (a.rows + suc j))
+          (λ j below. ap (λ x. entry a k (suc j) *ℚ x) (column_zero (a.rows + suc j) (omega arith) (omega arith, omega (arith, below)))
+          ∙ mul-zero (entry a k (suc j)))
 
       by : (a.rows < k) ⊎ ((a.rows ≡ k) ⊎ (k < a.rows)) → u k ≡ zero_ℚ
       by (inl column) = column_zero k column is
@@ -107,7 +110,8 @@ module _ (a : Matrix) (b : Basics) (c : ℕ) (d f : Vector) (left : IsDependency
   unfolding u
   same_vector k is = by_ring2 (d k) (f k) (λ x y. x ≐ (x ⊖ y) ⊕ y) refl ∙ ap (λ x. x +ℚ f k) (u_zero k is) ∙ by_ring1 (f k) (λ y. number (pos 0) ⊕ y ≐ y) refl
 
-pub one_dependency : (a : Matrix) (b : Basics) (c e : ℕ) (d f : Vector) → IsDependency a b c d → IsDependency a b e f → (c ≡ e) × ((k : ℕ) → IsVariable a k → d k ≡ f k)
+pub one_dependency : (a : Matrix) (b : Basics) (c e : ℕ) (d f : Vector) → IsDependency a b c d → IsDependency a b e f →
+    (c ≡ e) × ((k : ℕ) → IsVariable a k → d k ≡ f k)
 one_dependency a b c e d f left right = by (order c e)
   where
     by : (c < e) ⊎ ((c ≡ e) ⊎ (e < c)) → (c ≡ e) × ((k : ℕ) → IsVariable a k → d k ≡ f k)

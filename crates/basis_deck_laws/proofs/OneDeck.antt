@@ -31,13 +31,18 @@ module _ (problem : Problem ℕ) (lp : LinearProgram) (s : List Status) where
   goes_on : AllByRecursion GoesOn body
   goes_on =
       each-append GoesOn (map (exchange_card problem lp s) (pairs lp s)) (map (limit_card problem lp) (raised lp s))
-      (mapped (exchange_card problem lp s) (λ pair. data-goes-on (cond (is_up (status_of s pair.1)) (codes "XU") (codes "XL")) (name_at (group_names problem.columns) (pair.0 - lp.rows)) (name_at (row_names problem) pair.1) []) (pairs lp s))
+      (mapped (exchange_card problem lp s)
+      (λ pair. data-goes-on (cond (is_up (status_of s pair.1)) (codes "XU") (codes "XL")) (name_at (group_names problem.columns) (pair.0 - lp.rows))
+      (name_at (row_names problem) pair.1) []) (pairs lp s))
       (mapped (limit_card problem lp) (λ k. data-goes-on (codes "UL") (name_at (group_names problem.columns) (k - lp.rows)) [] []) (raised lp s))
 
-  pub one_deck : (first : ℕ) → IsProblem problem → (decks_of (numbered_from first (basis_deck problem lp s)) ≡ numbered_from first (basis_deck problem lp s) ∷ []) × (name_of_deck (numbered_from first (basis_deck problem lp s)) ≡ Some problem.name)
+  pub one_deck : (first : ℕ) → IsProblem problem →
+      (decks_of (numbered_from first (basis_deck problem lp s)) ≡ numbered_from first (basis_deck problem lp s) ∷ []) ×
+      (name_of_deck (numbered_from first (basis_deck problem lp s)) ≡ Some problem.name)
   one_deck first lawful = (
     subst (λ texts. decks_of (numbered_from first texts) ≡ numbered_from first texts ∷ []) (sym deck_is) (one-deck-of problem.name body goes_on first),
-    subst (λ texts. name_of_deck (numbered_from first texts) ≡ Some problem.name) (sym deck_is) (called-by problem.name (body ++ codes "ENDATA" ∷ []) first lawful.name),
+    subst (λ texts. name_of_deck (numbered_from first texts) ≡ Some problem.name) (sym deck_is)
+        (called-by problem.name (body ++ codes "ENDATA" ∷ []) first lawful.name),
   )
 
   code_printable : (up : Bool) → IsPrintableText (cond up (codes "XU") (codes "XL"))
@@ -45,13 +50,15 @@ module _ (problem : Problem ℕ) (lp : LinearProgram) (s : List Status) where
   code_printable false = refl
 
   module _ (lawful : IsProblem problem) (names : HasNames problem lp) where
-    exchanges_are : (cs rs : List ℕ) (c r : ℕ) → Ascends (IsBasicColumn lp s) c cs → Ascends (IsNonbasicRow lp s) r rs → AllByRecursion IsCard (map (exchange_card problem lp s) (zip cs rs))
+    exchanges_are : (cs rs : List ℕ) (c r : ℕ) → Ascends (IsBasicColumn lp s) c cs → Ascends (IsNonbasicRow lp s) r rs →
+        AllByRecursion IsCard (map (exchange_card problem lp s) (zip cs rs))
     exchanges_are [] rs c r hc hr = tt
     exchanges_are (k ∷ cs) [] c r hc hr = tt
     exchanges_are (k ∷ cs) (i ∷ rs) c r hc hr =
         let column = column_label problem lp lawful names k hc.0.has.past hc.0.has.is in
         let row = row_label problem lp lawful names i hr.0.has.row in (
-          data-is (cond (is_up (status_of s i)) (codes "XU") (codes "XL")) (name_at (group_names problem.columns) (k - lp.rows)) (name_at (row_names problem) i) []
+          data-is (cond (is_up (status_of s i)) (codes "XU") (codes "XL")) (name_at (group_names problem.columns) (k - lp.rows))
+              (name_at (row_names problem) i) []
               (code_printable (is_up (status_of s i))) column.name_of.printable row.name_of.printable refl,
           exchanges_are cs rs (suc k) (suc i) hc.1 hr.1,
         )
@@ -73,4 +80,5 @@ module _ (problem : Problem ℕ) (lp : LinearProgram) (s : List Status) where
     )
 
     pub reads_back : cards_of (card_text (basis_deck problem lp s)) ≡ basis_deck problem lp s
-    reads_back = subst (λ texts. cards_of (card_text texts) ≡ texts) (sym deck_is) (read-back (name_card problem.name ∷ (body ++ codes "ENDATA" ∷ [])) cards_are)
+    reads_back =
+        subst (λ texts. cards_of (card_text texts) ≡ texts) (sym deck_is) (read-back (name_card problem.name ∷ (body ++ codes "ENDATA" ∷ [])) cards_are)

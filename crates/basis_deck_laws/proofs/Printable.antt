@@ -29,7 +29,8 @@ module _ (p : ℕ → Bool) (printable : (x : ℕ) → p x ≡ true → is_print
   all-leading [] h = refl
   all-leading (x ∷ xs) h = by (p x) refl h (all-leading xs)
     where
-      by : (b : Bool) → p x ≡ b → IsPrintableText (drop (cond b (1 + prefix_len p xs) 0) (x ∷ xs)) → (IsPrintableText (drop (prefix_len p xs) xs) → IsPrintableText xs) → IsPrintableText (x ∷ xs)
+      by : (b : Bool) → p x ≡ b → IsPrintableText (drop (cond b (1 + prefix_len p xs) 0) (x ∷ xs)) →
+          (IsPrintableText (drop (prefix_len p xs) xs) → IsPrintableText xs) → IsPrintableText (x ∷ xs)
       by true e h rest =
           let next : 1 + prefix_len p xs ≡ suc (prefix_len p xs) = omega arith in
           and_from (is_printable x) (list_all is_printable xs) (printable x e) (rest (subst (λ n. IsPrintableText (drop n (x ∷ xs))) next h))
@@ -47,15 +48,18 @@ module _ (p : ℕ → Bool) (printable : (x : ℕ) → p x ≡ true → is_print
   all-parts [] before after = refl
   all-parts (x ∷ xs) before after = by (p x) refl before after (all-parts xs)
     where
-      by : (b : Bool) → p x ≡ b → IsPrintableText (take (cond (not b) (1 + position_or_len p xs) 0) (x ∷ xs)) → IsPrintableText (drop (cond (not b) (1 + position_or_len p xs) 0 + 1) (x ∷ xs))
-          → (IsPrintableText (take (position_or_len p xs) xs) → IsPrintableText (drop (position_or_len p xs + 1) xs) → IsPrintableText xs) → IsPrintableText (x ∷ xs)
+      by : (b : Bool) → p x ≡ b → IsPrintableText (take (cond (not b) (1 + position_or_len p xs) 0) (x ∷ xs))
+          → IsPrintableText (drop (cond (not b) (1 + position_or_len p xs) 0 + 1) (x ∷ xs))
+          → (IsPrintableText (take (position_or_len p xs) xs) → IsPrintableText (drop (position_or_len p xs + 1) xs) → IsPrintableText xs)
+          → IsPrintableText (x ∷ xs)
       by true e front back rest = and_from (is_printable x) (list_all is_printable xs) (printable x e) back
       by false e front back rest =
           let one : 1 + position_or_len p xs ≡ suc (position_or_len p xs) = omega arith in
           let two : 1 + position_or_len p xs + 1 ≡ suc (position_or_len p xs + 1) = omega arith in
           let front = subst (λ n. IsPrintableText (take n (x ∷ xs))) one front in
           and_from (is_printable x) (list_all is_printable xs) (and-first (is_printable x) (list_all is_printable (take (position_or_len p xs) xs)) front)
-          (rest (and-second (is_printable x) (list_all is_printable (take (position_or_len p xs) xs)) front) (subst (λ n. IsPrintableText (drop n (x ∷ xs))) two back))
+          (rest (and-second (is_printable x) (list_all is_printable (take (position_or_len p xs) xs)) front)
+          (subst (λ n. IsPrintableText (drop n (x ∷ xs))) two back))
 
 -- ---- the bytes of a number
 
@@ -99,14 +103,17 @@ record IsFormed (text : List ℕ) : Type 0 where
 formed-printable : (text : List ℕ) → IsFormed text → IsPrintableText text
 formed-printable text is = all-parts is_exponent_letter letter-printable text
     (all-after_one is_sign sign-printable (mantissa text) (all-leading is_digit digit-printable (after_one is_sign (mantissa text))
-    (all-after_one is_point point-printable (after_whole_digits text) (all-leading is_digit digit-printable (after_one is_point (after_whole_digits text)) (ap (list_all is_printable) is.whole_mantissa)))))
-    (all-after_one is_sign sign-printable (exponent text) (all-leading is_digit digit-printable (after_one is_sign (exponent text)) (ap (list_all is_printable) is.whole_exponent)))
+    (all-after_one is_point point-printable (after_whole_digits text)
+    (all-leading is_digit digit-printable (after_one is_point (after_whole_digits text)) (ap (list_all is_printable) is.whole_mantissa)))))
+    (all-after_one is_sign sign-printable (exponent text)
+    (all-leading is_digit digit-printable (after_one is_sign (exponent text)) (ap (list_all is_printable) is.whole_exponent)))
 
 formed : (text : List ℕ) → length text ≤ formed_length text → IsPrintableText text
 formed [] h = refl
 formed (x ∷ xs) h = by (rest_of_mantissa (x ∷ xs)) (rest_of_exponent (x ∷ xs)) refl refl h
   where
-    by : (rm re : List ℕ) → rest_of_mantissa (x ∷ xs) ≡ rm → rest_of_exponent (x ∷ xs) ≡ re → length (x ∷ xs) ≤ cond (is_empty rm) (length (x ∷ xs) - length re) (length (mantissa (x ∷ xs)) - length rm) → IsPrintableText (x ∷ xs)
+    by : (rm re : List ℕ) → rest_of_mantissa (x ∷ xs) ≡ rm → rest_of_exponent (x ∷ xs) ≡ re →
+        length (x ∷ xs) ≤ cond (is_empty rm) (length (x ∷ xs) - length re) (length (mantissa (x ∷ xs)) - length rm) → IsPrintableText (x ∷ xs)
     by [] [] em ee h = formed-printable (x ∷ xs) (record { whole_mantissa = em; whole_exponent = ee })
     by [] (y ∷ ys) em ee h = absurd (omega (arith, h))
     by (y ∷ ys) re em ee h = absurd (omega (arith, h, length-take (position_or_len is_exponent_letter (x ∷ xs)) (x ∷ xs)))

@@ -64,7 +64,8 @@ same-trailing : (xs : List ℕ) → IsPrintableText xs → without_trailing is_t
 same-trailing [] h = refl
 same-trailing (x ∷ xs) h =
     without_trailing-cons is_trailing x xs
-    ∙ ap₂ (λ rest b. cond (is_empty rest && b) [] (x ∷ rest)) (same-trailing xs (rest-printable x xs h)) (blank (is_blank x) (eqb x 13) (printable-apart x 13 (first-printable x xs h) refl))
+    ∙ ap₂ (λ rest b. cond (is_empty rest && b) [] (x ∷ rest)) (same-trailing xs (rest-printable x xs h))
+    (blank (is_blank x) (eqb x 13) (printable-apart x 13 (first-printable x xs h) refl))
     ∙ sym (without_trailing-cons is_blank x xs)
   where
     blank : (a b : Bool) → b ≡ false → (a || b) ≡ a
@@ -95,7 +96,9 @@ all-trimmed (card ∷ cards) each = ap₂ (λ a b. a ∷ b) (same-trailing card 
 
 pub read-back : (cards : List (List ℕ)) → AllByRecursion IsCard cards → cards_of (card_text cards) ≡ cards
 unfolding cards_of
-read-back cards each = ap (λ parts. map (without_trailing is_trailing) (without_empty_last parts)) (split-text cards each) ∙ ap (map (without_trailing is_trailing)) (last-left-out cards) ∙ all-trimmed cards each
+read-back cards each =
+    ap (λ parts. map (without_trailing is_trailing) (without_empty_last parts)) (split-text cards each)
+    ∙ ap (map (without_trailing is_trailing)) (last-left-out cards) ∙ all-trimmed cards each
 
 -- ---- the cards of a deck
 
@@ -112,7 +115,8 @@ padded-printable width text h = append-printable text (replicate (width - length
 pub trimmed-card : (xs : List ℕ) → IsPrintableText xs → IsCard (without_trailing is_blank xs)
 trimmed-card xs h = record { printable = part_passes is_printable 0 (length xs - suffix_len is_blank xs) xs h; trimmed = trimmed_twice is_blank xs }
 
-pub data-is : (kind name1 name2 value : List ℕ) → IsPrintableText kind → IsPrintableText name1 → IsPrintableText name2 → IsPrintableText value → IsCard (data_card kind name1 name2 value)
+pub data-is : (kind name1 name2 value : List ℕ) → IsPrintableText kind → IsPrintableText name1 → IsPrintableText name2 → IsPrintableText value →
+    IsCard (data_card kind name1 name2 value)
 unfolding data_card
 data-is kind name1 name2 value pk p1 p2 pv =
     let K = padded 2 kind in
@@ -124,9 +128,11 @@ data-is kind name1 name2 value pk p1 p2 pv =
     let s4 = append-printable (codes " " ++ K ++ codes " " ++ A) (codes "  ") s3 refl in
     let s5 = append-printable (codes " " ++ K ++ codes " " ++ A ++ codes "  ") B s4 (padded-printable 8 name2 p2) in
     let s6 = append-printable (codes " " ++ K ++ codes " " ++ A ++ codes "  " ++ B) (codes "  ") s5 refl in
-    trimmed-card (codes " " ++ K ++ codes " " ++ A ++ codes "  " ++ B ++ codes "  " ++ value) (append-printable (codes " " ++ K ++ codes " " ++ A ++ codes "  " ++ B ++ codes "  ") value s6 pv)
+    trimmed-card (codes " " ++ K ++ codes " " ++ A ++ codes "  " ++ B ++ codes "  " ++ value)
+    (append-printable (codes " " ++ K ++ codes " " ++ A ++ codes "  " ++ B ++ codes "  ") value s6 pv)
 
-cards-flat : {X : Type 0} (P : X → Type 0) (f : X → List (List ℕ)) → ((x : X) → P x → AllByRecursion IsCard (f x)) → (xs : List X) → AllByRecursion P xs → AllByRecursion IsCard (flat_map f xs)
+cards-flat : {X : Type 0} (P : X → Type 0) (f : X → List (List ℕ)) → ((x : X) → P x → AllByRecursion IsCard (f x)) → (xs : List X) → AllByRecursion P xs →
+    AllByRecursion IsCard (flat_map f xs)
 cards-flat P f is [] each = tt
 cards-flat P f is (x ∷ xs) each = each-append IsCard (f x) (flat_map f xs) (is x each.0) (cards-flat P f is xs each.1)
 
@@ -155,11 +161,14 @@ record IsGroup {X : Type 0} (Items : List X → Type 0) (group : Group X) : Type
   name : IsName group.name
   items : Items group.items
 
-groups : {X : Type 0} (Items : List X → Type 0) (groups : List (Group X)) → AllByRecursion (λ (group : Group X). IsName group.name) groups → AllByRecursion (λ (group : Group X). Items group.items) groups → AllByRecursion (IsGroup Items) groups
+groups : {X : Type 0} (Items : List X → Type 0) (groups : List (Group X)) → AllByRecursion (λ (group : Group X). IsName group.name) groups →
+    AllByRecursion (λ (group : Group X). Items group.items) groups → AllByRecursion (IsGroup Items) groups
 groups Items [] names items = tt
 groups Items (group ∷ rest) names items = (record { name = names.0; items = items.0 }, groups Items rest names.1 items.1)
 
-section-is : {X : Type 0} (P : Group X → Type 0) (word : List ℕ) (cards : Group X → List (List ℕ)) → IsCard word → ((group : Group X) → P group → AllByRecursion IsCard (cards group)) → (sets : List (Group X)) → AllByRecursion P sets → AllByRecursion IsCard (set_section word cards sets)
+section-is : {X : Type 0} (P : Group X → Type 0) (word : List ℕ) (cards : Group X → List (List ℕ)) → IsCard word →
+    ((group : Group X) → P group → AllByRecursion IsCard (cards group)) → (sets : List (Group X)) → AllByRecursion P sets →
+    AllByRecursion IsCard (set_section word cards sets)
 section-is P word cards is each [] all = tt
 section-is P word cards is each (set ∷ sets) all = (is, cards-flat P cards each (set ∷ sets) all)
 
@@ -170,42 +179,58 @@ module _ (q : Problem Name) (lawful : IsLawful q) (name : IsName q.name) where
   entries-are : (group : Group (Entry Name)) → IsGroup (AreLawfulEntries q.rows) group → AllByRecursion IsCard (entry_cards group)
   entries-are group is = by group.items is.items.on_rows is.items.values
     where
-      by : (items : List (Entry Name)) → AllByRecursion (λ (entry : Entry Name). has_row q.rows entry.row ≡ true) items → AllByRecursion (λ (entry : Entry Name). IsDecimal entry.value) items
+      by : (items : List (Entry Name)) → AllByRecursion (λ (entry : Entry Name). has_row q.rows entry.row ≡ true) items
+          → AllByRecursion (λ (entry : Entry Name). IsDecimal entry.value) items
           → AllByRecursion IsCard (map (λ (entry : Entry Name). data_card [] group.name entry.row entry.value.text) items)
       by [] there values = tt
       by (entry ∷ items) there values =
-          let label = label-of (map (λ (row : Row Name). row.name) q.rows) entry.row lawful.row_labels (sym (row_is_named entry.row q.rows) ∙ there.0) in
-          (data-is [] group.name entry.row entry.value.text refl is.name.printable label.name_of.printable (number-printable entry.value values.0), by items there.1 values.1)
+          let label = label-of (map (λ (row : Row Name). row.name) q.rows) entry.row lawful.row_labels (sym (row_is_named entry.row q.rows) ∙ there.0) in (
+            data-is [] group.name entry.row entry.value.text refl is.name.printable label.name_of.printable
+                (number-printable entry.value values.0),
+            by items there.1 values.1,
+          )
 
   -- the cards of a combination, whose parts stand on rows that are there
-  parts-are : (kind : RowKind) (name : Name) → IsName name → (parts : List (Entry Name)) → AllByRecursion (λ (part : Entry Name). has_row q.rows part.row ≡ true) parts → AllByRecursion (λ (part : Entry Name). IsDecimal part.value) parts
+  parts-are : (kind : RowKind) (name : Name) → IsName name → (parts : List (Entry Name))
+      → AllByRecursion (λ (part : Entry Name). has_row q.rows part.row ≡ true) parts → AllByRecursion (λ (part : Entry Name). IsDecimal part.value) parts
       → AllByRecursion IsCard (map (λ (part : Entry Name). data_card (combination_text kind) name part.row part.value.text) parts)
   parts-are kind name is [] there values = tt
   parts-are kind name is (part ∷ parts) there values =
-      let label = label-of (map (λ (row : Row Name). row.name) q.rows) part.row lawful.row_labels (sym (row_is_named part.row q.rows) ∙ there.0) in
-      (data-is (combination_text kind) name part.row part.value.text (combination-kind kind) is.printable label.name_of.printable (number-printable part.value values.0), parts-are kind name is parts there.1 values.1)
+      let label = label-of (map (λ (row : Row Name). row.name) q.rows) part.row lawful.row_labels (sym (row_is_named part.row q.rows) ∙ there.0) in (
+        data-is (combination_text kind) name part.row part.value.text (combination-kind kind) is.printable label.name_of.printable
+            (number-printable part.value values.0),
+        parts-are kind name is parts there.1 values.1,
+      )
 
   row-is : (row : Row Name) → IsLabel row.name → IfSome row.parts (AreLawfulEntries q.rows) → AllByRecursion IsCard (row_cards row)
   row-is row label are = by row.parts are
     where
-      by : (parts : Option (List (Entry Name))) → IfSome parts (AreLawfulEntries q.rows) → AllByRecursion IsCard (row_cards (record { kind = row.kind; name = row.name; parts = parts }))
+      by : (parts : Option (List (Entry Name))) → IfSome parts (AreLawfulEntries q.rows) →
+          AllByRecursion IsCard (row_cards (record { kind = row.kind; name = row.name; parts = parts }))
       by None are = (data-is (row_kind_text row.kind) row.name [] [] (row-kind row.kind) label.name_of.printable refl refl, tt)
       by (Some []) are = (data-is (combination_text row.kind) row.name [] [] (combination-kind row.kind) label.name_of.printable refl refl, tt)
       by (Some (part ∷ parts)) are = parts-are row.kind row.name label.name_of (part ∷ parts) are.on_rows are.values
 
-  rows-are : (rows : List (Row Name)) → AllByRecursion (λ (row : Row Name). IsLabel row.name) rows → AllByRecursion (λ (row : Row Name). IfSome row.parts (AreLawfulEntries q.rows)) rows → AllByRecursion IsCard (flat_map row_cards rows)
+  rows-are : (rows : List (Row Name)) → AllByRecursion (λ (row : Row Name). IsLabel row.name) rows →
+      AllByRecursion (λ (row : Row Name). IfSome row.parts (AreLawfulEntries q.rows)) rows → AllByRecursion IsCard (flat_map row_cards rows)
   rows-are [] labels are = tt
   rows-are (row ∷ rows) labels are = each-append IsCard (row_cards row) (flat_map row_cards rows) (row-is row labels.0 are.0) (rows-are rows labels.1 are.1)
 
   column-is : (column : Group (Entry Name)) → IsGroup (AreLawfulEntries q.rows) column → AllByRecursion IsCard (column_cards q.rows column)
   column-is column is = by (is_empty column.items)
     where
-      zero-cards : (rows : List (Row Name)) → AllByRecursion (λ (row : Row Name). IsLabel row.name) rows → AllByRecursion IsCard (map (λ (row : Row Name). data_card [] column.name row.name (codes "0")) (take 1 rows))
+      zero-cards : (rows : List (Row Name)) → AllByRecursion (λ (row : Row Name). IsLabel row.name) rows →
+          AllByRecursion IsCard (map (λ (row : Row Name). data_card [] column.name row.name (codes "0")) (take 1 rows))
       zero-cards [] labels = tt
       zero-cards (row ∷ rows) labels = (data-is [] column.name row.name (codes "0") refl is.name.printable labels.0.name_of.printable refl, tt)
 
-      by : (b : Bool) → AllByRecursion IsCard (cond b (map (λ (row : Row Name). data_card [] column.name row.name (codes "0")) (take 1 (filter (λ row. is_none row.parts) q.rows))) (entry_cards column))
-      by true = zero-cards (filter (λ row. is_none row.parts) q.rows) (each-filter (λ (row : Row Name). IsLabel row.name) (λ row. is_none row.parts) q.rows row_labels)
+      by : (b : Bool) →
+          AllByRecursion IsCard
+          (cond b (map (λ (row : Row Name). data_card [] column.name row.name (codes "0")) (take 1 (filter (λ row. is_none row.parts) q.rows)))
+          (entry_cards column))
+      by true =
+          zero-cards (filter (λ row. is_none row.parts) q.rows)
+          (each-filter (λ (row : Row Name). IsLabel row.name) (λ row. is_none row.parts) q.rows row_labels)
       by false = entries-are column is
 
   bounds-are : (set : Group (Bound Name)) → IsGroup (AreLawfulBounds q.columns) set → AllByRecursion IsCard (bound_cards set)
@@ -215,12 +240,16 @@ module _ (q : Problem Name) (lawful : IsLawful q) (name : IsName q.name) where
       text bound None e is = rw e refl
       text bound (Some number) e is = rw e (number-printable number is)
 
-      by : (items : List (Bound Name)) → AllByRecursion (λ (bound : Bound Name). has_group q.columns bound.column ≡ true) items → AllByRecursion (λ (bound : Bound Name). IfSome bound.value IsDecimal) items
+      by : (items : List (Bound Name)) → AllByRecursion (λ (bound : Bound Name). has_group q.columns bound.column ≡ true) items
+          → AllByRecursion (λ (bound : Bound Name). IfSome bound.value IsDecimal) items
           → AllByRecursion IsCard (map (λ (bound : Bound Name). data_card (bound_kind_text bound.kind) set.name bound.column (bound_text bound)) items)
       by [] there values = tt
       by (bound ∷ items) there values =
-          let label = label-of (group_names q.columns) bound.column lawful.columns.names (sym (has_group-names q.columns bound.column) ∙ there.0) in
-          (data-is (bound_kind_text bound.kind) set.name bound.column (bound_text bound) (bound-kind bound.kind) is.name.printable label.name_of.printable (text bound bound.value refl values.0), by items there.1 values.1)
+          let label = label-of (group_names q.columns) bound.column lawful.columns.names (sym (has_group-names q.columns bound.column) ∙ there.0) in (
+            data-is (bound_kind_text bound.kind) set.name bound.column (bound_text bound) (bound-kind bound.kind) is.name.printable label.name_of.printable
+                (text bound bound.value refl values.0),
+            by items there.1 values.1,
+          )
 
   cards-are : AllByRecursion IsCard (written q)
   unfolding written
@@ -241,15 +270,19 @@ module _ (q : Problem Name) (lawful : IsLawful q) (name : IsName q.name) where
                     (each-append IsCard (C ++ S1) S2
                     (each-append IsCard C S1
                     (cards-flat (IsGroup (AreLawfulEntries q.rows)) (column_cards q.rows) column-is q.columns
-                    (groups (AreLawfulEntries q.rows) q.columns (from-map IsName (λ (g : Group (Entry Name)). g.name) q.columns (each-change IsLabel IsName (λ n label. label.name_of) (group_names q.columns) lawful.columns.names))
+                    (groups (AreLawfulEntries q.rows) q.columns
+                    (from-map IsName (λ (g : Group (Entry Name)). g.name) q.columns
+                    (each-change IsLabel IsName (λ n label. label.name_of) (group_names q.columns) lawful.columns.names))
                     (each-change _ (λ (g : Group (Entry Name)). AreLawfulEntries q.rows g.items) (λ g is. is.entries_lawful) q.columns lawful.columns.items)))
                     (section-is (IsGroup (AreLawfulEntries q.rows)) (codes "RHS") entry_cards (record { printable = refl; trimmed = refl }) entries-are q.rhs
                     (groups (AreLawfulEntries q.rows) q.rhs (from-map IsName (λ (g : Group (Entry Name)). g.name) q.rhs lawful.rhs.names)
                     (each-change _ (λ (g : Group (Entry Name)). AreLawfulEntries q.rows g.items) (λ g is. is.entries_lawful) q.rhs lawful.rhs.items))))
-                    (section-is (IsGroup (AreLawfulEntries q.rows)) (codes "RANGES") entry_cards (record { printable = refl; trimmed = refl }) entries-are q.ranges
+                    (section-is (IsGroup (AreLawfulEntries q.rows)) (codes "RANGES") entry_cards
+                    (record { printable = refl; trimmed = refl }) entries-are q.ranges
                     (groups (AreLawfulEntries q.rows) q.ranges (from-map IsName (λ (g : Group (Entry Name)). g.name) q.ranges lawful.ranges.names)
                     (each-change _ (λ (g : Group (Entry Name)). AreLawfulEntries q.rows g.items) (λ g is. is.entries_lawful) q.ranges lawful.ranges.items))))
-                    (section-is (IsGroup (AreLawfulBounds q.columns)) (codes "BOUNDS") bound_cards (record { printable = refl; trimmed = refl }) bounds-are q.bounds
+                    (section-is (IsGroup (AreLawfulBounds q.columns)) (codes "BOUNDS") bound_cards
+                    (record { printable = refl; trimmed = refl }) bounds-are q.bounds
                     (groups (AreLawfulBounds q.columns) q.bounds (from-map IsName (λ (g : Group (Bound Name)). g.name) q.bounds lawful.bounds.names)
                     (each-change _ (λ (g : Group (Bound Name)). AreLawfulBounds q.columns g.items) (λ g is. is.bounds_lawful) q.bounds lawful.bounds.items))))
                     (record { printable = refl; trimmed = refl }, tt),

@@ -53,7 +53,8 @@ name_word nothing more = 78 ∷ 65 ∷ 77 ∷ 69 ∷ cond (nothing && true) [] (
 abbrev pub after_word : Name → List ℕ
 after_word name = codes "         " ++ name
 
-pub name_card-is : (name : Name) → name_card name ≡ name_word (is_empty (without_trailing is_blank (after_word name))) (without_trailing is_blank (after_word name))
+pub name_card-is : (name : Name) →
+    name_card name ≡ name_word (is_empty (without_trailing is_blank (after_word name))) (without_trailing is_blank (after_word name))
 name_card-is name =
     kept 78 (codes "AME          " ++ name) refl
     ∙ ap (λ w. 78 ∷ w) (kept 65 (codes "ME          " ++ name) refl
@@ -97,7 +98,8 @@ header-is name is = part_of_trimmed is_blank 14 8 (codes "NAME          " ++ nam
 -- ---- the sections
 
 -- a section that is there only where it has a set
-optional : {X : Type 0} (from : Option Section) (section : Section) (word : List ℕ) (cards : Group X → List (List ℕ)) (put : List (Group X) → Problem Name) (sets : List (Group X))
+optional : {X : Type 0} (from : Option Section) (section : Section) (word : List ℕ) (cards : Group X → List (List ℕ)) (put : List (Group X) → Problem Name)
+    (sets : List (Group X))
     → Accepts from (put []) (word ∷ []) (Some section) (put []) → Accepts (Some section) (put []) (flat_map cards sets) (Some section) (put sets)
     → Accepts from (put []) (set_section word cards sets) (cond (is_empty sets) from (Some section)) (put sets)
 optional from section word cards put [] opens body = accepts-none from (put [])
@@ -130,10 +132,13 @@ endata-follows true true true = refl
 endata-follows false true true = refl
 
 -- columns that each have an entry have a card for each
-column-cards : (rows : List (Row Name)) (groups : List (Group (Entry Name))) → AllByRecursion (λ (column : Group (Entry Name)). is_empty column.items ≡ false) groups → flat_map (column_cards rows) groups ≡ flat_map entry_cards groups
+column-cards : (rows : List (Row Name)) (groups : List (Group (Entry Name))) →
+    AllByRecursion (λ (column : Group (Entry Name)). is_empty column.items ≡ false) groups → flat_map (column_cards rows) groups ≡ flat_map entry_cards groups
 column-cards rows [] some = refl
 column-cards rows (column ∷ groups) some =
-    ap₂ (λ a b. a ++ b) (ap (λ b. cond b (map (λ (row : Row Name). data_card [] column.name row.name (codes "0")) (take 1 (filter (λ row. is_none row.parts) rows))) (entry_cards column)) some.0) (column-cards rows groups some.1)
+    ap₂ (λ a b. a ++ b)
+    (ap (λ b. cond b (map (λ (row : Row Name). data_card [] column.name row.name (codes "0")) (take 1 (filter (λ row. is_none row.parts) rows)))
+    (entry_cards column)) some.0) (column-cards rows groups some.1)
 
 module _ (q : Problem Name) (lawful : IsLawful q) (some : AllByRecursion (λ (column : Group (Entry Name)). is_empty column.items ≡ false) q.columns) where
   -- the problem with an empty name
@@ -142,20 +147,27 @@ module _ (q : Problem Name) (lawful : IsLawful q) (some : AllByRecursion (λ (co
 
   -- the cards from the columns on
   sections-accepted : Accepts (Some Columns) (record { name = []; rows = q.rows; columns = []; rhs = []; ranges = []; bounds = [] })
-      (flat_map (column_cards q.rows) q.columns ++ set_section (codes "RHS") entry_cards q.rhs ++ set_section (codes "RANGES") entry_cards q.ranges ++ set_section (codes "BOUNDS") bound_cards q.bounds ++ codes "ENDATA" ∷ [])
+      (flat_map (column_cards q.rows) q.columns ++ set_section (codes "RHS") entry_cards q.rhs ++ set_section
+      (codes "RANGES") entry_cards q.ranges ++ set_section (codes "BOUNDS") bound_cards q.bounds ++ codes "ENDATA" ∷ [])
       (Some Endata) unnamed
   sections-accepted =
       accepts-then (columns_text ++ rhs_text ++ ranges_text ++ bounds_text) (codes "ENDATA" ∷ [])
       (accepts-then (columns_text ++ rhs_text ++ ranges_text) bounds_text
       (accepts-then (columns_text ++ rhs_text) ranges_text
       (accepts-then columns_text rhs_text
-      (subst (λ texts. Accepts (Some Columns) (with_columns []) texts (Some Columns) (with_columns q.columns)) (sym (column-cards q.rows q.columns some)) (columns-accepted q.rows lawful.row_labels q.columns lawful.columns some lawful.few_columns lawful.few_entries))
-      (optional (Some Columns) Rhs (codes "RHS") entry_cards with_rhs q.rhs (accepts-section (Some Columns) Rhs (with_rhs []) (codes "RHS") refl refl refl refl refl) (rhs-accepted q.rows lawful.row_labels q.columns q.rhs lawful.rhs)))
-      (optional (after_rhs no_rhs) Ranges (codes "RANGES") entry_cards with_ranges q.ranges (accepts-section (after_rhs no_rhs) Ranges (with_ranges []) (codes "RANGES") refl refl refl refl (ranges-follow no_rhs))
+      (subst (λ texts. Accepts (Some Columns) (with_columns []) texts (Some Columns) (with_columns q.columns)) (sym (column-cards q.rows q.columns some))
+      (columns-accepted q.rows lawful.row_labels q.columns lawful.columns some lawful.few_columns lawful.few_entries))
+      (optional (Some Columns) Rhs (codes "RHS") entry_cards with_rhs q.rhs
+      (accepts-section (Some Columns) Rhs (with_rhs []) (codes "RHS") refl refl refl refl refl)
+      (rhs-accepted q.rows lawful.row_labels q.columns q.rhs lawful.rhs)))
+      (optional (after_rhs no_rhs) Ranges (codes "RANGES") entry_cards with_ranges q.ranges
+      (accepts-section (after_rhs no_rhs) Ranges (with_ranges []) (codes "RANGES") refl refl refl refl (ranges-follow no_rhs))
       (ranges-accepted q.rows lawful.row_labels q.columns q.rhs q.ranges lawful.ranges)))
-      (optional (after_ranges no_rhs no_ranges) Bounds (codes "BOUNDS") bound_cards with_bounds q.bounds (accepts-section (after_ranges no_rhs no_ranges) Bounds (with_bounds []) (codes "BOUNDS") refl refl refl refl (bounds-follow no_rhs no_ranges))
+      (optional (after_ranges no_rhs no_ranges) Bounds (codes "BOUNDS") bound_cards with_bounds q.bounds
+      (accepts-section (after_ranges no_rhs no_ranges) Bounds (with_bounds []) (codes "BOUNDS") refl refl refl refl (bounds-follow no_rhs no_ranges))
       (bounds-accepted q.rows q.columns q.rhs q.ranges lawful.columns.names q.bounds lawful.bounds)))
-      (accepts-section (after_bounds no_rhs no_ranges no_bounds) Endata unnamed (codes "ENDATA") refl refl refl refl (endata-follows no_rhs no_ranges no_bounds))
+      (accepts-section (after_bounds no_rhs no_ranges no_bounds) Endata unnamed (codes "ENDATA") refl refl refl refl
+      (endata-follows no_rhs no_ranges no_bounds))
     where
       columns_text : List (List ℕ)
       columns_text = flat_map (column_cards q.rows) q.columns
@@ -198,11 +210,16 @@ module _ (q : Problem Name) (lawful : IsLawful q) (some : AllByRecursion (λ (co
   unfolding written
   deck-accepted short =
       let with_rows : Problem Name = record { name = []; rows = q.rows; columns = []; rhs = []; ranges = []; bounds = [] } in
-      let after_columns : List (List ℕ) = flat_map (column_cards q.rows) q.columns ++ set_section (codes "RHS") entry_cards q.rhs ++ set_section (codes "RANGES") entry_cards q.ranges ++ set_section (codes "BOUNDS") bound_cards q.bounds ++ codes "ENDATA" ∷ [] in
+      let after_columns : List (List ℕ) =
+      flat_map (column_cards q.rows) q.columns ++ set_section (codes "RHS") entry_cards q.rhs ++ set_section
+      (codes "RANGES") entry_cards q.ranges ++ set_section (codes "BOUNDS") bound_cards q.bounds ++ codes "ENDATA" ∷ [] in
       accepts-then (name_card q.name ∷ []) (codes "ROWS" ∷ (flat_map row_cards q.rows ++ codes "COLUMNS" ∷ after_columns)) (name-accepted q.name nothing short)
-      (accepts-then (codes "ROWS" ∷ []) (flat_map row_cards q.rows ++ codes "COLUMNS" ∷ after_columns) (accepts-section (Some Header) Rows nothing (codes "ROWS") refl refl refl refl refl)
-      (accepts-then (flat_map row_cards q.rows) (codes "COLUMNS" ∷ after_columns) (rows-accepted [] [] [] [] [] q.rows lawful.parts lawful.row_labels lawful.rows_distinct lawful.few_rows)
-      (accepts-then (codes "COLUMNS" ∷ []) after_columns (accepts-section (Some Rows) Columns with_rows (codes "COLUMNS") refl refl refl refl refl) sections-accepted)))
+      (accepts-then (codes "ROWS" ∷ []) (flat_map row_cards q.rows ++ codes "COLUMNS" ∷ after_columns)
+      (accepts-section (Some Header) Rows nothing (codes "ROWS") refl refl refl refl refl)
+      (accepts-then (flat_map row_cards q.rows) (codes "COLUMNS" ∷ after_columns)
+      (rows-accepted [] [] [] [] [] q.rows lawful.parts lawful.row_labels lawful.rows_distinct lawful.few_rows)
+      (accepts-then (codes "COLUMNS" ∷ []) after_columns
+      (accepts-section (Some Rows) Columns with_rows (codes "COLUMNS") refl refl refl refl refl) sections-accepted)))
 
   start : Stands [] None nothing
   unfolding described
@@ -223,8 +240,11 @@ module _ (q : Problem Name) (lawful : IsLawful q) (some : AllByRecursion (λ (co
   converts n is =
       let deck = numbered_from n (written q) in
       let taken = deck-accepted is.short n [] start in
-      ap (λ cards. unless (first_fault (first_faulty card_fault [] cards ∷ (not (is_section_after Endata cards) ⟹ unended deck) ∷ [])) (numbered (described (deck_name cards) cards))) taken.alive
-      ∙ ap₂ (λ o p. unless o (numbered p)) (two (first_faulty card_fault [] deck) (is_section_after Endata deck) taken.fine (ap (λ at. unwrap_or (option_map (is_section Endata) at) false) taken.after.place_is))
+      ap (λ cards. unless (first_fault (first_faulty card_fault [] cards ∷ (not (is_section_after Endata cards) ⟹ unended deck) ∷ []))
+      (numbered (described (deck_name cards) cards))) taken.alive
+      ∙ ap₂ (λ o p. unless o (numbered p))
+      (two (first_faulty card_fault [] deck) (is_section_after Endata deck) taken.fine
+      (ap (λ at. unwrap_or (option_map (is_section Endata) at) false) taken.after.place_is))
       (ap (λ name. described name deck) (named n is) ∙ renamed q.name deck taken.after.seen_is)
     where
       unended : List Card → DeckFault
@@ -236,7 +256,8 @@ module _ (q : Problem Name) (lawful : IsLawful q) (some : AllByRecursion (λ (co
       two None false eo eb = absurd (cc eb)
 
 -- columns that each have an entry have one by names too
-entries-named : {X Y : Type 0} (h : X → Y) (groups : List (Group X)) → AllByRecursion (λ (group : Group X). is_empty group.items ≡ false) groups → AllByRecursion (λ (group : Group Y). is_empty group.items ≡ false) (map (group_by h) groups)
+entries-named : {X Y : Type 0} (h : X → Y) (groups : List (Group X)) → AllByRecursion (λ (group : Group X). is_empty group.items ≡ false) groups →
+    AllByRecursion (λ (group : Group Y). is_empty group.items ≡ false) (map (group_by h) groups)
 entries-named h [] each = tt
 entries-named h (group ∷ groups) each = (some group.items each.0, entries-named h groups each.1)
   where
@@ -250,5 +271,6 @@ pub converts-back : (problem : Problem ℕ) (first : ℕ) → IsProblem problem 
 unfolding by_names
 converts-back problem first is some =
     converts (by_names problem) (named-lawful problem is)
-    (entries-named (entry_by (name_at (row_names problem))) problem.columns (all-each (λ (column : Group (Entry ℕ)). is_empty column.items ≡ false) problem.columns some)) first is.name
+    (entries-named (entry_by (name_at (row_names problem))) problem.columns
+    (all-each (λ (column : Group (Entry ℕ)). is_empty column.items ≡ false) problem.columns some)) first is.name
     ∙ ap Ok (numbered-by_names problem is)

@@ -17,9 +17,12 @@ use Rattle.basis_deck_definitions.specs.Writing.{basis_deck}
 use Rattle.basis_deck_definitions.specs.Dependencies.{IsDependency}
 
 pub record BasisDeckLaws : Type 0 where
-  pub lawful : (problem : Problem ℕ) (lp : LinearProgram) (deck : List Card) (s : List Status) → HasNames problem lp → basis_reading problem lp deck ≡ Ok s → IsBasis lp s
-  pub gives_back : (problem : Problem ℕ) (lp : LinearProgram) (s : List Status) (first : ℕ) → IsProblem problem → HasNames problem lp → IsBasis lp s → basis_reading problem lp (numbered_from first (basis_deck problem lp s)) ≡ Ok s
-  pub reads_back : (problem : Problem ℕ) (lp : LinearProgram) (s : List Status) → IsProblem problem → HasNames problem lp → cards_of (card_text (basis_deck problem lp s)) ≡ basis_deck problem lp s
+  pub lawful : (problem : Problem ℕ) (lp : LinearProgram) (deck : List Card) (s : List Status) → HasNames problem lp → basis_reading problem lp deck ≡ Ok s →
+      IsBasis lp s
+  pub gives_back : (problem : Problem ℕ) (lp : LinearProgram) (s : List Status) (first : ℕ) → IsProblem problem → HasNames problem lp → IsBasis lp s →
+      basis_reading problem lp (numbered_from first (basis_deck problem lp s)) ≡ Ok s
+  pub reads_back : (problem : Problem ℕ) (lp : LinearProgram) (s : List Status) → IsProblem problem → HasNames problem lp →
+      cards_of (card_text (basis_deck problem lp s)) ≡ basis_deck problem lp s
   pub one_deck : (problem : Problem ℕ) (lp : LinearProgram) (s : List Status) (first : ℕ) → IsProblem problem →
       let cards = numbered_from first (basis_deck problem lp s) in
       (decks_of cards ≡ cards ∷ []) × (name_of_deck cards ≡ Some problem.name)

@@ -18,7 +18,8 @@ same_matrix : (p : LinearProgram) (o : Option Change) (theta : ℚ) → (program
 same_matrix p None theta = refl
 same_matrix p (Some c) theta = refl
 
-shows_covered : (statement : SolvingStatement) (Goes : Status → Type 0) (around wider : List Basics) (s : List Status) (w : Basics) (e : Evidence) → Covers (program_at statement e.theta).matrix around wider
+shows_covered : (statement : SolvingStatement) (Goes : Status → Type 0) (around wider : List Basics) (s : List Status) (w : Basics) (e : Evidence)
+    → Covers (program_at statement e.theta).matrix around wider
     → ShowsRefusal statement Goes around s w e → ShowsRefusal statement Goes wider s w e
 shows_covered statement Goes around wider s w e cover h = record {
   tableau = h.tableau;
@@ -31,16 +32,22 @@ shows_covered statement Goes around wider s w e cover h = record {
   no_way = h.no_way;
 }
 
-pub stops_covered : (Goes : Status → Type 0) (p : LinearProgram) (around wider : List Basics) (s : List Status) (after : List Basics) (e : Evidence) → Covers p.matrix around wider → StopsAt Goes p around s after e → StopsAt Goes p wider s after e
+pub stops_covered : (Goes : Status → Type 0) (p : LinearProgram) (around wider : List Basics) (s : List Status) (after : List Basics) (e : Evidence) →
+    Covers p.matrix around wider → StopsAt Goes p around s after e → StopsAt Goes p wider s after e
 stops_covered Goes p around wider s after e cover h = record {
   is_way = h.is_way;
   is_theta = h.is_theta;
-  shows = shows_covered (job_of p p.change) Goes around wider s (waypoint (basics_of s) after e.way) e (subst (λ (a : Matrix). Covers a around wider) (sym (same_matrix p p.change e.theta)) cover) h.shows;
+  shows =
+      shows_covered (job_of p p.change) Goes around wider s (waypoint (basics_of s) after e.way) e
+      (subst (λ (a : Matrix). Covers a around wider) (sym (same_matrix p p.change e.theta)) cover) h.shows;
 }
 
 -- a call that comes after others at the same basis
-pub point_refused_later : (p : LinearProgram) (before mid after : List Basics) (s : List Status) (e : Evidence) → KeepsWaypoints p.matrix (basics_of s) before (basics_of s) mid → PointRefused p mid s after e → PointRefused p before s after e
+pub point_refused_later : (p : LinearProgram) (before mid after : List Basics) (s : List Status) (e : Evidence) →
+    KeepsWaypoints p.matrix (basics_of s) before (basics_of s) mid → PointRefused p mid s after e → PointRefused p before s after e
 point_refused_later p before mid after s e keeps h = record {
   of_call = h.of_call;
-  stops = stops_covered (λ to. ⊥) p (basics_of s ∷ mid) (basics_of s ∷ before) s after e (inl (within_itself p.matrix (basics_of s)), kept_within p.matrix (basics_of s) before mid keeps) h.stops;
+  stops =
+      stops_covered (λ to. ⊥) p (basics_of s ∷ mid) (basics_of s ∷ before) s after e
+      (inl (within_itself p.matrix (basics_of s)), kept_within p.matrix (basics_of s) before mid keeps) h.stops;
 }

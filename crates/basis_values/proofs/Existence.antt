@@ -54,7 +54,8 @@ a_missing (true ∷ bs) (false ∷ ws) same some = (0, record { below = omega ar
 a_missing (false ∷ bs) (true ∷ ws) same some = shifted false true bs ws (a_missing bs ws (omega (arith, same)) some)
 a_missing (false ∷ bs) (false ∷ ws) same some = shifted false false bs ws (a_missing bs ws (omega (arith, same)) some)
 
-missing-set_true : (bs ws : List Bool) (i : ℕ) → i < length ws → get_or bs i false ≡ true → get_or ws i false ≡ false → suc (missing bs (set ws i true)) ≡ missing bs ws
+missing-set_true : (bs ws : List Bool) (i : ℕ) → i < length ws → get_or bs i false ≡ true → get_or ws i false ≡ false →
+    suc (missing bs (set ws i true)) ≡ missing bs ws
 missing-set_true [] ws i below first second = absurd (clash (sym first))
 missing-set_true (b ∷ bs) [] i below first second = absurd (omega arith)
 missing-set_true (b ∷ bs) (w ∷ ws) zero below first second = rw (first, second) refl
@@ -105,9 +106,11 @@ module _ (a : Matrix) (b : Basics) (one : IsNonsingular a b) where
           at (inl same) = ap d same.1 ∙ here (ap (is_in w) (sym same.1) ∙ leaves) (ap (is_in b) (sym same.1) ∙ unwanted)
           at (inr other) = let apart = other.1 in before p low (omega (arith, high, apart)) leaves unwanted
 
-      by_value : NoPivot w d n → is_in w (suc n) ≡ true → is_in b (suc n) ≡ false → ((d (suc n) ≡ zero_ℚ) ⊎ (d (suc n) ≢ zero_ℚ)) → ((p : ℕ) × IsPivot w d (suc n) p) ⊎ NoPivot w d (suc n)
+      by_value : NoPivot w d n → is_in w (suc n) ≡ true → is_in b (suc n) ≡ false → ((d (suc n) ≡ zero_ℚ) ⊎ (d (suc n) ≢ zero_ℚ)) →
+          ((p : ℕ) × IsPivot w d (suc n) p) ⊎ NoPivot w d (suc n)
       by_value before leaves unwanted (inl vanishes) = inr (none before (λ e f. vanishes))
-      by_value before leaves unwanted (inr rate) = inl (suc n, record { low = omega arith; high = omega arith; leaves = leaves; unwanted = unwanted; pivot = rate })
+      by_value before leaves unwanted (inr rate) =
+          inl (suc n, record { low = omega arith; high = omega arith; leaves = leaves; unwanted = unwanted; pivot = rate })
 
       by_marks : NoPivot w d n → (x y : Bool) → is_in w (suc n) ≡ x → is_in b (suc n) ≡ y → ((p : ℕ) × IsPivot w d (suc n) p) ⊎ NoPivot w d (suc n)
       by_marks before true false is_w is_b = by_value before is_w is_b (zero_or_not (d (suc n)))
@@ -142,26 +145,32 @@ module _ (a : Matrix) (b : Basics) (one : IsNonsingular a b) where
         are_rates = AreRates-exchanged a w h.nonsingular.counted h.rate h.are_rates p (suc i) p_is q_is found.pivot;
       }
 
-  fewer : (w : Basics) (n i : ℕ) → IsNonsingular a w → missing b w ≡ suc n → IsMissing b w i → (p : ℕ) → is_in b p ≡ false → missing b (exchanged w p (suc i)) ≡ n
+  fewer : (w : Basics) (n i : ℕ) → IsNonsingular a w → missing b w ≡ suc n → IsMissing b w i → (p : ℕ) → is_in b p ≡ false →
+      missing b (exchanged w p (suc i)) ≡ n
   fewer w n i nonsingular more lacks p unwanted =
       let first = missing-set_true b w i (omega (arith, lacks.below, one.counted, nonsingular.counted)) lacks.first lacks.second in
       let second = missing-set_false b (set w i true) (p - 1) unwanted in
       let place : suc i - 1 ≡ i = omega arith in
-      let same : missing b (exchanged w p (suc i)) ≡ missing b (set (set w i true) (p - 1) false) = ap (λ j. missing b (set (set w j true) (p - 1) false)) place in
+      let same : missing b (exchanged w p (suc i)) ≡ missing b (set (set w i true) (p - 1) false) =
+      ap (λ j. missing b (set (set w j true) (p - 1) false)) place in
       omega (arith, first, second, same, more)
 
   walk : (n : ℕ) (w : Basics) → Stands w → missing b w ≡ n → Found
   walk zero w h none =
-      let same : w ≡ b = same_marks b w (one.counted ∙ sym h.nonsingular.counted) none (marked_is w ∙ h.nonsingular.m_basics ∙ sym one.m_basics ∙ sym (marked_is b)) in
+      let same : w ≡ b =
+      same_marks b w (one.counted ∙ sym h.nonsingular.counted) none (marked_is w ∙ h.nonsingular.m_basics ∙ sym one.m_basics ∙ sym (marked_is b)) in
       subst (λ (x : Basics). (rate : ℕ → ℕ → ℚ) × AreRates a x rate) same (h.rate, h.are_rates)
   walk (suc n) w h more =
       let lacks = a_missing b w (one.counted ∙ sym h.nonsingular.counted) (omega (arith, more)) in
       let q_is : IsNonbasic a w (suc lacks.0) = ((omega arith, omega (arith, lacks.1.below, one.counted)), at_next w lacks.0 false lacks.1.second) in
       let out = elim (find_pivot w (λ k. h.rate k (suc lacks.0)) (size a)) as (λ _. (p : ℕ) × IsPivot w (λ k. h.rate k (suc lacks.0)) (size a) p) [
         | inl found ↦ found
-        | inr none ↦ absurd (no_pivot w (suc lacks.0) (λ k. h.rate k (suc lacks.0)) (h.are_rates (suc lacks.0) q_is) q_is.0 (at_next b lacks.0 true lacks.1.first) none)
+        | inr none ↦ absurd
+            (no_pivot w (suc lacks.0) (λ k. h.rate k (suc lacks.0)) (h.are_rates (suc lacks.0) q_is) q_is.0 (at_next b lacks.0 true lacks.1.first) none)
       ] in
       walk n (exchanged w out.0 (suc lacks.0)) (exchange_in w h lacks.0 lacks.1 out.0 out.1) (fewer w n lacks.0 h.nonsingular more lacks.1 out.0 out.1.unwanted)
 
   pub rates_exist : Found
-  rates_exist = walk (missing b (row_basics a)) (row_basics a) (record { nonsingular = IsNonsingular-row_basics a; rate = opening_rate a; are_rates = AreRates-opening a }) refl
+  rates_exist =
+      walk (missing b (row_basics a)) (row_basics a)
+      (record { nonsingular = IsNonsingular-row_basics a; rate = opening_rate a; are_rates = AreRates-opening a }) refl

@@ -13,7 +13,8 @@ pub kept_same : {a : Matrix} {b : Basics} {p : LinearProgram} {s : List Status} 
 kept_same {a} {b} {p} {s} ways has = (has, keeps_same p.matrix (basics_of s) ways)
 
 -- a call of the rates
-pub kept_by : {a c : Matrix} {b d : Basics} {p : LinearProgram} {s : List Status} {before after : List Basics} → HasRates a b p s → c ≡ a → d ≡ b → KeepsWaypoints a b before d after → KeepsRates c d p s before after
+pub kept_by : {a c : Matrix} {b d : Basics} {p : LinearProgram} {s : List Status} {before after : List Basics} → HasRates a b p s → c ≡ a → d ≡ b →
+    KeepsWaypoints a b before d after → KeepsRates c d p s before after
 kept_by {a} {c} {b} {d} {p} {s} {before} {after} has same_matrix same_basics keeps = (
   record {
     is_basis = has.is_basis;
@@ -25,6 +26,7 @@ kept_by {a} {c} {b} {d} {p} {s} {before} {after} has same_matrix same_basics kee
 )
 
 -- a call after others
-pub kept_then : {a c : Matrix} {b d : Basics} {p : LinearProgram} {s : List Status} {before mid after : List Basics} → KeepsRates a b p s before mid → KeepsRates c d p s mid after → KeepsRates c d p s before after
+pub kept_then : {a c : Matrix} {b d : Basics} {p : LinearProgram} {s : List Status} {before mid after : List Basics} → KeepsRates a b p s before mid →
+    KeepsRates c d p s mid after → KeepsRates c d p s before after
 kept_then {a} {c} {b} {d} {p} {s} {before} {mid} {after} first second =
     (second.0, keeps_then p.matrix (basics_of s) before (basics_of s) mid after first.1 second.1)

@@ -30,11 +30,14 @@ none_ahead p k v e = subst (λ (x : ℚ). limit_ahead p (λ _. x) k ≡ None) (s
     at_rest : lt_ℚ zero_ℚ zero_ℚ ≡ false
     at_rest = by_test (lt_ℚ zero_ℚ zero_ℚ) refl
 
-pub ahead_up : (p : LinearProgram) (k : ℕ) (v l : ℚ) → lt_ℚ zero_ℚ v ≡ true → upper_of p k ≡ Some l → IsAhead p (λ _. v) k (Some (record { term = 2; limit = l }))
+pub ahead_up : (p : LinearProgram) (k : ℕ) (v l : ℚ) → lt_ℚ zero_ℚ v ≡ true → upper_of p k ≡ Some l →
+    IsAhead p (λ _. v) k (Some (record { term = 2; limit = l }))
 ahead_up p k v l up is = (rw up is, is, omega arith, λ e. lt_irrefl (lt_from_test zero_ℚ zero_ℚ (subst (λ (x : ℚ). lt_ℚ zero_ℚ x ≡ true) e up)))
 
-pub ahead_down : (p : LinearProgram) (k : ℕ) (v l : ℚ) → lt_ℚ zero_ℚ v ≡ false → lt_ℚ v zero_ℚ ≡ true → lower_of p k ≡ Some l → IsAhead p (λ _. v) k (Some (record { term = 1; limit = l }))
-ahead_down p k v l not_up down is = (rw (not_up, down) is, is, omega arith, λ e. lt_irrefl (lt_from_test zero_ℚ zero_ℚ (subst (λ (x : ℚ). lt_ℚ x zero_ℚ ≡ true) e down)))
+pub ahead_down : (p : LinearProgram) (k : ℕ) (v l : ℚ) → lt_ℚ zero_ℚ v ≡ false → lt_ℚ v zero_ℚ ≡ true → lower_of p k ≡ Some l →
+    IsAhead p (λ _. v) k (Some (record { term = 1; limit = l }))
+ahead_down p k v l not_up down is =
+    (rw (not_up, down) is, is, omega arith, λ e. lt_irrefl (lt_from_test zero_ℚ zero_ℚ (subst (λ (x : ℚ). lt_ℚ x zero_ℚ ≡ true) e down)))
 
 pub ahead_at : (p : LinearProgram) (v : Vector) (k : ℕ) (speed : ℚ) (o : Option Ahead) → speed ≡ v k → IsAhead p (λ _. speed) k o → IsAhead p v k o
 ahead_at p v k speed None e h = subst (λ (x : ℚ). limit_ahead p (λ _. x) k ≡ None) e h
@@ -55,7 +58,8 @@ pub signed_over : (up : Bool) (x d : ℚ) → d ≢ zero_ℚ → signed up (x /�
 signed_over true x d some = refl
 signed_over false x d some = over_opposite x d some
 
-pub length_found : (p : LinearProgram) (z d : Vector) (up : Bool) (k : ℕ) (l change : ℚ) → limit_ahead p (motion d up) k ≡ Some l → d k ≢ zero_ℚ → change ≡ (l -ℚ z k) /ℚ d k → Some (signed up change) ≡ step_length p z (motion d up) k
+pub length_found : (p : LinearProgram) (z d : Vector) (up : Bool) (k : ℕ) (l change : ℚ) → limit_ahead p (motion d up) k ≡ Some l → d k ≢ zero_ℚ →
+    change ≡ (l -ℚ z k) /ℚ d k → Some (signed up change) ≡ step_length p z (motion d up) k
 length_found p z d up k l change ahead moves is =
     ap (λ x. Some (signed up x)) is ∙ ap Some (signed_over up (l -ℚ z k) (d k) moves) ∙ sym (ap (option_map (λ l. (l -ℚ z k) /ℚ motion d up k)) ahead)
 
@@ -64,7 +68,8 @@ no_length p z v k e = sym (ap (option_map (λ l. (l -ℚ z k) /ℚ v k)) e)
 
 -- ---- what is refused
 
-module _ (p : LinearProgram) (z d : Vector) (up : Bool) (q k : ℕ) (a : Ahead) (speed rate value : ℚ) (rate_is : rate ≡ d k) (speed_is : speed ≡ signed up rate) (ahead : IsAhead p (λ _. speed) k (Some a)) (value_is : value ≡ z k) where
+module _ (p : LinearProgram) (z d : Vector) (up : Bool) (q k : ℕ) (a : Ahead) (speed rate value : ℚ) (rate_is : rate ≡ d k) (speed_is : speed ≡ signed up rate)
+    (ahead : IsAhead p (λ _. speed) k (Some a)) (value_is : value ≡ z k) where
   there : IsAhead p (motion d up) k (Some a)
   there = ahead_at p (motion d up) k speed (Some a) (speed_is ∙ ap (signed up) rate_is) ahead
 
@@ -76,20 +81,25 @@ module _ (p : LinearProgram) (z d : Vector) (up : Bool) (q k : ℕ) (a : Ahead) 
       of_distance a.term a.limit there.2 there.0 there.1
       (subst (λ (x : ℚ). IsRefusal (reach_formula 6 0 k a.term) Sub a.limit x e) value_is (subst (λ (g : Formula). IsRefusal g Sub a.limit value e) is h))
 
-  pub change_refused : (f : Formula) (e : Evidence) (distance : ℚ) → distance ≡ a.limit -ℚ value → f ≡ reach_formula 7 q k a.term → IsRefusal f Div distance rate e → rate ≢ one_ℚ → StepLengthRefused p z d up q k e
+  pub change_refused : (f : Formula) (e : Evidence) (distance : ℚ) → distance ≡ a.limit -ℚ value → f ≡ reach_formula 7 q k a.term →
+      IsRefusal f Div distance rate e → rate ≢ one_ℚ → StepLengthRefused p z d up q k e
   change_refused f e distance far is h other =
       of_quotient a.term a.limit there.0 there.1 (λ vanishes. moves (rate_is ∙ vanishes)) (λ own. other (rate_is ∙ own))
       (subst (λ (x : ℚ). IsRefusal (reach_formula 7 q k a.term) Div (a.limit -ℚ z k) x e) rate_is
-      (subst (λ (x : ℚ). IsRefusal (reach_formula 7 q k a.term) Div x rate e) (far ∙ ap (λ v. a.limit -ℚ v) value_is) (subst (λ (g : Formula). IsRefusal g Div distance rate e) is h)))
+      (subst (λ (x : ℚ). IsRefusal (reach_formula 7 q k a.term) Div x rate e) (far ∙ ap (λ v. a.limit -ℚ v) value_is)
+      (subst (λ (g : Formula). IsRefusal g Div distance rate e) is h)))
 
-  pub length_is : (distance change length : ℚ) → distance ≡ a.limit -ℚ value → change ≡ distance /ℚ rate → length ≡ signed up change → Some length ≡ step_length p z (motion d up) k
+  pub length_is : (distance change length : ℚ) → distance ≡ a.limit -ℚ value → change ≡ distance /ℚ rate → length ≡ signed up change →
+      Some length ≡ step_length p z (motion d up) k
   length_is distance change length far is counted =
       ap Some counted
-      ∙ length_found p z d up k a.limit change there.0 (λ vanishes. moves (rate_is ∙ vanishes)) (is ∙ ap₂ (λ x y. x /ℚ y) (far ∙ ap (λ v. a.limit -ℚ v) value_is) rate_is)
+      ∙ length_found p z d up k a.limit change there.0 (λ vanishes. moves (rate_is ∙ vanishes))
+      (is ∙ ap₂ (λ x y. x /ℚ y) (far ∙ ap (λ v. a.limit -ℚ v) value_is) rate_is)
 
 -- ---- the search goes on
 
-pub nearest_more : (f : ℕ → Option ℚ) (n : ℕ) (nearest next : Option Reach) (length : Option ℚ) → IsNearest f n nearest → length ≡ f (n + 1) → next ≡ sooner nearest length (n + 1) → IsNearest f (n + 1) next
+pub nearest_more : (f : ℕ → Option ℚ) (n : ℕ) (nearest next : Option Reach) (length : Option ℚ) → IsNearest f n nearest → length ≡ f (n + 1) →
+    next ≡ sooner nearest length (n + 1) → IsNearest f (n + 1) next
 nearest_more f n nearest next length h is found =
     subst (λ (r : Option Reach). IsNearest f (n + 1) r) (sym (found ∙ ap (λ o. sooner nearest o (n + 1)) is))
     (subst (λ (m : ℕ). IsNearest f m (sooner nearest (f m) m)) (sym (add-one n)) (next_nearest f n nearest h))

@@ -42,7 +42,8 @@ module _ (f : ℕ → Option ℚ) (n : ℕ) where
   }
 
   -- a value below the least
-  below_first : (r : Reach) (l : ℚ) → IsFirst f n r → l <ℚ r.length → (i : ℕ) → 1 ≤ i → i ≤ n → (o : Option ℚ) → f i ≡ o → (is_no_later (Some l) o ≡ true) × (is_no_later o (Some l) ≡ false)
+  below_first : (r : Reach) (l : ℚ) → IsFirst f n r → l <ℚ r.length → (i : ℕ) → 1 ≤ i → i ≤ n → (o : Option ℚ) → f i ≡ o →
+      (is_no_later (Some l) o ≡ true) × (is_no_later o (Some l) ≡ false)
   below_first r l h less i low high None is = (refl, refl)
   below_first r l h less i low high (Some x) is =
       let at_most : r.length ≤ℚ x = le_from_test r.length x (rw (h.reaches, is) at (h.first i low high)) in
@@ -55,7 +56,9 @@ module _ (f : ℕ → Option ℚ) (n : ℕ) where
     low = omega arith;
     high = omega arith;
     reaches = is;
-    first = up_to (λ i. is_no_later (f (suc n)) (f i) ≡ true) n (λ i low high. rw is (below_first r l h less i low high (f i) refl).0) (rw is (test_from_le l l (le_refl l)));
+    first =
+        up_to (λ i. is_no_later (f (suc n)) (f i) ≡ true) n (λ i low high. rw is (below_first r l h less i low high (f i) refl).0)
+        (rw is (test_from_le l l (le_refl l)));
     later = λ j low below. rw is (below_first r l h less j low (omega (arith, below)) (f j) refl).1;
   }
 

@@ -37,7 +37,8 @@ turned_place false z l v = by_ring3 z l v (λ z l v. opposite (z ⊕ l ⊗ v) �
 turned_quotient : (rises : Bool) (a b v : ℚ) → v ≢ zero_ℚ → zero_ℚ <ℚ signed rises v → (a -ℚ b) /ℚ v ≡ (signed rises a -ℚ signed rises b) /ℚ signed rises v
 turned_quotient true a b v moves up = refl
 turned_quotient false a b v moves up =
-    same_quotients (a -ℚ b) v (neg_ℚ a -ℚ neg_ℚ b) (neg_ℚ v) moves (apart_from_above up) (by_ring3 a b v (λ a b v. (a ⊖ b) ⊗ opposite v ≐ (opposite a ⊖ opposite b) ⊗ v) refl)
+    same_quotients (a -ℚ b) v (neg_ℚ a -ℚ neg_ℚ b) (neg_ℚ v) moves (apart_from_above up)
+    (by_ring3 a b v (λ a b v. (a ⊖ b) ⊗ opposite v ≐ (opposite a ⊖ opposite b) ⊗ v) refl)
 
 -- what moves upward and hasn't passed the limit takes at least so long to reach it
 no_sooner : (z limit v l : ℚ) → zero_ℚ <ℚ v → z +ℚ l *ℚ v ≤ℚ limit → l ≤ℚ (limit -ℚ z) /ℚ v
@@ -50,17 +51,20 @@ later z limit v l up h = lt_of_not-le reached
     reached : (limit -ℚ z) /ℚ v ≤ℚ l → ⊥
     reached e =
         let distance : v *ℚ ((limit -ℚ z) /ℚ v) ≡ limit -ℚ z = mul_comm v ((limit -ℚ z) /ℚ v) ∙ div-mul_cancel (limit -ℚ z) v (apart_from_above up) in
-        lt_not_le h (le_by_one (subst (λ x. x ≤ℚ v *ℚ l) distance (mul-le-mul_left (le_of_lt up) e)) (by_ring4 z limit v l (λ z a v l. z ⊕ l ⊗ v ≐ a ⊕ (v ⊗ l ⊖ (a ⊖ z))) refl))
+        lt_not_le h (le_by_one (subst (λ x. x ≤ℚ v *ℚ l) distance (mul-le-mul_left (le_of_lt up) e))
+        (by_ring4 z limit v l (λ z a v l. z ⊕ l ⊗ v ≐ a ⊕ (v ⊗ l ⊖ (a ⊖ z))) refl))
 
 module _ (p : LinearProgram) (z d : Vector) (up : Bool) (k : ℕ) (r : Reach) (speed : ℚ) (speed_is : speed ≡ motion d up k) where
-  by_step_length : (o : Option ℚ) → step_length p z (motion d up) k ≡ o → is_no_later (Some r.length) o ≡ true → (k < r.p → is_no_later o (Some r.length) ≡ false) → Yields (step_length p z (motion d up)) r k
+  by_step_length : (o : Option ℚ) → step_length p z (motion d up) k ≡ o → is_no_later (Some r.length) o ≡ true →
+      (k < r.p → is_no_later o (Some r.length) ≡ false) → Yields (step_length p z (motion d up)) r k
   by_step_length o is first second = (ap (is_no_later (Some r.length)) is ∙ first, λ below. ap (λ x. is_no_later x (Some r.length)) is ∙ second below)
 
   -- what has no limit ahead
   pub none_yields : IsAhead p (λ _. speed) k None → Yields (step_length p z (motion d up)) r k
   none_yields h = by_step_length None (sym (no_length p z (motion d up) k (ahead_at p (motion d up) k speed None speed_is h))) refl (λ _. refl)
 
-  module _ (a : Ahead) (value place : ℚ) (rises : Bool) (ahead : IsAhead p (λ _. speed) k (Some a)) (value_is : value ≡ z k) (place_is : place ≡ value +ℚ r.length *ℚ speed) (rises_is : rises ≡ lt_ℚ zero_ℚ speed) where
+  module _ (a : Ahead) (value place : ℚ) (rises : Bool) (ahead : IsAhead p (λ _. speed) k (Some a)) (value_is : value ≡ z k)
+      (place_is : place ≡ value +ℚ r.length *ℚ speed) (rises_is : rises ≡ lt_ℚ zero_ℚ speed) where
     toward : zero_ℚ <ℚ signed rises speed
     toward = subst (λ (b : Bool). zero_ℚ <ℚ signed b speed) (sym rises_is) (forward speed ahead.3)
 
@@ -76,19 +80,25 @@ module _ (p : LinearProgram) (z d : Vector) (up : Bool) (k : ℕ) (r : Reach) (s
     -- it hasn't reached the limit
     pub before_yields : (b : Bool) → b ≡ lt_ℚ (signed rises place) (signed rises a.limit) → IsTrue b → Yields (step_length p z (motion d up)) r k
     before_yields b is holds =
-        let less = later (signed rises value) (signed rises a.limit) (signed rises speed) r.length toward (subst (λ x. x <ℚ signed rises a.limit) stands (lt_from_test (signed rises place) (signed rises a.limit) (sym is ∙ holds))) in
+        let less =
+        later (signed rises value) (signed rises a.limit) (signed rises speed) r.length toward
+        (subst (λ x. x <ℚ signed rises a.limit) stands (lt_from_test (signed rises place) (signed rises a.limit) (sym is ∙ holds))) in
         by_step_length _ found (test_from_le _ _ (le_of_lt less)) (λ _. le_fails_from_lt _ _ less)
 
     -- it hasn't passed the limit, and its number is not the smaller one
-    pub within_yields : r.p ≤ k → (b : Bool) → b ≡ lt_ℚ (signed rises a.limit) (signed rises place) → IsTrue (not b) → Yields (step_length p z (motion d up)) r k
+    pub within_yields : r.p ≤ k → (b : Bool) → b ≡ lt_ℚ (signed rises a.limit) (signed rises place) → IsTrue (not b) →
+        Yields (step_length p z (motion d up)) r k
     within_yields not_smaller b is holds =
-        let least = no_sooner (signed rises value) (signed rises a.limit) (signed rises speed) r.length toward (subst (λ x. x ≤ℚ signed rises a.limit) stands (le_from_lt_fails (signed rises a.limit) (signed rises place) (sym is ∙ fails b holds))) in
+        let least =
+        no_sooner (signed rises value) (signed rises a.limit) (signed rises speed) r.length toward
+        (subst (λ x. x ≤ℚ signed rises a.limit) stands (le_from_lt_fails (signed rises a.limit) (signed rises place) (sym is ∙ fails b holds))) in
         by_step_length _ found (test_from_le _ _ least) (λ below. absurd (omega (arith, not_smaller, below)))
 
 -- ---- what all others yield to is the first
 
 module _ (f : ℕ → Option ℚ) (n : ℕ) where
-  pub sooner_reaches : (k : ℕ) (nearest : Option Reach) (length : Option ℚ) → 1 ≤ k → k ≤ n → length ≡ f k → IfSome nearest (Reaches f n) → IfSome (sooner nearest length k) (Reaches f n)
+  pub sooner_reaches : (k : ℕ) (nearest : Option Reach) (length : Option ℚ) → 1 ≤ k → k ≤ n → length ≡ f k → IfSome nearest (Reaches f n) →
+      IfSome (sooner nearest length k) (Reaches f n)
   sooner_reaches k None None low high is h = tt
   sooner_reaches k (Some r) None low high is h = h
   sooner_reaches k None (Some l) low high is h = (low, high, sym is)

@@ -44,7 +44,8 @@ pub filter-append : (test : ℕ → Bool) (xs ys : List ℕ) → filter test (xs
 filter-append test [] ys = refl
 filter-append test (x ∷ xs) ys = by_test (test x) refl (filter-append test xs ys)
   where
-    by_test : (m : Bool) → test x ≡ m → filter test (xs ++ ys) ≡ filter test xs ++ filter test ys → filter test ((x ∷ xs) ++ ys) ≡ filter test (x ∷ xs) ++ filter test ys
+    by_test : (m : Bool) → test x ≡ m → filter test (xs ++ ys) ≡ filter test xs ++ filter test ys →
+        filter test ((x ∷ xs) ++ ys) ≡ filter test (x ∷ xs) ++ filter test ys
     by_test true is rest = rw is (ap (λ zs. x ∷ zs) rest)
     by_test false is rest = rw is rest
 
@@ -95,11 +96,13 @@ module _ (b : Basics) where
   sum_at_ordered f zero = refl
   sum_at_ordered f (suc n) = by_mark (is_in b (suc n)) refl (sum_at_ordered f n)
     where
-      by_mark : (m : Bool) → is_in b (suc n) ≡ m → sum_at b f n ≡ sum_from zero_ℚ (map f (nonbasics_to b n)) → with_term m (sum_at b f n) (f (suc n)) ≡ sum_from zero_ℚ (map f (nonbasics_to b (suc n)))
+      by_mark : (m : Bool) → is_in b (suc n) ≡ m → sum_at b f n ≡ sum_from zero_ℚ (map f (nonbasics_to b n)) →
+          with_term m (sum_at b f n) (f (suc n)) ≡ sum_from zero_ℚ (map f (nonbasics_to b (suc n)))
       by_mark true is so_far = so_far ∙ sym (ap (λ xs. sum_from zero_ℚ (map f xs)) (nonbasics_to-basic n is))
       by_mark false is so_far =
           ap (λ s. s +ℚ f (suc n)) so_far
-          ∙ sym (ap (λ xs. sum_from zero_ℚ (map f xs)) (nonbasics_to-nonbasic n is) ∙ ap (sum_from zero_ℚ) (map-end f (nonbasics_to b n) (suc n)) ∙ sum_from-end (map f (nonbasics_to b n)) zero_ℚ (f (suc n)))
+          ∙ sym (ap (λ xs. sum_from zero_ℚ (map f xs)) (nonbasics_to-nonbasic n is) ∙ ap (sum_from zero_ℚ) (map-end f (nonbasics_to b n) (suc n))
+          ∙ sum_from-end (map f (nonbasics_to b n)) zero_ℚ (f (suc n)))
 
   pub sum_at-same : (f g : Vector) (n : ℕ) → ((k : ℕ) → 1 ≤ k → k ≤ n → is_in b k ≡ false → f k ≡ g k) → sum_at b f n ≡ sum_at b g n
   sum_at-same f g zero h = refl
@@ -118,7 +121,8 @@ module _ (b : Basics) where
         ∙ filter-append (λ k. not (is_in b k)) (numbers_from 1 n) ((1 + n) ∷ numbers_from (suc (1 + n)) m)
         ∙ next (1 + n) (omega arith) (numbers_from (suc (1 + n)) m)
       where
-        next : (k : ℕ) → k ≡ suc n → (ys : List ℕ) → nonbasics_to b n ++ filter (λ k. not (is_in b k)) (k ∷ ys) ≡ nonbasics_to b n ++ suc n ∷ filter (λ k. not (is_in b k)) ys
+        next : (k : ℕ) → k ≡ suc n → (ys : List ℕ) →
+            nonbasics_to b n ++ filter (λ k. not (is_in b k)) (k ∷ ys) ≡ nonbasics_to b n ++ suc n ∷ filter (λ k. not (is_in b k)) ys
         next k same ys = rw (same, out) refl
 
     rest : ℕ
@@ -128,10 +132,14 @@ module _ (b : Basics) where
     counted = omega arith
 
     pub front : take (length (nonbasics_to b n)) (nonbasics a b) ≡ nonbasics_to b n
-    front = ap (take (length (nonbasics_to b n))) (split_at (size a - suc n) counted) ∙ take_front (nonbasics_to b n) (suc n ∷ filter (λ k. not (is_in b k)) (numbers_from (suc (1 + n)) (size a - suc n)))
+    front =
+        ap (take (length (nonbasics_to b n))) (split_at (size a - suc n) counted)
+        ∙ take_front (nonbasics_to b n) (suc n ∷ filter (λ k. not (is_in b k)) (numbers_from (suc (1 + n)) (size a - suc n)))
 
     pub next_is : slice_get (nonbasics a b) (length (nonbasics_to b n)) ≡ Some (suc n)
-    next_is = ap (λ xs. slice_get xs (length (nonbasics_to b n))) (split_at (size a - suc n) counted) ∙ get_after (nonbasics_to b n) (suc n) (filter (λ k. not (is_in b k)) (numbers_from (suc (1 + n)) (size a - suc n)))
+    next_is =
+        ap (λ xs. slice_get xs (length (nonbasics_to b n))) (split_at (size a - suc n) counted)
+        ∙ get_after (nonbasics_to b n) (suc n) (filter (λ k. not (is_in b k)) (numbers_from (suc (1 + n)) (size a - suc n)))
 
 -- ---- one column more
 
@@ -155,13 +163,15 @@ module _ (a : Matrix) (b : Basics) (v : Vector) (n : ℕ) where
   }
 
   -- and a nonbasic adds its direction, times its value
-  pub so_far-added : (z w d : Vector) → IsNonsingular a b → IsSoFar a b v n z → IsNonbasic a b (suc n) → IsDirectionOf a b (suc n) d → AreAdded b d (z (suc n)) z (size a) w → IsSoFar a b v (suc n) w
+  pub so_far-added : (z w d : Vector) → IsNonsingular a b → IsSoFar a b v n z → IsNonbasic a b (suc n) → IsDirectionOf a b (suc n) d →
+      AreAdded b d (z (suc n)) z (size a) w → IsSoFar a b v (suc n) w
   so_far-added z w d nonsingular h out direction added = record {
     nonbasics = λ k is. added k is.0.0 is.0.1 ∙ ap (λ m. cond m (z k +ℚ d k *ℚ z (suc n)) (z k)) is.1 ∙ h.nonbasics k is;
     basics = λ rate are k is.
         added k is.0.0 is.0.1
         ∙ ap (λ m. cond m (z k +ℚ d k *ℚ z (suc n)) (z k)) is.1
-        ∙ ap₂ (λ s t. s +ℚ t) (h.basics rate are k is) (ap₂ (λ x y. x *ℚ y) (one_direction a b (suc n) d (λ i. rate i (suc n)) nonsingular direction (are (suc n) out) k is.0) (h.nonbasics (suc n) out))
+        ∙ ap₂ (λ s t. s +ℚ t) (h.basics rate are k is)
+        (ap₂ (λ x y. x *ℚ y) (one_direction a b (suc n) d (λ i. rate i (suc n)) nonsingular direction (are (suc n) out) k is.0) (h.nonbasics (suc n) out))
         ∙ ap (λ m. with_term m (sum_at b (λ j. rate k j *ℚ v j) n) (rate k (suc n) *ℚ v (suc n))) (sym out.1);
   }
 
@@ -184,7 +194,8 @@ module _ (p : LinearProgram) (s : List Status) (basis : IsBasis p s) where
         let c : Vector = combination p.matrix (basics_of s) there.0 (standing p s) in
         record {
           keeps = KeepsEquations-same p.matrix c z (λ k is. sym (same k is (is_in (basics_of s) k) refl)) point.keeps;
-          placed = λ k is. subst (λ x. StandsAt (status_of s k) (lower_of p k) (upper_of p k) x) (sym (same k is (is_in (basics_of s) k) refl)) (point.placed k is);
+          placed =
+              λ k is. subst (λ x. StandsAt (status_of s k) (lower_of p k) (upper_of p k) x) (sym (same k is (is_in (basics_of s) k) refl)) (point.placed k is);
         }
       where
         same : (k : ℕ) → IsVariable p.matrix k → (m : Bool) → is_in (basics_of s) k ≡ m
@@ -195,9 +206,11 @@ module _ (p : LinearProgram) (s : List Status) (basis : IsBasis p s) where
             ∙ combination_in_order p.matrix (basics_of s) (rates_exist p.matrix (basics_of s) nonsingular).0 (standing p s) k
         same k is false out =
             h.nonbasics k (is, out)
-            ∙ sym (combination_at p.matrix (basics_of s) (rates_exist p.matrix (basics_of s) nonsingular).0 (rates_exist p.matrix (basics_of s) nonsingular).1 (standing p s) k (is, out))
+            ∙ sym (combination_at p.matrix (basics_of s) (rates_exist p.matrix (basics_of s) nonsingular).0 (rates_exist p.matrix (basics_of s) nonsingular).1
+            (standing p s) k (is, out))
 
-    module _ (z d : Vector) (n : ℕ) (e : Evidence) (h : IsSoFar p.matrix (basics_of s) (standing p s) n z) (out : IsNonbasic p.matrix (basics_of s) (suc n)) (direction : IsDirectionOf p.matrix (basics_of s) (suc n) d) where
+    module _ (z d : Vector) (n : ℕ) (e : Evidence) (h : IsSoFar p.matrix (basics_of s) (standing p s) n z) (out : IsNonbasic p.matrix (basics_of s) (suc n))
+        (direction : IsDirectionOf p.matrix (basics_of s) (suc n) d) where
       rate : ℕ → ℕ → ℚ
       rate = (rates_exist p.matrix (basics_of s) nonsingular).0
 
@@ -217,14 +230,17 @@ module _ (p : LinearProgram) (s : List Status) (basis : IsBasis p s) where
       value_is : z (suc n) ≡ point (suc n)
       value_is = h.nonbasics (suc n) out ∙ point_at (suc n) out
 
-      sum_is : (i : ℕ) → IsBasic p.matrix (basics_of s) i → z i ≡ sum_from zero_ℚ (map (λ j. rate i j *ℚ point j) (take (length (nonbasics_to (basics_of s) n)) (nonbasics p.matrix (basics_of s))))
+      sum_is : (i : ℕ) → IsBasic p.matrix (basics_of s) i →
+          z i ≡ sum_from zero_ℚ (map (λ j. rate i j *ℚ point j) (take (length (nonbasics_to (basics_of s) n)) (nonbasics p.matrix (basics_of s))))
       sum_is i basic =
           h.basics rate are i basic
-          ∙ sum_at-same (basics_of s) (λ j. rate i j *ℚ standing p s j) (λ j. rate i j *ℚ point j) n (λ k low high nonbasic. ap (λ x. rate i k *ℚ x) (point_at k ((low, omega (arith, high, out.0.1)), nonbasic)))
+          ∙ sum_at-same (basics_of s) (λ j. rate i j *ℚ standing p s j) (λ j. rate i j *ℚ point j) n
+          (λ k low high nonbasic. ap (λ x. rate i k *ℚ x) (point_at k ((low, omega (arith, high, out.0.1)), nonbasic)))
           ∙ sum_at_ordered (basics_of s) (λ j. rate i j *ℚ point j) n
           ∙ ap (λ ks. sum_from zero_ℚ (map (λ j. rate i j *ℚ point j) ks)) (sym (front (basics_of s) p.matrix n (omega (arith, out.0.1)) out.1))
 
-      formula_of : ColumnTermRefused (basics_of s) d (z (suc n)) z (suc n) (length (nonbasics_to (basics_of s) n)) (size p.matrix) e → PointFormula p s (tableau_of p s basis nonsingular rate) e
+      formula_of : ColumnTermRefused (basics_of s) d (z (suc n)) z (suc n) (length (nonbasics_to (basics_of s) n)) (size p.matrix) e →
+          PointFormula p s (tableau_of p s basis nonsingular rate) e
       formula_of r = by_term r.refused
         where
           is_basic_i : IsBasic p.matrix (basics_of s) r.i
@@ -233,23 +249,33 @@ module _ (p : LinearProgram) (s : List Status) (basis : IsBasis p s) where
           next : slice_get (nonbasics p.matrix (basics_of s)) (length (nonbasics_to (basics_of s) n)) ≡ Some (suc n)
           next = next_is (basics_of s) p.matrix n (omega (arith, out.0.1)) out.1
 
-          by_term : IsTermRefusal (term_of r.i (suc n) (length (nonbasics_to (basics_of s) n))) (z r.i) (d r.i) (z (suc n)) e → PointFormula p s (tableau_of p s basis nonsingular rate) e
-          by_term (of_product refused) = f10_product r.i (suc n) (length (nonbasics_to (basics_of s) n)) refused.names is_basic_i next (rw (rate_at r.i is_basic_i.0, value_is) at refused.refuses)
-          by_term (of_sum refused) = f10_sum r.i (suc n) (length (nonbasics_to (basics_of s) n)) refused.names is_basic_i next (rw (sum_is r.i is_basic_i, rate_at r.i is_basic_i.0, value_is) at refused.refuses)
+          by_term : IsTermRefusal (term_of r.i (suc n) (length (nonbasics_to (basics_of s) n))) (z r.i) (d r.i) (z (suc n)) e →
+              PointFormula p s (tableau_of p s basis nonsingular rate) e
+          by_term (of_product refused) =
+              f10_product r.i (suc n) (length (nonbasics_to (basics_of s) n)) refused.names is_basic_i next
+              (rw (rate_at r.i is_basic_i.0, value_is) at refused.refuses)
+          by_term (of_sum refused) =
+              f10_sum r.i (suc n) (length (nonbasics_to (basics_of s) n)) refused.names is_basic_i next
+              (rw (sum_is r.i is_basic_i, rate_at r.i is_basic_i.0, value_is) at refused.refuses)
 
-      facts : ColumnTermRefused (basics_of s) d (z (suc n)) z (suc n) (length (nonbasics_to (basics_of s) n)) (size p.matrix) e → (e.formula ≡ 10) × (e.way ≡ 0) × (e.theta ≡ zero_ℚ)
+      facts : ColumnTermRefused (basics_of s) d (z (suc n)) z (suc n) (length (nonbasics_to (basics_of s) n)) (size p.matrix) e →
+          (e.formula ≡ 10) × (e.way ≡ 0) × (e.theta ≡ zero_ℚ)
       facts r = by_term r.refused
         where
-          by_term : IsTermRefusal (term_of r.i (suc n) (length (nonbasics_to (basics_of s) n))) (z r.i) (d r.i) (z (suc n)) e → (e.formula ≡ 10) × (e.way ≡ 0) × (e.theta ≡ zero_ℚ)
+          by_term : IsTermRefusal (term_of r.i (suc n) (length (nonbasics_to (basics_of s) n))) (z r.i) (d r.i) (z (suc n)) e →
+              (e.formula ≡ 10) × (e.way ≡ 0) × (e.theta ≡ zero_ℚ)
           by_term (of_product refused) = (refused.names.is_formula, refused.no_way, refused.is_theta)
           by_term (of_sum refused) = (refused.names.is_formula, refused.no_way, refused.is_theta)
 
-      pub term_stops : (before after : List Basics) → ColumnTermRefused (basics_of s) d (z (suc n)) z (suc n) (length (nonbasics_to (basics_of s) n)) (size p.matrix) e → PointRefused p before s after e
+      pub term_stops : (before after : List Basics) →
+          ColumnTermRefused (basics_of s) d (z (suc n)) z (suc n) (length (nonbasics_to (basics_of s) n)) (size p.matrix) e → PointRefused p before s after e
       term_stops before after r =
           let f = facts r in
           record {
             of_call = of_point p.change e.formula (rw f.0 refl);
-            stops = stops_at_basis p s (tableau_of p s basis nonsingular rate) (IsTableau-of p s basis nonsingular rate are) nonsingular (λ to. ⊥) before after e f.1 f.2 (formula_of r);
+            stops =
+                stops_at_basis p s (tableau_of p s basis nonsingular rate) (IsTableau-of p s basis nonsingular rate are) nonsingular
+                (λ to. ⊥) before after e f.1 f.2 (formula_of r);
           }
 
 -- ---- the same at k + 1
@@ -261,15 +287,18 @@ module _ (p : LinearProgram) (s : List Status) (j : ℕ) (low : 1 ≤ j) where
   more : (z : Vector) → IsSoFar p.matrix (basics_of s) (standing p s) (suc (j - 1)) z → IsSoFar p.matrix (basics_of s) (standing p s) j z
   more z h = subst (λ (n : ℕ). IsSoFar p.matrix (basics_of s) (standing p s) n z) (same) h
 
-  pub more_basic : (z : Vector) → IsSoFar p.matrix (basics_of s) (standing p s) (j - 1) z → is_in (basics_of s) j ≡ true → IsSoFar p.matrix (basics_of s) (standing p s) j z
+  pub more_basic : (z : Vector) → IsSoFar p.matrix (basics_of s) (standing p s) (j - 1) z → is_in (basics_of s) j ≡ true →
+      IsSoFar p.matrix (basics_of s) (standing p s) j z
   more_basic z h is = more z (so_far-basic p.matrix (basics_of s) (standing p s) (j - 1) z h (ap (is_in (basics_of s)) (same) ∙ is))
 
-  pub more_zero : (z : Vector) → IsSoFar p.matrix (basics_of s) (standing p s) (j - 1) z → IsVariable p.matrix j → is_in (basics_of s) j ≡ false → z j ≡ zero_ℚ → IsSoFar p.matrix (basics_of s) (standing p s) j z
+  pub more_zero : (z : Vector) → IsSoFar p.matrix (basics_of s) (standing p s) (j - 1) z → IsVariable p.matrix j → is_in (basics_of s) j ≡ false →
+      z j ≡ zero_ℚ → IsSoFar p.matrix (basics_of s) (standing p s) j z
   more_zero z h is out nothing =
       more z (so_far-zero p.matrix (basics_of s) (standing p s) (j - 1) z h (ap (is_in (basics_of s)) (same) ∙ out)
       (ap (standing p s) (same) ∙ sym (h.nonbasics j (is, out)) ∙ nothing))
 
-  pub more_added : (z w d : Vector) (v : ℚ) → IsNonsingular p.matrix (basics_of s) → IsSoFar p.matrix (basics_of s) (standing p s) (j - 1) z → IsNonbasic p.matrix (basics_of s) j → IsDirectionOf p.matrix (basics_of s) j d → v ≡ z j →
+  pub more_added : (z w d : Vector) (v : ℚ) → IsNonsingular p.matrix (basics_of s) → IsSoFar p.matrix (basics_of s) (standing p s) (j - 1) z →
+      IsNonbasic p.matrix (basics_of s) j → IsDirectionOf p.matrix (basics_of s) j d → v ≡ z j →
       AreAdded (basics_of s) d v z (size p.matrix) w → IsSoFar p.matrix (basics_of s) (standing p s) j w
   more_added z w d v nonsingular h out direction is added =
       more w (so_far-added p.matrix (basics_of s) (standing p s) (j - 1) z w d nonsingular h
@@ -277,12 +306,15 @@ module _ (p : LinearProgram) (s : List Status) (j : ℕ) (low : 1 ≤ j) where
       (subst (λ (n : ℕ). IsDirectionOf p.matrix (basics_of s) n d) (sym same) direction)
       (subst (λ (x : ℚ). AreAdded (basics_of s) d x z (size p.matrix) w) (is ∙ ap z (sym same)) added))
 
-  pub more_refused : (z d : Vector) (v : ℚ) (term : ℕ) (e : Evidence) (basis : IsBasis p s) → IsNonsingular p.matrix (basics_of s) → IsSoFar p.matrix (basics_of s) (standing p s) (j - 1) z → IsNonbasic p.matrix (basics_of s) j →
-      IsDirectionOf p.matrix (basics_of s) j d → v ≡ z j → term ≡ length (nonbasics_to (basics_of s) (j - 1)) → (before after : List Basics) → ColumnTermRefused (basics_of s) d v z j term (size p.matrix) e → PointRefused p before s after e
+  pub more_refused : (z d : Vector) (v : ℚ) (term : ℕ) (e : Evidence) (basis : IsBasis p s) → IsNonsingular p.matrix (basics_of s) →
+      IsSoFar p.matrix (basics_of s) (standing p s) (j - 1) z → IsNonbasic p.matrix (basics_of s) j →
+      IsDirectionOf p.matrix (basics_of s) j d → v ≡ z j → term ≡ length (nonbasics_to (basics_of s) (j - 1)) → (before after : List Basics) →
+      ColumnTermRefused (basics_of s) d v z j term (size p.matrix) e → PointRefused p before s after e
   more_refused z d v term e basis nonsingular h out direction is counted before after refused =
       term_stops p s basis nonsingular z d (j - 1) e h
       (subst (λ (n : ℕ). IsNonbasic p.matrix (basics_of s) n) (sym same) out)
       (subst (λ (n : ℕ). IsDirectionOf p.matrix (basics_of s) n d) (sym same) direction) before after
-      (subst (λ (x : ℚ). ColumnTermRefused (basics_of s) d x z (suc (j - 1)) (length (nonbasics_to (basics_of s) (j - 1))) (size p.matrix) e) (is ∙ ap z (sym same))
+      (subst (λ (x : ℚ). ColumnTermRefused (basics_of s) d x z (suc (j - 1)) (length (nonbasics_to (basics_of s) (j - 1))) (size p.matrix) e)
+      (is ∙ ap z (sym same))
       (subst (λ (t : ℕ). ColumnTermRefused (basics_of s) d v z (suc (j - 1)) t (size p.matrix) e) counted
       (subst (λ (n : ℕ). ColumnTermRefused (basics_of s) d v z n term (size p.matrix) e) (sym same) refused)))

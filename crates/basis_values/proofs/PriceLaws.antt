@@ -34,7 +34,8 @@ pub free_row_basic : (p : LinearProgram) (s : List Status) (i : ℕ) → IsBasis
 free_row_basic p s i basis is free =
     ((is.0, omega (arith, is.1)), is_in-basics_of s i is.0 (omega (arith, is.1, basis.counted)) ∙ ap is_basic (basis.free_rows i is free))
 
-pub change_row_basic : (p : LinearProgram) (s : List Status) (c : Change) → IsBasis p s → IsLinearProgram p → p.change ≡ Some c → IsBasic p.matrix (basics_of s) c.row
+pub change_row_basic : (p : LinearProgram) (s : List Status) (c : Change) → IsBasis p s → IsLinearProgram p → p.change ≡ Some c →
+    IsBasic p.matrix (basics_of s) c.row
 change_row_basic p s c basis lawful is =
     let free : ChangeIsFree p (Some c) = subst (λ (o : Option Change). ChangeIsFree p o) is lawful.change_free in
     free_row_basic p s c.row basis free.0 free.1
@@ -54,12 +55,15 @@ module _ (p : LinearProgram) (s : List Status) where
     rate = h.rate;
     are_rates = h.are_rates;
     prices = λ k at. h.entries k at
-        ∙ ap (λ x. cond (is_in (basics_of s) k) zero_ℚ x) (sym (ap (λ t. h.rate p.objective k +ℚ t *ℚ h.rate c.row k) nothing ∙ ap (λ x. h.rate p.objective k +ℚ x) (zero-mul (h.rate c.row k)) ∙ add-zero (h.rate p.objective k)))
+        ∙ ap (λ x. cond (is_in (basics_of s) k) zero_ℚ x)
+        (sym (ap (λ t. h.rate p.objective k +ℚ t *ℚ h.rate c.row k) nothing ∙ ap (λ x. h.rate p.objective k +ℚ x) (zero-mul (h.rate c.row k))
+        ∙ add-zero (h.rate p.objective k)))
         ∙ ap (λ c. cond (is_in (basics_of s) k) zero_ℚ (with_change_row c (λ i. h.rate i k) (h.rate p.objective k))) (sym is);
   }
 
   -- and in general
-  pub changed_prices : (o h y : Vector) (c : Change) → p.change ≡ Some c → IsNonsingular p.matrix (basics_of s) → IsBasic p.matrix (basics_of s) c.row → IsRowOf p.matrix (basics_of s) p.objective o → IsRowOf p.matrix (basics_of s) c.row h →
+  pub changed_prices : (o h y : Vector) (c : Change) → p.change ≡ Some c → IsNonsingular p.matrix (basics_of s) → IsBasic p.matrix (basics_of s) c.row →
+      IsRowOf p.matrix (basics_of s) p.objective o → IsRowOf p.matrix (basics_of s) c.row h →
       AreChanged c.theta h o (size p.matrix) y → ArePricesOf p s y
   changed_prices o h y c is nonsingular basic of_objective of_change changed = record {
     rate = of_objective.rate;
@@ -69,15 +73,19 @@ module _ (p : LinearProgram) (s : List Status) where
     where
       by_mark : (k : ℕ) → IsVariable p.matrix k → (m : Bool) → is_in (basics_of s) k ≡ m → o k +ℚ c.theta *ℚ h k ≡ price_at p (basics_of s) of_objective.rate k
       by_mark k at true e =
-          ap₂ (λ x y. x +ℚ c.theta *ℚ y) (of_objective.entries k at ∙ ap (λ m. cond m zero_ℚ (of_objective.rate p.objective k)) e) (of_change.entries k at ∙ ap (λ m. cond m zero_ℚ (of_change.rate c.row k)) e)
+          ap₂ (λ x y. x +ℚ c.theta *ℚ y) (of_objective.entries k at ∙ ap (λ m. cond m zero_ℚ (of_objective.rate p.objective k)) e)
+          (of_change.entries k at ∙ ap (λ m. cond m zero_ℚ (of_change.rate c.row k)) e)
           ∙ ap (λ x. zero_ℚ +ℚ x) (mul-zero c.theta) ∙ add-zero zero_ℚ
           ∙ sym (ap (λ m. cond m zero_ℚ (with_change_row p.change (λ i. of_objective.rate i k) (of_objective.rate p.objective k))) e)
       by_mark k at false e =
           ap₂ (λ x y. x +ℚ c.theta *ℚ y) (of_objective.entries k at ∙ ap (λ m. cond m zero_ℚ (of_objective.rate p.objective k)) e)
-          (of_change.entries k at ∙ ap (λ m. cond m zero_ℚ (of_change.rate c.row k)) e ∙ one_table p.matrix (basics_of s) of_change.rate of_objective.rate nonsingular of_change.are_rates of_objective.are_rates c.row k basic.0 (at, e))
+          (of_change.entries k at ∙ ap (λ m. cond m zero_ℚ (of_change.rate c.row k)) e
+          ∙ one_table p.matrix (basics_of s) of_change.rate of_objective.rate nonsingular of_change.are_rates of_objective.are_rates c.row k basic.0
+          (at, e))
           ∙ sym (ap₂ (λ m d. cond m zero_ℚ (with_change_row d (λ i. of_objective.rate i k) (of_objective.rate p.objective k))) e is)
 
-  module _ (basis : IsBasis p s) (nonsingular : IsNonsingular p.matrix (basics_of s)) (o h : Vector) (c : Change) (of_objective : IsRowOf p.matrix (basics_of s) p.objective o) (of_change : IsRowOf p.matrix (basics_of s) c.row h)
+  module _ (basis : IsBasis p s) (nonsingular : IsNonsingular p.matrix (basics_of s)) (o h : Vector) (c : Change)
+      (of_objective : IsRowOf p.matrix (basics_of s) p.objective o) (of_change : IsRowOf p.matrix (basics_of s) c.row h)
       (basic : IsBasic p.matrix (basics_of s) c.row) (e : Evidence) where
     abbrev t : Tableau
     t = tableau_of p s basis nonsingular of_objective.rate
@@ -105,7 +113,10 @@ module _ (p : LinearProgram) (s : List Status) where
         o_is = of_objective.entries r.j is ∙ ap (λ m. cond m zero_ℚ (of_objective.rate p.objective r.j)) out
 
         h_is : h r.j ≡ of_objective.rate c.row r.j
-        h_is = of_change.entries r.j is ∙ ap (λ m. cond m zero_ℚ (of_change.rate c.row r.j)) out ∙ one_table p.matrix (basics_of s) of_change.rate of_objective.rate nonsingular of_change.are_rates of_objective.are_rates c.row r.j basic.0 (is, out)
+        h_is =
+            of_change.entries r.j is ∙ ap (λ m. cond m zero_ℚ (of_change.rate c.row r.j)) out
+            ∙ one_table p.matrix (basics_of s) of_change.rate of_objective.rate nonsingular of_change.are_rates of_objective.are_rates c.row r.j basic.0
+            (is, out)
 
         by_term : IsTermRefusal (price_formula r.j c.theta) (o r.j) c.theta (h r.j) e → Facts
         by_term (of_product refused) = record {
@@ -124,7 +135,9 @@ module _ (p : LinearProgram) (s : List Status) where
     shows : (before : List Basics) (f : Facts) → ShowsRefusal (job_of p (Some c)) (λ to. ⊥) (basics_of s ∷ before) s (basics_of s) e
     shows before f = record {
       tableau = t;
-      is_tableau = IsTableau-changed p s t (IsTableau-of p s basis nonsingular of_objective.rate of_objective.are_rates) nonsingular (record { row = c.row; theta = e.theta });
+      is_tableau =
+          IsTableau-changed p s t (IsTableau-of p s basis nonsingular of_objective.rate of_objective.are_rates) nonsingular
+          (record { row = c.row; theta = e.theta });
       way_rate = of_objective.rate;
       are_way_rates = of_objective.are_rates;
       formula = by_objective f.formula;
@@ -142,6 +155,7 @@ module _ (p : LinearProgram) (s : List Status) where
             is_way = omega (arith, f.no_way);
             is_theta = subst (λ o. Contains (thetas_of (job_of p o) []) e.theta) (sym is) (1, omega arith, sym f.theta);
             shows = subst (λ o. ShowsRefusal (job_of p o) (λ to. ⊥) (basics_of s ∷ before) s (waypoint (basics_of s) after e.way) e) (sym is)
-                (subst (λ (w : Basics). ShowsRefusal (job_of p (Some c)) (λ to. ⊥) (basics_of s ∷ before) s w e) (sym (ap (waypoint (basics_of s) after) f.no_way)) (shows before f));
+                (subst (λ (w : Basics). ShowsRefusal (job_of p (Some c)) (λ to. ⊥) (basics_of s ∷ before) s w e)
+                (sym (ap (waypoint (basics_of s) after) f.no_way)) (shows before f));
           };
         }

@@ -28,7 +28,8 @@ covers-at a [] around k d h below = absurd (omega arith)
 covers-at a (b ∷ bs) around zero d h below = h.0
 covers-at a (b ∷ bs) around (suc k) d h below = covers-at a bs around k d h.1 (omega arith)
 
-pub way_within : (a : Matrix) (b : Basics) (ways around : List Basics) (n : ℕ) → IsWithinOne a b around → Covers a ways around → n ≤ length ways → IsWithinOne a (waypoint b ways n) around
+pub way_within : (a : Matrix) (b : Basics) (ways around : List Basics) (n : ℕ) → IsWithinOne a b around → Covers a ways around → n ≤ length ways →
+    IsWithinOne a (waypoint b ways n) around
 way_within a b ways around zero own cover is = own
 way_within a b ways around (suc n) own cover is = covers-at a ways around n b cover (omega arith)
 
@@ -62,8 +63,10 @@ module _ (p : LinearProgram) (s : List Status) (basis : IsBasis p s) (nonsingula
   pub IsTableau-of : (rate : ℕ → ℕ → ℚ) → AreRates p.matrix (basics_of s) rate → IsTableau p s (tableau_of rate)
   IsTableau-of rate are = record { is_point = IsPointOf-combination p s basis rate are; are_rates = are }
 
-  module _ (Goes : Status → Type 0) (around after : List Basics) (own : IsWithinOne p.matrix (basics_of s) around) (cover : Covers p.matrix after around) (e : Evidence) where
-    shows_exchange : (o : Option Change) → (h : ExchangeRefused p.matrix around (basics_of s) after e) → IsWaypoint p.matrix around h.way → ShowsRefusal (job_of p o) Goes around s h.way e
+  module _ (Goes : Status → Type 0) (around after : List Basics) (own : IsWithinOne p.matrix (basics_of s) around) (cover : Covers p.matrix after around)
+      (e : Evidence) where
+    shows_exchange : (o : Option Change) → (h : ExchangeRefused p.matrix around (basics_of s) after e) → IsWaypoint p.matrix around h.way →
+        ShowsRefusal (job_of p o) Goes around s h.way e
     shows_exchange None h is_way =
         let there = rates_exist p.matrix (basics_of s) nonsingular in
         record {
@@ -91,14 +94,19 @@ module _ (p : LinearProgram) (s : List Status) (basis : IsBasis p s) (nonsingula
 
     pub stops_by_exchange : ExchangeRefused p.matrix around (basics_of s) after e → StopsAt Goes p around s after e
     stops_by_exchange h =
-        let within : IsWithinOne p.matrix h.way around = subst (λ (w : Basics). IsWithinOne p.matrix w around) (sym h.at.is_waypoint) (way_within p.matrix (basics_of s) after around e.way own cover h.at.is_way) in
+        let within : IsWithinOne p.matrix h.way around =
+        subst (λ (w : Basics). IsWithinOne p.matrix w around) (sym h.at.is_waypoint)
+        (way_within p.matrix (basics_of s) after around e.way own cover h.at.is_way) in
         record {
           is_way = h.at.is_way;
           is_theta = no_parameter p p.change e.theta h.at.no_theta;
-          shows = subst (λ (w : Basics). ShowsRefusal (job_of p p.change) Goes around s w e) h.at.is_waypoint (shows_exchange p.change h (h.at.nonsingular, within));
+          shows =
+              subst (λ (w : Basics). ShowsRefusal (job_of p p.change) Goes around s w e) h.at.is_waypoint
+              (shows_exchange p.change h (h.at.nonsingular, within));
         }
 
-    shows_carried : (o : Option Change) → (h : CarriedRefused p.matrix around (basics_of s) after e) → IsWaypoint p.matrix around h.way → ShowsRefusal (job_of p o) Goes around s h.way e
+    shows_carried : (o : Option Change) → (h : CarriedRefused p.matrix around (basics_of s) after e) → IsWaypoint p.matrix around h.way →
+        ShowsRefusal (job_of p o) Goes around s h.way e
     shows_carried None h is_way = record {
       tableau = tableau_of h.rate;
       is_tableau = IsTableau-of h.rate h.are_rates;
@@ -122,11 +130,14 @@ module _ (p : LinearProgram) (s : List Status) (basis : IsBasis p s) (nonsingula
 
     pub stops_by_carried : CarriedRefused p.matrix around (basics_of s) after e → StopsAt Goes p around s after e
     stops_by_carried h =
-        let within : IsWithinOne p.matrix h.way around = subst (λ (w : Basics). IsWithinOne p.matrix w around) (sym h.at.is_waypoint) (way_within p.matrix (basics_of s) after around e.way own cover h.at.is_way) in
+        let within : IsWithinOne p.matrix h.way around =
+        subst (λ (w : Basics). IsWithinOne p.matrix w around) (sym h.at.is_waypoint)
+        (way_within p.matrix (basics_of s) after around e.way own cover h.at.is_way) in
         record {
           is_way = h.at.is_way;
           is_theta = no_parameter p p.change e.theta h.at.no_theta;
-          shows = subst (λ (w : Basics). ShowsRefusal (job_of p p.change) Goes around s w e) h.at.is_waypoint (shows_carried p.change h (h.at.nonsingular, within));
+          shows =
+              subst (λ (w : Basics). ShowsRefusal (job_of p p.change) Goes around s w e) h.at.is_waypoint (shows_carried p.change h (h.at.nonsingular, within));
         }
 
     shows_entry : (o : Option Change) → (h : EntryRefused p.matrix (basics_of s) e) → ShowsRefusal (job_of p o) Goes around s (basics_of s) e
@@ -155,7 +166,9 @@ module _ (p : LinearProgram) (s : List Status) (basis : IsBasis p s) (nonsingula
     stops_by_entry h = record {
       is_way = omega (arith, h.no_way);
       is_theta = no_parameter p p.change e.theta h.no_theta;
-      shows = subst (λ (w : Basics). ShowsRefusal (job_of p p.change) Goes around s w e) (sym (ap (waypoint (basics_of s) after) h.no_way)) (shows_entry p.change h);
+      shows =
+          subst (λ (w : Basics). ShowsRefusal (job_of p p.change) Goes around s w e) (sym (ap (waypoint (basics_of s) after) h.no_way))
+          (shows_entry p.change h);
     }
 
   -- evidence of a row, and of a column
@@ -182,12 +195,18 @@ module _ (p : LinearProgram) (s : List Status) (basis : IsBasis p s) (nonsingula
 
 -- ---- a stop of the rates of a basis
 
-pub keeps_at : (p : LinearProgram) (s : List Status) (a : Matrix) (b c : Basics) (ways now : List Basics) → HasRates a b p s → c ≡ b → KeepsWaypoints a b ways c now → KeepsWaypoints p.matrix (basics_of s) ways (basics_of s) now
+pub keeps_at : (p : LinearProgram) (s : List Status) (a : Matrix) (b c : Basics) (ways now : List Basics) → HasRates a b p s → c ≡ b →
+    KeepsWaypoints a b ways c now → KeepsWaypoints p.matrix (basics_of s) ways (basics_of s) now
 keeps_at p s a b c ways now has same keeps = rw (same, has.same_matrix, has.same_basics) at keeps
 
-module _ (p : LinearProgram) (s : List Status) (a : Matrix) (b c : Basics) (ways now : List Basics) (stop : Stop) (has : HasRates a b p s) (same : c ≡ b) (keeps : KeepsWaypoints a b ways c now) where
+module _ (p : LinearProgram) (s : List Status) (a : Matrix) (b c : Basics) (ways now : List Basics) (stop : Stop) (has : HasRates a b p s) (same : c ≡ b)
+    (keeps : KeepsWaypoints a b ways c now) where
   pub column_refused : IfOverflow stop (ExchangeRefused a (b ∷ ways) b now) → IfOverflow stop (PointRefused p ways s now)
-  column_refused h = IfOverflow-map stop (λ e x. point_by_column p s has.is_basis has.nonsingular ways now (keeps_at p s a b c ways now has same keeps) e x) (rw (has.same_matrix, has.same_basics) at h)
+  column_refused h =
+      IfOverflow-map stop (λ e x. point_by_column p s has.is_basis has.nonsingular ways now (keeps_at p s a b c ways now has same keeps) e x)
+      (rw (has.same_matrix, has.same_basics) at h)
 
   pub row_refused : IfOverflow stop (RowRefused a (b ∷ ways) b now) → IfOverflow stop (PointRefused p ways s now)
-  row_refused h = IfOverflow-map stop (λ e x. point_by_row p s has.is_basis has.nonsingular ways now (keeps_at p s a b c ways now has same keeps) e x) (rw (has.same_matrix, has.same_basics) at h)
+  row_refused h =
+      IfOverflow-map stop (λ e x. point_by_row p s has.is_basis has.nonsingular ways now (keeps_at p s a b c ways now has same keeps) e x)
+      (rw (has.same_matrix, has.same_basics) at h)

@@ -35,7 +35,8 @@ module _ (p : LinearProgram) (s : List Status) (t : Tableau) (is_t : IsTableau p
   IsTableau-changed c = record { is_point = record { keeps = is_t.is_point.keeps; placed = is_t.is_point.placed }; are_rates = is_t.are_rates }
 
   -- evidence of a formula at the basis itself, whatever the job is
-  pub shows_at_basis : (o : Option Change) (Goes : Status → Type 0) (around : List Basics) (e : Evidence) → e.way ≡ 0 → PointFormula p s t e → ShowsRefusal (job_of p o) Goes (basics_of s ∷ around) s (basics_of s) e
+  pub shows_at_basis : (o : Option Change) (Goes : Status → Type 0) (around : List Basics) (e : Evidence) → e.way ≡ 0 → PointFormula p s t e →
+      ShowsRefusal (job_of p o) Goes (basics_of s ∷ around) s (basics_of s) e
   shows_at_basis None Goes around e no_way formula = record {
     tableau = t;
     is_tableau = is_t;
@@ -61,10 +62,13 @@ pub no_parameter : (p : LinearProgram) (o : Option Change) (theta : ℚ) → the
 no_parameter p None theta is = (0, omega arith, sym is)
 no_parameter p (Some c) theta is = (0, omega arith, sym is)
 
-pub stops_at_basis : (p : LinearProgram) (s : List Status) (t : Tableau) → IsTableau p s t → IsNonsingular p.matrix (basics_of s) → (Goes : Status → Type 0) (around after : List Basics) (e : Evidence) →
+pub stops_at_basis : (p : LinearProgram) (s : List Status) (t : Tableau) → IsTableau p s t → IsNonsingular p.matrix (basics_of s) →
+    (Goes : Status → Type 0) (around after : List Basics) (e : Evidence) →
     e.way ≡ 0 → e.theta ≡ zero_ℚ → PointFormula p s t e → StopsAt Goes p (basics_of s ∷ around) s after e
 stops_at_basis p s t is_t nonsingular Goes around after e no_way no_theta formula = record {
   is_way = omega (arith, no_way);
   is_theta = no_parameter p p.change e.theta no_theta;
-  shows = subst (λ (w : Basics). ShowsRefusal (job_of p p.change) Goes (basics_of s ∷ around) s w e) (sym (ap (waypoint (basics_of s) after) no_way)) (shows_at_basis p s t is_t nonsingular p.change Goes around e no_way formula);
+  shows =
+      subst (λ (w : Basics). ShowsRefusal (job_of p p.change) Goes (basics_of s ∷ around) s w e) (sym (ap (waypoint (basics_of s) after) no_way))
+      (shows_at_basis p s t is_t nonsingular p.change Goes around e no_way formula);
 }

@@ -22,7 +22,8 @@ stays_put x y z e = sym (ap (λ u. x +ℚ y *ℚ u) e ∙ ap (λ u. x +ℚ u) (m
 
 -- ---- values at variables
 
-pub lowers_at : (p : LinearProgram) (s : List Status) (xs : List ℚ) (up : Bool) (k : ℕ) (x r : ℚ) → k < length xs → x ≡ get_or xs k x → r ≡ signed up x → lowers p s (motion (value_at xs) up) (k + 1) ≡ lowers p s (λ _. r) (k + 1)
+pub lowers_at : (p : LinearProgram) (s : List Status) (xs : List ℚ) (up : Bool) (k : ℕ) (x r : ℚ) → k < length xs → x ≡ get_or xs k x → r ≡ signed up x →
+    lowers p s (motion (value_at xs) up) (k + 1) ≡ lowers p s (λ _. r) (k + 1)
 lowers_at p s xs up k x r below is signed_is = ap (λ (u : ℚ). lowers p s (λ _. u) (k + 1)) (ap (signed up) (value_next xs k x below is) ∙ sym signed_is)
 
 -- ---- a search that goes up by one

@@ -76,18 +76,22 @@ module _ (p : LinearProgram) (s : List Status) (ws : List Wanted) (h : AreWants 
       }))
 
   -- a move changes where its two variables stand, and no other
-  pub wants_after : (basis : IsBasis p s) (m : Move) (next : List Status) → IsVariable p.matrix m.enters → IsVariable p.matrix m.leaves → next ≡ after s m → AreWantsBut p next m.leaves m.enters ws
+  pub wants_after : (basis : IsBasis p s) (m : Move) (next : List Status) → IsVariable p.matrix m.enters → IsVariable p.matrix m.leaves → next ≡ after s m →
+      AreWantsBut p next m.leaves m.enters ws
   wants_after basis m next enters leaves is_next = record {
     places = h.places;
     each = λ k is far apart.
         h.each k is
-        ∙ ap (λ st. want_with p k st) (sym (ap (λ t. status_of t k) is_next ∙ changed_other p s basis m.leaves k m.to (with_status s m.enters Bs) leaves is far ∙ changed_other p s basis m.enters k Bs s enters is apart));
+        ∙ ap (λ st. want_with p k st)
+        (sym (ap (λ t. status_of t k) is_next ∙ changed_other p s basis m.leaves k m.to (with_status s m.enters Bs) leaves is far
+        ∙ changed_other p s basis m.enters k Bs s enters is apart));
   }
     where
       want_with : LinearProgram → ℕ → Status → Wanted
       want_with p k st = if is_fixed p k then Nothing else want_from st
 
-module _ (p : LinearProgram) (s : List Status) (u v : ℕ) (ws : List Wanted) (is_u : IsVariable p.matrix u) (is_v : IsVariable p.matrix v) (h : AreWantsBut p s u v ws) where
+module _ (p : LinearProgram) (s : List Status) (u v : ℕ) (ws : List Wanted) (is_u : IsVariable p.matrix u) (is_v : IsVariable p.matrix v)
+    (h : AreWantsBut p s u v ws) where
   length-twice : (a b : Wanted) → length (set (set ws (u - 1) a) (v - 1) b) ≡ length ws
   length-twice a b = length-set (set ws (u - 1) a) (v - 1) b ∙ length-set ws (u - 1) a
 
@@ -95,11 +99,13 @@ module _ (p : LinearProgram) (s : List Status) (u v : ℕ) (ws : List Wanted) (i
   pub wants_renewed : (a b : Wanted) → a ≡ want_of p s u → b ≡ want_of p s v → AreWants p s (set (set ws (u - 1) a) (v - 1) b)
   wants_renewed a b a_is b_is = record { places = length-twice a b ∙ h.places; each = λ k is. at k is (eqb_tells k v) (eqb_tells k u) }
     where
-      at : (k : ℕ) → IsVariable p.matrix k → (((eqb k v ≡ true) × (k ≡ v)) ⊎ ((eqb k v ≡ false) × (k ≢ v))) → (((eqb k u ≡ true) × (k ≡ u)) ⊎ ((eqb k u ≡ false) × (k ≢ u)))
+      at : (k : ℕ) → IsVariable p.matrix k → (((eqb k v ≡ true) × (k ≡ v)) ⊎ ((eqb k v ≡ false) × (k ≢ v)))
+          → (((eqb k u ≡ true) × (k ≡ u)) ⊎ ((eqb k u ≡ false) × (k ≢ u)))
           → wanted_at (set (set ws (u - 1) a) (v - 1) b) k ≡ want_of p s k
       at k is (inl same) other =
           let within : v - 1 < length (set ws (u - 1) a) = omega (arith, length-set ws (u - 1) a, h.places, is_v.0, is_v.1) in
-          ap (wanted_at (set (set ws (u - 1) a) (v - 1) b)) same.1 ∙ get_or-set_same (set ws (u - 1) a) (v - 1) b Nothing within ∙ b_is ∙ ap (want_of p s) (sym same.1)
+          ap (wanted_at (set (set ws (u - 1) a) (v - 1) b)) same.1 ∙ get_or-set_same (set ws (u - 1) a) (v - 1) b Nothing within ∙ b_is
+          ∙ ap (want_of p s) (sym same.1)
       at k is (inr apart) (inl same) =
           let within : u - 1 < length ws = omega (arith, h.places, is_u.0, is_u.1) in
           let far : k - 1 ≢ v - 1 = λ e. apart.1 (omega (arith, e, is.0, is_v.0)) in
@@ -111,7 +117,8 @@ module _ (p : LinearProgram) (s : List Status) (u v : ℕ) (ws : List Wanted) (i
           get_or-set_other (set ws (u - 1) a) (v - 1) (k - 1) b Nothing far ∙ get_or-set_other ws (u - 1) (k - 1) a Nothing away ∙ h.each k is other.1 apart.1
 
 -- one more at the end
-pub wants_more : (p : LinearProgram) (s : List Status) (ws : List Wanted) (k : ℕ) (w : Wanted) → length ws ≡ k → ((j : ℕ) → 1 ≤ j → j ≤ k → wanted_at ws j ≡ want_of p s j) → w ≡ want_of p s (k + 1)
+pub wants_more : (p : LinearProgram) (s : List Status) (ws : List Wanted) (k : ℕ) (w : Wanted) → length ws ≡ k
+    → ((j : ℕ) → 1 ≤ j → j ≤ k → wanted_at ws j ≡ want_of p s j) → w ≡ want_of p s (k + 1)
     → (j : ℕ) → 1 ≤ j → j ≤ k + 1 → wanted_at (ws ++ (w ∷ [])) j ≡ want_of p s j
 wants_more p s ws k w counted each w_is j low high = at (eqb_tells j (k + 1))
   where
@@ -119,7 +126,9 @@ wants_more p s ws k w counted each w_is j low high = at (eqb_tells j (k + 1))
     at (inl same) =
         let place : length ws ≡ j - 1 = omega (arith, counted, same.1) in
         get_or_push ws w Nothing (j - 1) place ∙ w_is ∙ ap (want_of p s) (sym same.1)
-    at (inr other) = let apart = other.1 in get_or_append_left ws (w ∷ []) Nothing (j - 1) (omega (arith, counted, apart, low, high)) ∙ each j low (omega (arith, apart, high))
+    at (inr other) =
+        let apart = other.1 in get_or_append_left ws (w ∷ []) Nothing (j - 1) (omega (arith, counted, apart, low, high))
+        ∙ each j low (omega (arith, apart, high))
 
 -- a rate is wanted just where it lets the variable lower the quantity
 pub wanted_lowers : (p : LinearProgram) (s : List Status) (v : ℚ) (k : ℕ) → is_wanted (want_of p s k) v ≡ lowers p s (λ _. v) k

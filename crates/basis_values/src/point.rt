@@ -95,7 +95,8 @@ fn add_multiple(
     requires small { length basis.now < 2 ^ 32 }
     requires column { length column.now ≡ length basis.now }
     requires places { length point.old ≡ length basis.now }
-    ensures added { OnOk result (AreAdded (basics_of basis.now) (value_at column.now) summand.now.value
+    ensures added { OnOk result
+        (AreAdded (basics_of basis.now) (value_at column.now) summand.now.value
         (value_at point.old) (length basis.now) (value_at point.new)) }
     ensures refused { IfErr result (ColumnTermRefused (basics_of basis.now) (value_at column.now)
         summand.now.value (value_at point.old) summand.now.j summand.now.before

@@ -23,7 +23,8 @@ use Rattle.bounded_dual.specs.Stops.{DualEnds, DualStopsAlong, IsNotUnbounded}
 use Rattle.bounded_dual.specs.declared.moves.DualStop.{DualStop}
 use Rattle.bounded_dual.specs.declared.moves.DualStop.TheVariants.{NotDualFeasible, Limit, Overflow, NoMemory}
 
-module _ (p : LinearProgram) (lawful : IsLinearProgram p) (no_change : p.change ≡ None) (a : Matrix) (b : Basics) (s : List Status) (has : HasRates a b p s) where
+module _ (p : LinearProgram) (lawful : IsLinearProgram p) (no_change : p.change ≡ None) (a : Matrix) (b : Basics) (s : List Status)
+    (has : HasRates a b p s) where
   at : IsNonsingularBasis p s
   at = record { is_basis = has.is_basis; nonsingular = has.nonsingular }
 
@@ -41,7 +42,8 @@ module _ (p : LinearProgram) (lawful : IsLinearProgram p) (no_change : p.change 
     has_bound steps at_end (EndsUnbounded z d) ends = absurd (never_unbounded p at_end z d ends)
 
     dual_bounded : (outcome : Outcome) → RuleCallEnds dual_turn p s now limit outcome → IsNotUnbounded outcome
-    dual_bounded outcome call = subst IsNotUnbounded (sym call.is_outcome) (has_bound (counted_steps (length call.bases)) (last_of s call.bases) call.ending call.ends.ends)
+    dual_bounded outcome call =
+        subst IsNotUnbounded (sym call.is_outcome) (has_bound (counted_steps (length call.bases)) (last_of s call.bases) call.ending call.ends.ends)
 
     dual_truth : (outcome : Outcome) → RuleCallEnds dual_turn p s now limit outcome → IsTrueOutcome p outcome
     dual_truth outcome call =
@@ -63,9 +65,11 @@ module _ (p : LinearProgram) (lawful : IsLinearProgram p) (no_change : p.change 
     true_result (Err why) call = tt
 
   -- where the path ends from right prices and nothing stops the call, it answers this end
-  pub dual_answered : (now : List Status) (limit : ℕ) (before more : List Basics) (bases : List (List Status)) (ending : PathEnding) (result : Result Outcome DualStop) → IfOk result (DualEnds p s now limit) → IfErr result (DualStopsAlong p s now limit before more) →
+  pub dual_answered : (now : List Status) (limit : ℕ) (before more : List Basics) (bases : List (List Status)) (ending : PathEnding)
+      (result : Result Outcome DualStop) → IfOk result (DualEnds p s now limit) → IfErr result (DualStopsAlong p s now limit before more) →
       HasRightPrices p s → RuleEndsOverflowFree dual_turn (Dual p) p s limit before bases ending → IsEndOr NoMemory s bases ending now result
-  dual_answered now limit before more bases ending (Ok outcome) ends stops right goes = answers_end dual_turn p (one_path p lawful) s at now bases ending limit NoMemory outcome goes.ends ends.call
+  dual_answered now limit before more bases ending (Ok outcome) ends stops right goes =
+      answers_end dual_turn p (one_path p lawful) s at now bases ending limit NoMemory outcome goes.ends ends.call
   dual_answered now limit before more bases ending (Err (NotDualFeasible j)) ends stops right goes = absurd (not_both_prices p s j lawful at right stops.0)
   dual_answered now limit before more bases ending (Err Limit) ends stops right goes =
       absurd (not_both p lawful limit s at (record { bases = bases; ending = ending; ends = goes.ends; within = goes.within }) stops.1.goes_on)

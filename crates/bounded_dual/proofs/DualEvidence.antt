@@ -30,11 +30,14 @@ dual_own p no_change s = record {
 
 module _ (p : LinearProgram) (no_change : p.change ≡ None) (s : List Status) (left : ℕ) where
   -- a stop of the rates, of a point or of prices
-  pub point_stops : (before now : List Basics) (why : Stop) → IfOverflow why (PointRefused p before s now) → DualTurnStops p s left before now (dual_stop_of why)
+  pub point_stops : (before now : List Basics) (why : Stop) → IfOverflow why (PointRefused p before s now) →
+      DualTurnStops p s left before now (dual_stop_of why)
   point_stops before now (stop.Overflow e) h = of_point p (Dual p) None s (dual_own p no_change s) left before now e h
   point_stops before now stop.NoMemory h = tt
 
   -- the same after other calls at the basis
-  pub point_stops_later : (before mid now : List Basics) (why : Stop) → KeepsWaypoints p.matrix (basics_of s) before (basics_of s) mid → IfOverflow why (PointRefused p mid s now) → DualTurnStops p s left before now (dual_stop_of why)
-  point_stops_later before mid now (stop.Overflow e) keeps h = of_point p (Dual p) None s (dual_own p no_change s) left before now e (point_refused_later p before mid now s e keeps h)
+  pub point_stops_later : (before mid now : List Basics) (why : Stop) → KeepsWaypoints p.matrix (basics_of s) before (basics_of s) mid →
+      IfOverflow why (PointRefused p mid s now) → DualTurnStops p s left before now (dual_stop_of why)
+  point_stops_later before mid now (stop.Overflow e) keeps h =
+      of_point p (Dual p) None s (dual_own p no_change s) left before now e (point_refused_later p before mid now s e keeps h)
   point_stops_later before mid now stop.NoMemory keeps h = tt

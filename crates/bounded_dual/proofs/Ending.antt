@@ -21,8 +21,10 @@ use Rattle.bounded_primal.proofs.Agreement.{outside_same}
 use Rattle.bounded_primal.proofs.PathWalk.{begins_at, ends_there}
 use Rattle.bounded_primal.proofs.SameChoices.{entering_same, listed_is}
 
-module _ (p : LinearProgram) (s : List Status) (v : Vector) (agrees : AgreesWithPoint p s v) (uncrossed : IsUncrossed p) (found_none : least_outside p s v ≡ None) where
-  pub optimal_ends : (zs ys : List ℚ) (steps : ℕ) → IsPointOf p s (value_at zs) → length zs ≡ size p.matrix → ArePricesOf p s (value_at ys) → length ys ≡ size p.matrix → (outcome : Outcome) → outcome ≡ Optimal steps zs ys →
+module _ (p : LinearProgram) (s : List Status) (v : Vector) (agrees : AgreesWithPoint p s v) (uncrossed : IsUncrossed p)
+    (found_none : least_outside p s v ≡ None) where
+  pub optimal_ends : (zs ys : List ℚ) (steps : ℕ) → IsPointOf p s (value_at zs) → length zs ≡ size p.matrix → ArePricesOf p s (value_at ys) →
+      length ys ≡ size p.matrix → (outcome : Outcome) → outcome ≡ Optimal steps zs ys →
       RuleEndsHere dual_turn p s steps outcome
   unfolding dual_turn
   optimal_ends zs ys steps point counted priced price_counted outcome is = record {
@@ -30,9 +32,13 @@ module _ (p : LinearProgram) (s : List Status) (v : Vector) (agrees : AgreesWith
     ends = record {
       tableau = record { point = value_at zs; rate = priced.rate };
       is_tableau = record { is_point = point; are_rates = priced.are_rates };
-      turns = ap₂ (dual_for p s (record { point = value_at zs; rate = priced.rate })) uncrossed (sym (outside_same p v (value_at zs) (agrees (value_at zs) point) s) ∙ found_none);
+      turns =
+          ap₂ (dual_for p s (record { point = value_at zs; rate = priced.rate })) uncrossed
+          (sym (outside_same p v (value_at zs) (agrees (value_at zs) point) s) ∙ found_none);
     };
-    is_outcome = is ∙ ap₂ (Optimal steps) (listed_is p.matrix zs (value_at zs) counted (λ k is. refl)) (listed_is p.matrix ys (price_at p (basics_of s) priced.rate) price_counted priced.prices);
+    is_outcome =
+        is ∙ ap₂ (Optimal steps) (listed_is p.matrix zs (value_at zs) counted (λ k is. refl))
+        (listed_is p.matrix ys (price_at p (basics_of s) priced.rate) price_counted priced.prices);
   }
 
 module _ (p : LinearProgram) (s : List Status) (at : IsNonsingularBasis p s) (y : Vector) (priced : ArePricesOf p s y) where
@@ -51,12 +57,16 @@ module _ (p : LinearProgram) (s : List Status) (at : IsNonsingularBasis p s) (y 
     is_outcome = refl;
   }
 
-  pub crossed_call : (before ways : List Basics) → KeepsWaypoints p.matrix (basics_of s) before (basics_of s) ways → (k limit : ℕ) → Some k ≡ least p (is_crossed p) → RuleCallEnds dual_turn p s s limit (Crossed k)
-  crossed_call before ways keeps k limit found = ends_there dual_turn p s before s ways 0 (begins_at dual_turn p s before ways keeps) limit 0 (Crossed k) (omega arith) refl (crossed_ends k 0 found)
+  pub crossed_call : (before ways : List Basics) → KeepsWaypoints p.matrix (basics_of s) before (basics_of s) ways → (k limit : ℕ) →
+      Some k ≡ least p (is_crossed p) → RuleCallEnds dual_turn p s s limit (Crossed k)
+  crossed_call before ways keeps k limit found =
+      ends_there dual_turn p s before s ways 0 (begins_at dual_turn p s before ways keeps) limit 0 (Crossed k) (omega arith) refl (crossed_ends k 0 found)
 
   -- the prices of the basis tell which one is wrong
   wrong_is : entering_variable p s t None ≡ entering p s (worth_by p y)
-  wrong_is = entering_same p s at.is_basis (worth_rate p s t) (worth_by p y) (λ k out. ap (for_min p.sense) (sym (priced.prices k out.0 ∙ ap (λ m. if m then zero_ℚ else objective_rate p priced.rate k) out.1)))
+  wrong_is =
+      entering_same p s at.is_basis (worth_rate p s t) (worth_by p y)
+      (λ k out. ap (for_min p.sense) (sym (priced.prices k out.0 ∙ ap (λ m. if m then zero_ℚ else objective_rate p priced.rate k) out.1)))
 
   pub all_right : None ≡ entering p s (worth_by p y) → HasRightPrices p s
   all_right none = record { tableau = t; is_tableau = is_t; right = wrong_is ∙ sym none }

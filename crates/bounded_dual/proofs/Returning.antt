@@ -47,8 +47,10 @@ limit_apart : (b : Bool) → (if b then Ll else Ul) ≢ Bs
 limit_apart true e = cc
 limit_apart false e = cc
 
-module _ (p : LinearProgram) (lawful : IsLinearProgram p) (no_change : p.change ≡ None) (s : List Status) (v : Vector) (a : Matrix) (b : Basics) (has : HasRates a b p s) (agrees : AgreesWithPoint p s v) (uncrossed : IsUncrossed p)
-    (r : ℕ) (found_outside : least_outside p s v ≡ Some r) (prices xs : Vector) (priced : ArePricesOf p s prices) (row : IsRowOf p.matrix (basics_of s) r xs) (below : Bool) (found_below : below ≡ is_below p v r) where
+module _ (p : LinearProgram) (lawful : IsLinearProgram p) (no_change : p.change ≡ None) (s : List Status) (v : Vector) (a : Matrix) (b : Basics)
+    (has : HasRates a b p s) (agrees : AgreesWithPoint p s v) (uncrossed : IsUncrossed p)
+    (r : ℕ) (found_outside : least_outside p s v ≡ Some r) (prices xs : Vector) (priced : ArePricesOf p s prices) (row : IsRowOf p.matrix (basics_of s) r xs)
+    (below : Bool) (found_below : below ≡ is_below p v r) where
   at : IsNonsingularBasis p s
   at = record { is_basis = has.is_basis; nonsingular = has.nonsingular }
 
@@ -81,13 +83,21 @@ module _ (p : LinearProgram) (lawful : IsLinearProgram p) (no_change : p.change 
   turn_is o is = ap₂ (dual_for p s t) uncrossed broken ∙ ap (restore_feasibility p s t r) (sym choice ∙ is)
 
   -- a ratio is refused
-  pub ratio_evidence : (left : ℕ) (before now : List Basics) (e : Evidence) → SomeRatioRefused p s prices xs r below e → EvidenceHere (Dual p) p.matrix None left s before now e
+  pub ratio_evidence : (left : ℕ) (before now : List Basics) (e : Evidence) → SomeRatioRefused p s prices xs r below e →
+      EvidenceHere (Dual p) p.matrix None left s before now e
   ratio_evidence left before now e h =
-      of_ratio p (Dual p) None s (dual_own p no_change s) left before now e lawful at z point r below leaves prices xs priced row h
-      (t, is_t, uncrossed, broken, subst (λ m. restores_feasibility p s t r m h.j ≡ true) mark (sym (brings_is p s lawful no_change at prices xs priced r leaves.0 row below z h.j h.is_variable) ∙ h.restores_feasibility))
+      of_ratio p (Dual p) None s (dual_own p no_change s) left before now e lawful at z point r below leaves prices xs priced row h (
+        t,
+        is_t,
+        uncrossed,
+        broken,
+        subst (λ m. restores_feasibility p s t r m h.j ≡ true) mark
+            (sym (brings_is p s lawful no_change at prices xs priced r leaves.0 row below z h.j h.is_variable) ∙ h.restores_feasibility),
+      )
 
   -- nothing brings it back
-  pub infeasible_ends : cheapest_by p s prices xs below ≡ None → (ray : List ℚ) (steps : ℕ) → length ray ≡ size p.matrix → ((k : ℕ) → IsVariable p.matrix k → value_at ray k ≡ ray_from xs r below k) → RuleEndsHere dual_turn p s steps (Infeasible steps ray)
+  pub infeasible_ends : cheapest_by p s prices xs below ≡ None → (ray : List ℚ) (steps : ℕ) → length ray ≡ size p.matrix →
+      ((k : ℕ) → IsVariable p.matrix k → value_at ray k ≡ ray_from xs r below k) → RuleEndsHere dual_turn p s steps (Infeasible steps ray)
   infeasible_ends none ray steps counted values = record {
     ending = EndsInfeasible (listed p.matrix (ray_of (basics_of s) row.rate r (is_below p z r)));
     ends = record { tableau = t; is_tableau = is_t; turns = turn_is None none };
@@ -114,25 +124,38 @@ module _ (p : LinearProgram) (lawful : IsLinearProgram p) (no_change : p.change 
     limit_is = sym (to_is ∙ ap (λ (m : Bool). if m then Ll else Ul) mark)
 
     pub return_limit : IsSome (limit_numbered p r (number_of_limit to))
-    return_limit = subst (λ (x : Status). IsSome (limit_numbered p r (number_of_limit x))) limit_is (limit_some p s z has.is_basis has.nonsingular point uncrossed r xs row broken)
+    return_limit =
+        subst (λ (x : Status). IsSome (limit_numbered p r (number_of_limit x))) limit_is
+        (limit_some p s z has.is_basis has.nonsingular point uncrossed r xs row broken)
 
     return_move : RuleMoves dual_turn p s (record { enters = q; leaves = r; to = to })
     return_move = (t, is_t, turn_is (Some q) chosen ∙ ap (λ (x : Status). Moves (record { enters = q; leaves = r; to = x })) limit_is)
 
     pub return_at_limit : (left : ℕ) (before now : List Basics) → left ≡ 0 → DualTurnStops p s left before now Limit
-    return_at_limit left before now none =
-        (none, (after s (record { enters = q; leaves = r; to = to }), record { tableau = return_move.0; is_tableau = return_move.1; move = record { enters = q; leaves = r; to = to }; turns = return_move.2; is_next = refl }))
+    return_at_limit left before now none = (
+      none,
+      (
+        after s
+            (record { enters = q; leaves = r; to = to }),
+        record { tableau = return_move.0; is_tableau = return_move.1; move = record { enters = q; leaves = r; to = to }; turns = return_move.2; is_next = refl },
+      ),
+    )
 
-    return_evidence : (left : ℕ) (before mid now : List Basics) (e : Evidence) → KeepsWaypoints p.matrix (basics_of s) before (basics_of s) mid → ReturnStops p s v q r to mid now e → EvidenceHere (Dual p) p.matrix None left s before now e
-    return_evidence left before mid now e keeps (by_column h) = of_point p (Dual p) None s (dual_own p no_change s) left before now e (point_refused_later p before mid now s e keeps h)
+    return_evidence : (left : ℕ) (before mid now : List Basics) (e : Evidence) → KeepsWaypoints p.matrix (basics_of s) before (basics_of s) mid →
+        ReturnStops p s v q r to mid now e → EvidenceHere (Dual p) p.matrix None left s before now e
+    return_evidence left before mid now e keeps (by_column h) =
+        of_point p (Dual p) None s (dual_own p no_change s) left before now e (point_refused_later p before mid now s e keeps h)
     return_evidence left before mid now e keeps (by_return d direction h) =
-        of_return p (Dual p) None s (dual_own p no_change s) left before now e lawful at z point q r to leaves return_nonbasic return_move d direction (return_pivot d direction) (return_refused p v z (agrees z point) d q r to e leaves.0 h)
+        of_return p (Dual p) None s (dual_own p no_change s) left before now e lawful at z point q r to leaves return_nonbasic return_move d direction
+        (return_pivot d direction) (return_refused p v z (agrees z point) d q r to e leaves.0 h)
 
-    pub return_stops : (left : ℕ) (before mid now : List Basics) (why : Stop) → KeepsWaypoints p.matrix (basics_of s) before (basics_of s) mid → IfOverflow why (ReturnStops p s v q r to mid now) → DualTurnStops p s left before now (dual_stop_of why)
+    pub return_stops : (left : ℕ) (before mid now : List Basics) (why : Stop) → KeepsWaypoints p.matrix (basics_of s) before (basics_of s) mid →
+        IfOverflow why (ReturnStops p s v q r to mid now) → DualTurnStops p s left before now (dual_stop_of why)
     return_stops left before mid now (stop.Overflow e) keeps h = return_evidence left before mid now e keeps h
     return_stops left before mid now stop.NoMemory keeps h = tt
 
-    pub return_moves : (d : Vector) → IsDirectionOf p.matrix (basics_of s) q d → (by : Stopper) → by ≡ return_by p v d r to → (left : ℕ) → 1 ≤ left → DualMovesOn p s d xs q by left
+    pub return_moves : (d : Vector) → IsDirectionOf p.matrix (basics_of s) q d → (by : Stopper) → by ≡ return_by p v d r to → (left : ℕ) → 1 ≤ left →
+        DualMovesOn p s d xs q by left
     return_moves d direction by by_is left was_left = subst (λ (x : Stopper). DualMovesOn p s d xs q x left) (sym by_at_point) (record {
       moves = return_move;
       leaves = leaves;
@@ -142,7 +165,9 @@ module _ (p : LinearProgram) (lawful : IsLinearProgram p) (no_change : p.change 
       row_pivot = row_pivot;
       direction = direction;
       pivot = return_pivot d direction;
-      step = subst (λ (x : Status). StepsFromPoint p s d q (return_by p z d r x)) limit_is (return_step p s z has.is_basis has.nonsingular point uncrossed r xs row broken q d);
+      step =
+          subst (λ (x : Status). StepsFromPoint p s d q (return_by p z d r x)) limit_is
+          (return_step p s z has.is_basis has.nonsingular point uncrossed r xs row broken q d);
       was_left = was_left;
     })
       where

@@ -35,7 +35,8 @@ fn restore_feasibility<R: Rates>(
     requires point { AgreesWithPoint at.now.lp.now at.now.basis.now (value_at at.now.point.now) }
     requires prices { ArePricesOf at.now.lp.now at.now.basis.now (value_at prices.now) }
     requires uncrossed { IsUncrossed at.now.lp.now }
-    requires outside { least_outside at.now.lp.now at.now.basis.now (value_at at.now.point.now) ≡ Some r }
+    requires outside { least_outside at.now.lp.now at.now.basis.now
+        (value_at at.now.point.now) ≡ Some r }
     ensures turn { DualTurnFound result at.now.lp.now at.now.basis.now at.now.steps at.now.left
         (value_at direction.new) (value_at row.new) (R.state rates.old) (R.state rates.new) }
     ensures direction_places { OnOk result (length direction.new ≡ size at.now.lp.now.matrix) }
@@ -67,10 +68,12 @@ fn optimal<R: Rates>(at: &Position<'_>, rates: &mut R, prices: &[Frac]) -> Resul
     requires rates { IsAtBasis (R.state rates.old) at.now.lp.now at.now.basis.now }
     requires price_places { length prices.now ≡ size at.now.lp.now.matrix }
     requires point { AgreesWithPoint at.now.lp.now at.now.basis.now (value_at at.now.point.now) }
-    requires kept { IsTrue (all_kept at.now.kept) → IsPointOf at.now.lp.now at.now.basis.now (value_at at.now.point.now) }
+    requires kept { IsTrue (all_kept at.now.kept) →
+        IsPointOf at.now.lp.now at.now.basis.now (value_at at.now.point.now) }
     requires prices { ArePricesOf at.now.lp.now at.now.basis.now (value_at prices.now) }
     requires uncrossed { IsUncrossed at.now.lp.now }
-    requires inside { least_outside at.now.lp.now at.now.basis.now (value_at at.now.point.now) ≡ None }
+    requires inside { least_outside at.now.lp.now at.now.basis.now
+        (value_at at.now.point.now) ≡ None }
     ensures turn { (d xs : ℕ → ℚ) → DualTurnFound result at.now.lp.now at.now.basis.now at.now.steps
         at.now.left d xs (R.state rates.old) (R.state rates.new) }
     ensures rates { StaysAt (R.state rates.old) (R.state rates.new) at.now.lp.now at.now.basis.now }
@@ -95,10 +98,12 @@ pub fn next_turn<R: Rates>(
     requires row_places { length row.old ≡ size at.now.lp.now.matrix }
     requires direction_places { length direction.old ≡ size at.now.lp.now.matrix }
     requires point { AgreesWithPoint at.now.lp.now at.now.basis.now (value_at at.now.point.now) }
-    requires kept { IsTrue (all_kept at.now.kept) → IsPointOf at.now.lp.now at.now.basis.now (value_at at.now.point.now) }
+    requires kept { IsTrue (all_kept at.now.kept) →
+        IsPointOf at.now.lp.now at.now.basis.now (value_at at.now.point.now) }
     requires prices { ArePricesOf at.now.lp.now at.now.basis.now (value_at prices.now) }
     requires uncrossed { IsUncrossed at.now.lp.now }
-    requires broken { at.now.broken ≡ least_outside at.now.lp.now at.now.basis.now (value_at at.now.point.now) }
+    requires broken { at.now.broken ≡
+        least_outside at.now.lp.now at.now.basis.now (value_at at.now.point.now) }
     ensures turn { DualTurnFound result at.now.lp.now at.now.basis.now at.now.steps at.now.left
         (value_at direction.new) (value_at row.new) (R.state rates.old) (R.state rates.new) }
     ensures direction_places { OnOk result (length direction.new ≡ size at.now.lp.now.matrix) }

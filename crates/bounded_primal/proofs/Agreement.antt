@@ -36,7 +36,8 @@ basis_point p s basis nonsingular =
     ((tableau_of p s basis nonsingular rates.0).point, (IsTableau-of p s basis nonsingular rates.0 rates.1).is_point)
 
 -- the point agrees with itself
-pub point_agrees : (p : LinearProgram) (s : List Status) → IsBasis p s → IsNonsingular p.matrix (basics_of s) → (z : Vector) → IsPointOf p s z → AgreesWithPoint p s z
+pub point_agrees : (p : LinearProgram) (s : List Status) → IsBasis p s → IsNonsingular p.matrix (basics_of s) → (z : Vector) → IsPointOf p s z →
+    AgreesWithPoint p s z
 point_agrees p s basis nonsingular z point w other k is limited = one_point p s z w basis.counted nonsingular point other k is
 
 -- what is needed is kept
@@ -46,14 +47,16 @@ needed_kept AllSoFar h = refl
 needed_kept Limited h = h
 
 -- the values that a step needs are those of the point, where x is it if all are needed
-pub needed_same : (p : LinearProgram) (s : List Status) → IsBasis p s → IsNonsingular p.matrix (basics_of s) → (z : Vector) → IsPointOf p s z → (x : Vector) (all : Bool) → AgreesWithPoint p s x → (IsTrue all → IsPointOf p s x) →
+pub needed_same : (p : LinearProgram) (s : List Status) → IsBasis p s → IsNonsingular p.matrix (basics_of s) → (z : Vector) → IsPointOf p s z →
+    (x : Vector) (all : Bool) → AgreesWithPoint p s x → (IsTrue all → IsPointOf p s x) →
     (k : ℕ) → IsVariable p.matrix k → IsTrue (all || has_limit p k) → x k ≡ z k
 needed_same p s basis nonsingular z point x true agrees is_point k is needed = one_point p s x z basis.counted nonsingular (is_point refl) point k is
 needed_same p s basis nonsingular z point x false agrees is_point k is needed = agrees z point k is needed
 
 -- what a step moves agrees with the point to which it brings the point z, where what it moves agrees with z
 
-pub agrees_moved : (p : LinearProgram) (next : List Status) → IsBasis p next → IsNonsingular p.matrix (basics_of next) → (z d : Vector) (t : ℚ) → IsPointOf p next (along z t d) → (x y : Vector) → AgreesAtLimits p x z →
+pub agrees_moved : (p : LinearProgram) (next : List Status) → IsBasis p next → IsNonsingular p.matrix (basics_of next) → (z d : Vector) (t : ℚ) →
+    IsPointOf p next (along z t d) → (x y : Vector) → AgreesAtLimits p x z →
     IsMovedAtLimits p t d x (size p.matrix) y → AgreesWithPoint p next y
 agrees_moved p next basis nonsingular z d t point x y agrees moved w other k is limited =
     moved k is.0 is.1 limited ∙ ap (λ v. v +ℚ t *ℚ d k) (agrees k is limited) ∙ one_point p next (along z t d) w basis.counted nonsingular point other k is
@@ -109,8 +112,11 @@ module _ (p : LinearProgram) (z w : Vector) (agrees : AgreesAtLimits p z w) wher
       (λ k low high. ap₂ (λ a b. is_in (basics_of s) k && (a || b)) (below_same k (low, omega (arith, high))) (above_same k (low, omega (arith, high))))
 
   pub within_same : IsWithinLimits p w → IsWithinLimits p z
-  within_same within k is =
-      (under_same (lower_of p k) (z k) (w k) (λ some. agrees k is (lower_counts p k some)) (within k is).0, over_same (upper_of p k) (z k) (w k) (λ some. agrees k is (upper_counts p k some)) (within k is).1)
+  within_same within k is = (
+    under_same (lower_of p k) (z k) (w k) (λ some. agrees k is (lower_counts p k some)) (within k is).0,
+    over_same (upper_of p k) (z k) (w k)
+        (λ some. agrees k is (upper_counts p k some)) (within k is).1,
+  )
 
   numbered_same : (k term : ℕ) (l : ℚ) → IsVariable p.matrix k → limit_numbered p k term ≡ Some l → z k ≡ w k
   numbered_same k term l is limit = agrees k is (numbered_counts p k (nat_eq term 1) (nat_eq term 2) (some_is limit))
@@ -118,19 +124,22 @@ module _ (p : LinearProgram) (z w : Vector) (agrees : AgreesAtLimits p z w) wher
   -- ---- what stops a motion
 
   step_length_agrees : (v : Vector) (k : ℕ) → IsVariable p.matrix k → step_length p z v k ≡ step_length p w v k
-  step_length_agrees v k is = length_same (limit_ahead p v k) (z k) (w k) (v k) (λ some. agrees k is (ahead_counts p k (lt_ℚ zero_ℚ (v k)) (lt_ℚ (v k) zero_ℚ) some))
+  step_length_agrees v k is =
+      length_same (limit_ahead p v k) (z k) (w k) (v k) (λ some. agrees k is (ahead_counts p k (lt_ℚ zero_ℚ (v k)) (lt_ℚ (v k) zero_ℚ) some))
 
   stopper_agrees : (v : Vector) → stopper p z v ≡ stopper p w v
   stopper_agrees v =
       find_same (reaches_first p z v) (reaches_first p w v) (size p.matrix) 1 (λ k low high.
-      list_all_same (λ i. is_no_later (step_length p z v k) (step_length p z v i)) (λ i. is_no_later (step_length p w v k) (step_length p w v i)) (size p.matrix) 1 (λ i from to.
+      list_all_same (λ i. is_no_later (step_length p z v k) (step_length p z v i)) (λ i. is_no_later (step_length p w v k) (step_length p w v i))
+      (size p.matrix) 1 (λ i from to.
       ap₂ is_no_later (step_length_agrees v k (low, omega (arith, high))) (step_length_agrees v i (from, omega (arith, to)))))
 
   module _ (d : Vector) (up : Bool) where
     stop_same : (o : Option ℕ) → stopper p w (motion d up) ≡ o → option_map (stop_at p z d up) o ≡ option_map (stop_at p w d up) o
     stop_same None found = refl
     stop_same (Some k) found =
-        ap (λ (r : Option ℚ). Some (record { p = k; step = signed up (unwrap_or r zero_ℚ); to = reached (motion d up) k })) (step_length_agrees (motion d up) k (stopper_some p w (motion d up) k found).0)
+        ap (λ (r : Option ℚ). Some (record { p = k; step = signed up (unwrap_or r zero_ℚ); to = reached (motion d up) k }))
+        (step_length_agrees (motion d up) k (stopper_some p w (motion d up) k found).0)
 
     pub stopper_of_same : stopper_of p z d up ≡ stopper_of p w d up
     stopper_of_same = ap (option_map (stop_at p z d up)) (stopper_agrees (motion d up)) ∙ stop_same (stopper p w (motion d up)) refl
@@ -139,18 +148,24 @@ module _ (p : LinearProgram) (z w : Vector) (agrees : AgreesAtLimits p z w) wher
     step_length_refused q e h = (h.0, h.1, at h.0 h.1 h.2)
       where
         at : (k : ℕ) → IsVariable p.matrix k → StepLengthRefused p z d up q k e → StepLengthRefused p w d up q k e
-        at k is (reach.of_distance term l low ahead limit f) = reach.of_distance term l low ahead limit (subst (λ (x : ℚ). IsRefusal (reach_formula 6 0 k term) Sub l x e) (numbered_same k term l is limit) f)
+        at k is (reach.of_distance term l low ahead limit f) =
+            reach.of_distance term l low ahead limit (subst (λ (x : ℚ). IsRefusal (reach_formula 6 0 k term) Sub l x e) (numbered_same k term l is limit) f)
         at k is (reach.of_quotient term l ahead limit moves other f) =
-            reach.of_quotient term l ahead limit moves other (subst (λ (x : ℚ). IsRefusal (reach_formula 7 q k term) Div (l -ℚ x) (d k) e) (numbered_same k term l is limit) f)
+            reach.of_quotient term l ahead limit moves other
+            (subst (λ (x : ℚ). IsRefusal (reach_formula 7 q k term) Div (l -ℚ x) (d k) e) (numbered_same k term l is limit) f)
 
   -- ---- what brings a variable back
 
-  pub return_same : (d : Vector) (k : ℕ) (to : Status) → IsVariable p.matrix k → IsSome (limit_numbered p k (number_of_limit to)) → return_by p z d k to ≡ return_by p w d k to
+  pub return_same : (d : Vector) (k : ℕ) (to : Status) → IsVariable p.matrix k → IsSome (limit_numbered p k (number_of_limit to)) →
+      return_by p z d k to ≡ return_by p w d k to
   return_same d k to is some =
       ap (λ (x : ℚ). record { p = k; step = (unwrap_or (limit_numbered p k (number_of_limit to)) zero_ℚ -ℚ x) /ℚ d k; to = to })
       (agrees k is (numbered_counts p k (nat_eq (number_of_limit to) 1) (nat_eq (number_of_limit to) 2) some))
 
   pub return_refused : (d : Vector) (q k : ℕ) (to : Status) (e : Evidence) → IsVariable p.matrix k → ReturnRefused p z d q k to e → ReturnRefused p w d q k to e
-  return_refused d q k to e is (of_distance l limit f) = of_distance l limit (subst (λ (x : ℚ). IsRefusal (reach_formula 6 0 k (number_of_limit to)) Sub l x e) (numbered_same k (number_of_limit to) l is limit) f)
+  return_refused d q k to e is (of_distance l limit f) =
+      of_distance l limit
+      (subst (λ (x : ℚ). IsRefusal (reach_formula 6 0 k (number_of_limit to)) Sub l x e) (numbered_same k (number_of_limit to) l is limit) f)
   return_refused d q k to e is (of_quotient l limit other f) =
-      of_quotient l limit other (subst (λ (x : ℚ). IsRefusal (reach_formula 7 q k (number_of_limit to)) Div (l -ℚ x) (d k) e) (numbered_same k (number_of_limit to) l is limit) f)
+      of_quotient l limit other
+      (subst (λ (x : ℚ). IsRefusal (reach_formula 7 q k (number_of_limit to)) Div (l -ℚ x) (d k) e) (numbered_same k (number_of_limit to) l is limit) f)

@@ -32,20 +32,23 @@ forward low high z v x within e = by_tests (lt_ℚ zero_ℚ v) refl (lt_ℚ v ze
     lower : (low : Option ℚ) → IfSome low (λ l. l ≤ℚ z) → v <ℚ zero_ℚ → option_map (λ l. (l -ℚ z) /ℚ v) low ≡ Some x → zero_ℚ ≤ℚ x
     lower None h down e = cc
     lower (Some l) h down e =
-        let turned : neg_ℚ (l -ℚ z) /ℚ neg_ℚ v ≡ (l -ℚ z) /ℚ v = same_quotients (neg_ℚ (l -ℚ z)) (neg_ℚ v) (l -ℚ z) v (apart_from_above (neg_above v down)) (apart_from_below down)
+        let turned : neg_ℚ (l -ℚ z) /ℚ neg_ℚ v ≡ (l -ℚ z) /ℚ v =
+        same_quotients (neg_ℚ (l -ℚ z)) (neg_ℚ v) (l -ℚ z) v (apart_from_above (neg_above v down)) (apart_from_below down)
         (by_ring2 (l -ℚ z) v (λ a v. opposite a ⊗ v ≐ a ⊗ opposite v) refl) in
         let ahead : zero_ℚ ≤ℚ neg_ℚ (l -ℚ z) = subst (λ y. zero_ℚ ≤ℚ y) (by_ring2 z l (λ z l. z ⊖ l ≐ opposite (l ⊖ z)) refl) (difference_above l z h) in
         subst (λ y. zero_ℚ ≤ℚ y) (turned ∙ some_value e)
         (le-div (neg_above v down) (subst (λ y. y ≤ℚ neg_ℚ (l -ℚ z)) (by_ring1 v (λ v. number (pos 0) ≐ number (pos 0) ⊗ opposite v) refl) ahead))
 
-    by_tests : (up : Bool) → lt_ℚ zero_ℚ v ≡ up → (down : Bool) → lt_ℚ v zero_ℚ ≡ down → option_map (λ l. (l -ℚ z) /ℚ v) (if up then high else (if down then low else None)) ≡ Some x → zero_ℚ ≤ℚ x
+    by_tests : (up : Bool) → lt_ℚ zero_ℚ v ≡ up → (down : Bool) → lt_ℚ v zero_ℚ ≡ down →
+        option_map (λ l. (l -ℚ z) /ℚ v) (if up then high else (if down then low else None)) ≡ Some x → zero_ℚ ≤ℚ x
     by_tests true up down down_is e = upper high within.1 (lt_from_test zero_ℚ v up) e
     by_tests false up true down_is e = lower low within.0 (lt_from_test v zero_ℚ down_is) e
     by_tests false up false down_is e = cc
 
 -- what is reached at once among the first n is nearest of all
 module _ (p : LinearProgram) (z v : Vector) (all_within : IsWithinLimits p z) (n : ℕ) (within : n ≤ size p.matrix) where
-  pub nearest_at_once : (nearest : Option Reach) → length_of nearest ≡ Some zero_ℚ → IsNearest (step_length p z v) n nearest → IsNearest (step_length p z v) (size p.matrix) nearest
+  pub nearest_at_once : (nearest : Option Reach) → length_of nearest ≡ Some zero_ℚ → IsNearest (step_length p z v) n nearest →
+      IsNearest (step_length p z v) (size p.matrix) nearest
   nearest_at_once None now h = cc
   nearest_at_once (Some r) now h = record {
     low = h.low;
@@ -55,7 +58,8 @@ module _ (p : LinearProgram) (z v : Vector) (all_within : IsWithinLimits p z) (n
     later = h.later;
   }
     where
-      no_sooner : (i : ℕ) → 1 ≤ i → i ≤ size p.matrix → (o : Option ℚ) → step_length p z v i ≡ o → is_no_later (step_length p z v r.p) (step_length p z v i) ≡ true
+      no_sooner : (i : ℕ) → 1 ≤ i → i ≤ size p.matrix → (o : Option ℚ) → step_length p z v i ≡ o →
+          is_no_later (step_length p z v r.p) (step_length p z v i) ≡ true
       no_sooner i low high None is = rw (h.reaches, is) refl
       no_sooner i low high (Some l) is =
           let ahead : zero_ℚ ≤ℚ l = forward (lower_of p i) (upper_of p i) (z i) (v i) l (all_within i (low, high)) is in

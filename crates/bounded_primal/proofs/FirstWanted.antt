@@ -30,7 +30,8 @@ pub prices_same : (p : LinearProgram) (s : List Status) (x y : Vector) → ArePr
 prices_same p s x y h same = record { rate = h.rate; are_rates = h.are_rates; prices = λ k is. same k is ∙ h.prices k is }
 
 module _ (p : LinearProgram) (s : List Status) (basis : IsBasis p s) (ws : List Wanted) (wants : AreWants p s ws) where
-  pub restoring_found : (r : ℕ) (below : Bool) (xs : Vector) (found : Option ℕ) → IsFirstWanted p.matrix (basics_of s) r ws (not below) xs found → IsRestoring p s r below xs found
+  pub restoring_found : (r : ℕ) (below : Bool) (xs : Vector) (found : Option ℕ) → IsFirstWanted p.matrix (basics_of s) r ws (not below) xs found →
+      IsRestoring p s r below xs found
   restoring_found r below xs found h = record {
     rates = h.rates;
     is_row = h.is_row;
@@ -43,7 +44,8 @@ module _ (p : LinearProgram) (s : List Status) (basis : IsBasis p s) (ws : List 
     worth_is : (ys : Vector) → entering p s (worth_by p ys) ≡ entering p s (motion ys min)
     worth_is ys = entering_same p s basis (worth_by p ys) (motion ys min) (λ k out. counts (ys k))
 
-    pub none_improves : (found : Option ℕ) → found ≡ None → IsFirstWanted p.matrix (basics_of s) p.objective ws min xs found → IsEnteringVariableFound p s xs None
+    pub none_improves : (found : Option ℕ) → found ≡ None → IsFirstWanted p.matrix (basics_of s) p.objective ws min xs found →
+        IsEnteringVariableFound p s xs None
     none_improves found none h =
         let same : (k : ℕ) → IsVariable p.matrix k → xs k ≡ h.rates k = λ k is. h.given k is (given_all found k none) in
         let enters : None ≡ entering p s (motion h.rates min) = sym none ∙ wanted_enters p s ws wants min h.rates found h.least in
@@ -64,11 +66,13 @@ module _ (p : LinearProgram) (s : List Status) (basis : IsBasis p s) (ws : List 
           chosen = ap (λ (m : EnteringVariable). Some m) moved ∙ ap (option_map (moved_by p h.rates)) (enters ∙ sym (worth_is h.rates));
         }
 
-    pub one_improves : (found : Option ℕ) (q : ℕ) (m : EnteringVariable) → found ≡ Some q → m ≡ moved_by p xs q → IsFirstWanted p.matrix (basics_of s) p.objective ws min xs found → Improves p s m
+    pub one_improves : (found : Option ℕ) (q : ℕ) (m : EnteringVariable) → found ≡ Some q → m ≡ moved_by p xs q →
+        IsFirstWanted p.matrix (basics_of s) p.objective ws min xs found → Improves p s m
     one_improves found q m is m_is h = subst (Improves p s) (sym m_is) (found_one q (subst (IsFirstWanted p.matrix (basics_of s) p.objective ws min xs) is h))
 
 -- what is wanted after a step, but for what is renewed
-pub wants_moved : (p : LinearProgram) (s : List Status) (basis : IsBasis p s) (ws : List Wanted) (wants : AreWants p s ws) (d : Vector) (q : ℕ) (by : Stopper) (left : ℕ) (h : MovesOn p s d q by left) (next : List Status)
+pub wants_moved : (p : LinearProgram) (s : List Status) (basis : IsBasis p s) (ws : List Wanted) (wants : AreWants p s ws) (d : Vector) (q : ℕ) (by : Stopper)
+    (left : ℕ) (h : MovesOn p s d q by left) (next : List Status)
     → next ≡ after s (move_by q by) → AreWantsBut p next by.p q ws
 wants_moved p s basis ws wants d q by left h next is =
     wants_after p s ws wants basis (move_by q by) next h.nonbasic.0 (step_reaches p s h.step.point d q by h.step.is_step h.pivot).is_variable is
@@ -78,6 +82,7 @@ pub leaves_variable : (p : LinearProgram) (s : List Status) (d : Vector) (q : �
 leaves_variable p s d q by left h = (step_reaches p s h.step.point d q by h.step.is_step h.pivot).is_variable
 
 -- what improves the objective by all prices
-pub entering_variable_found : (p : LinearProgram) (s : List Status) (y : Vector) (o : Option EnteringVariable) → ArePricesOf p s y → o ≡ entering_variable_by p s y → IsEnteringVariableFound p s y o
+pub entering_variable_found : (p : LinearProgram) (s : List Status) (y : Vector) (o : Option EnteringVariable) → ArePricesOf p s y →
+    o ≡ entering_variable_by p s y → IsEnteringVariableFound p s y o
 entering_variable_found p s y None prices is = (prices, is)
 entering_variable_found p s y (Some m) prices is = record { price = y; prices = prices; chosen = is }

@@ -28,7 +28,8 @@ module _ (p : LinearProgram) (lawful : IsLinearProgram p) (a : Matrix) (b : Basi
   begun = record { is_basis = has.is_basis; nonsingular = has.nonsingular }
 
   -- so far there are fewer steps than status lists
-  pub reached_short : (before : List Basics) (now : List Status) (ways : List Basics) (steps : ℕ) → HasReached turn p s before now ways steps → steps < lists_of p
+  pub reached_short : (before : List Basics) (now : List Status) (ways : List Basics) (steps : ℕ) → HasReached turn p s before now ways steps →
+      steps < lists_of p
   reached_short before now ways steps h = subst (λ n. n < lists_of p) h.taken (short p lawful s h.bases begun h.path.0)
 
   -- no basis comes twice on the path of a call
@@ -36,7 +37,8 @@ module _ (p : LinearProgram) (lawful : IsLinearProgram p) (a : Matrix) (b : Basi
   never_returned now before after h = record { bases = h.bases; is_path = h.is_path; reaches = h.reaches; apart = apart p lawful s h.bases begun h.is_path }
 
   -- a path that goes on after as many steps as the limit allows
-  pub limit_below : {T : Type 0} (now : List Status) (limit : ℕ) (before after : List Basics) (result : Result T PrimalStop) → IfErr result (PrimalStopsAlong p s now limit before after) → IsErrOf result Limit → limit < lists_of p
+  pub limit_below : {T : Type 0} (now : List Status) (limit : ℕ) (before after : List Basics) (result : Result T PrimalStop) →
+      IfErr result (PrimalStopsAlong p s now limit before after) → IsErrOf result Limit → limit < lists_of p
   limit_below now limit before after (Ok value) h is = cc
   limit_below now limit before after (Err Limit) h is = let few = limited p lawful s limit begun h.goes_on in omega (arith, few)
   limit_below now limit before after (Err (Overflow e)) h is = cc
@@ -44,7 +46,8 @@ module _ (p : LinearProgram) (lawful : IsLinearProgram p) (a : Matrix) (b : Basi
 
 -- evidence where one step is left holds where more are
 module _ (p : LinearProgram) (s : List Status) (before after : List Basics) where
-  later_ahead : (statement : SolvingStatement) (left : ℕ) → 1 ≤ left → (ahead : Option (List Status)) → IsAhead statement None 1 s ahead → IsAhead statement None left s ahead
+  later_ahead : (statement : SolvingStatement) (left : ℕ) → 1 ≤ left → (ahead : Option (List Status)) → IsAhead statement None 1 s ahead →
+      IsAhead statement None left s ahead
   later_ahead statement left some None h = tt
   later_ahead statement left some (Some next) h = (some, h.1)
 
@@ -68,17 +71,21 @@ module _ (p : LinearProgram) (s : List Status) (before after : List Basics) wher
   stops_free left stop.NoMemory some h = tt
 
 -- what a path without a limit has reached, and where it ends or stops
-module _ (p : LinearProgram) (lawful : IsLinearProgram p) (a : Matrix) (b : Basics) (s : List Status) (has : HasRates a b p s) (before : List Basics) (now : List Status) (ways : List Basics) (steps : ℕ) (h : HasReached turn p s before now ways steps) where
+module _ (p : LinearProgram) (lawful : IsLinearProgram p) (a : Matrix) (b : Basics) (s : List Status) (has : HasRates a b p s) (before : List Basics)
+    (now : List Status) (ways : List Basics) (steps : ℕ) (h : HasReached turn p s before now ways steps) where
   fewer : steps < lists_of p
   fewer = reached_short p lawful a b s has before now ways steps h
 
-  pub free_stops : (more : List Basics) (why : Stop) → TurnStops p now 1 ways more (primal_stop_of why) → PrimalStopsAlong p s now (lists_of p) before more (primal_stop_of why)
+  pub free_stops : (more : List Basics) (why : Stop) → TurnStops p now 1 ways more (primal_stop_of why) →
+      PrimalStopsAlong p s now (lists_of p) before more (primal_stop_of why)
   free_stops more why stops =
       let few = fewer in
-      stops_there p s before now ways steps h (lists_of p) more (primal_stop_of why) (omega (arith, few)) (stops_free p now ways more (lists_of p - steps) why (omega (arith, few)) stops)
+      stops_there p s before now ways steps h (lists_of p) more (primal_stop_of why) (omega (arith, few))
+      (stops_free p now ways more (lists_of p - steps) why (omega (arith, few)) stops)
 
   pub free_ends : (reported : ℕ) (outcome : Outcome) → reported ≡ counted_steps steps → EndsHere p now reported outcome → CallEnds p s now (lists_of p) outcome
-  free_ends reported outcome is_reported ends = let few = fewer in ends_there turn p s before now ways steps h (lists_of p) reported outcome (omega (arith, few)) is_reported ends
+  free_ends reported outcome is_reported ends =
+      let few = fewer in ends_there turn p s before now ways steps h (lists_of p) reported outcome (omega (arith, few)) is_reported ends
 
 -- the count of steps stands still
 pub counted_more : (reported steps : ℕ) → reported ≡ counted_steps steps → min (reported + 1) 4294967295 ≡ counted_steps (steps + 1)

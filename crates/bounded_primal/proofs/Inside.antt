@@ -40,9 +40,11 @@ neither false b c first second = refl
 feasible_has_none : (p : LinearProgram) (s : List Status) (z : Vector) → IsFeasible p z → least_outside p s z ≡ None
 feasible_has_none p s z h =
     least_none p (λ k. is_in (basics_of s) k && is_outside p z k)
-    (λ k is. let within = h.within k is in neither (is_in (basics_of s) k) (is_below p z k) (is_above p z k) (not_below (lower_of p k) (z k) within.0) (not_above (upper_of p k) (z k) within.1))
+    (λ k is. let within = h.within k is in neither (is_in (basics_of s) k) (is_below p z k) (is_above p z k) (not_below (lower_of p k) (z k) within.0)
+    (not_above (upper_of p k) (z k) within.1))
 
-module _ (p : LinearProgram) (a : Matrix) (b : Basics) (s : List Status) (has : HasRates a b p s) (v : Vector) (agrees : AgreesWithPoint p s v) (uncrossed : IsUncrossed p) (inside : least_outside p s v ≡ None) where
+module _ (p : LinearProgram) (a : Matrix) (b : Basics) (s : List Status) (has : HasRates a b p s) (v : Vector) (agrees : AgreesWithPoint p s v)
+    (uncrossed : IsUncrossed p) (inside : least_outside p s v ≡ None) where
   abbrev z : Vector
   z = (basis_point p s has.is_basis has.nonsingular).0
 
@@ -64,7 +66,8 @@ module _ (p : LinearProgram) (a : Matrix) (b : Basics) (s : List Status) (has : 
   at : IsNonsingularBasis p s
   at = record { is_basis = has.is_basis; nonsingular = has.nonsingular }
 
-  pub stays_inside : IsLinearProgram p → (d : Vector) (q : ℕ) (by : Stopper) (left : ℕ) → MovesOn p s d q by left → (next : List Status) → next ≡ after s (move_by q by) → (x : Vector) → AgreesWithPoint p next x → least_outside p next x ≡ None
+  pub stays_inside : IsLinearProgram p → (d : Vector) (q : ℕ) (by : Stopper) (left : ℕ) → MovesOn p s d q by left → (next : List Status) →
+      next ≡ after s (move_by q by) → (x : Vector) → AgreesWithPoint p next x → least_outside p next x ≡ None
   stays_inside lawful d q by left moves next is x follows =
       let step : IsStep p s next = record { tableau = moves.moves.0; is_tableau = moves.moves.1; move = move_by q by; turns = moves.moves.2; is_next = is } in
       let led = step_leads p s next at step in

@@ -21,7 +21,8 @@ use Rattle.bounded_primal.proofs.Still.{no_step_length}
 
 pub listed_cover : (xs : List ℚ) (n : ℕ) (ks : List ℕ) → AreNonzeroFrom xs n ks → CoverNonzeroFrom xs n ks
 listed_cover xs n [] (no_more zeros) = no_more_listed zeros
-listed_cover xs n (k ∷ ks) (next_nonzero h rest) = next_listed (record { from = h.from; within = h.within; between = h.between }) (listed_cover xs (suc k) ks rest)
+listed_cover xs n (k ∷ ks) (next_nonzero h rest) =
+    next_listed (record { from = h.from; within = h.within; between = h.between }) (listed_cover xs (suc k) ks rest)
 
 -- ---- how the loop goes on
 
@@ -75,9 +76,11 @@ module _ (xs : List ℚ) (Done : ℕ → Type 0) where
         at : CoverNonzeroFrom xs (suc h.upto) [] → Done (length xs)
         at (no_more_listed zeros) = over h.upto (length xs) h.within (λ i above high. zeros i (omega (arith, above))) h.done
 
-    pub next_at : (ks : List ℕ) (place k : ℕ) → place < length ks → k ≡ get_or ks place 0 → IsDoneUpTo xs Done (drop place ks) → IsDoneBefore xs Done k (drop (place + 1) ks)
+    pub next_at : (ks : List ℕ) (place k : ℕ) → place < length ks → k ≡ get_or ks place 0 → IsDoneUpTo xs Done (drop place ks) →
+        IsDoneBefore xs Done k (drop (place + 1) ks)
     next_at ks place k below is h =
-        next_of k (drop (place + 1) ks) (subst (λ (j : ℕ). IsDoneUpTo xs Done (j ∷ drop (place + 1) ks)) (sym is) (subst (IsDoneUpTo xs Done) (drop_more ks place 0 below) h))
+        next_of k (drop (place + 1) ks)
+        (subst (λ (j : ℕ). IsDoneUpTo xs Done (j ∷ drop (place + 1) ks)) (sym is) (subst (IsDoneUpTo xs Done) (drop_more ks place 0 below) h))
 
     pub end_at : (ks : List ℕ) (place : ℕ) → length ks ≤ place → IsDoneUpTo xs Done (drop place ks) → Done (length xs)
     end_at ks place past h = end_of (subst (IsDoneUpTo xs Done) (drop_all place ks past) h)
@@ -85,7 +88,8 @@ module _ (xs : List ℚ) (Done : ℕ → Type 0) where
 -- ---- what reaches a limit first
 
 -- what is nearest stays nearest over those that reach no limit
-nearest_beyond : (f : ℕ → Option ℚ) (n m : ℕ) (nearest : Option Reach) → n ≤ m → ((k : ℕ) → n < k → k ≤ m → f k ≡ None) → IsNearest f n nearest → IsNearest f m nearest
+nearest_beyond : (f : ℕ → Option ℚ) (n m : ℕ) (nearest : Option Reach) → n ≤ m → ((k : ℕ) → n < k → k ≤ m → f k ≡ None) → IsNearest f n nearest →
+    IsNearest f m nearest
 nearest_beyond f n m None within none h = λ k low high. at k low high (cases_lt n k)
   where
     at : (k : ℕ) → 1 ≤ k → k ≤ m → (n < k) ⊎ (k ≤ n) → f k ≡ None
@@ -108,11 +112,15 @@ module _ (p : LinearProgram) (z d : Vector) (up : Bool) where
   NearestUpTo nearest n = IsNearest (step_length p z (motion d up)) n nearest
 
   pub nearest_over : (nearest : Option Reach) (n m : ℕ) → n ≤ m → StandStill d n m → NearestUpTo nearest n → NearestUpTo nearest m
-  nearest_over nearest n m within still = nearest_beyond (step_length p z (motion d up)) n m nearest within (λ k more high. sym (no_step_length p z d up k (still k more high)))
+  nearest_over nearest n m within still =
+      nearest_beyond (step_length p z (motion d up)) n m nearest within (λ k more high. sym (no_step_length p z d up k (still k more high)))
 
-  pub nearest_by : (n k : ℕ) (nearest next : Option Reach) (length : Option ℚ) → n + 1 ≡ k → NearestUpTo nearest n → length ≡ step_length p z (motion d up) k → next ≡ sooner nearest length k → NearestUpTo next k
+  pub nearest_by : (n k : ℕ) (nearest next : Option Reach) (length : Option ℚ) → n + 1 ≡ k → NearestUpTo nearest n → length ≡ step_length p z (motion d up) k →
+      next ≡ sooner nearest length k → NearestUpTo next k
   nearest_by n k nearest next length e h is found =
-      subst (NearestUpTo next) e (nearest_more (step_length p z (motion d up)) n nearest next length h (is ∙ ap (step_length p z (motion d up)) (sym e)) (found ∙ ap (sooner nearest length) (sym e)))
+      subst (NearestUpTo next) e
+      (nearest_more (step_length p z (motion d up)) n nearest next length h (is ∙ ap (step_length p z (motion d up)) (sym e))
+      (found ∙ ap (sooner nearest length) (sym e)))
 
 -- ---- where the values come to stand
 
@@ -129,13 +137,15 @@ module _ (t : ℚ) (d z : Vector) (Asked : ℕ → Type 0) where
       at (inr le) = h k low le asked
 
   -- the next one is moved, or isn't asked
-  ahead_by : (ws : List ℚ) (n k : ℕ) (x : ℚ) → n + 1 ≡ k → k ≤ length ws → x ≡ z k +ℚ t *ℚ d k → AreAhead (value_at ws) n → AreAhead (value_at (slice_set ws (k - 1) x)) k
+  ahead_by : (ws : List ℚ) (n k : ℕ) (x : ℚ) → n + 1 ≡ k → k ≤ length ws → x ≡ z k +ℚ t *ℚ d k → AreAhead (value_at ws) n →
+      AreAhead (value_at (slice_set ws (k - 1) x)) k
   ahead_by ws n k x e within is h j low high asked = at (cases_lt n j)
     where
       at : (n < j) ⊎ (j ≤ n) → value_at (slice_set ws (k - 1) x) j ≡ z j +ℚ t *ℚ d j
       at (inl more) =
           let here : j ≡ k = omega (arith, e, more, high) in
-          ap (value_at (slice_set ws (k - 1) x)) here ∙ get_or-set_same ws (k - 1) x zero_ℚ (omega (arith, e, within)) ∙ is ∙ ap (λ (i : ℕ). z i +ℚ t *ℚ d i) (sym here)
+          ap (value_at (slice_set ws (k - 1) x)) here ∙ get_or-set_same ws (k - 1) x zero_ℚ (omega (arith, e, within)) ∙ is
+          ∙ ap (λ (i : ℕ). z i +ℚ t *ℚ d i) (sym here)
       at (inr le) = get_or-set_other ws (k - 1) (j - 1) x zero_ℚ (λ same. omega (arith, low, le, e, same)) ∙ h j low le asked
 
   ahead_but : (w : Vector) (n k : ℕ) → n + 1 ≡ k → (Asked k → ⊥) → AreAhead w n → AreAhead w k
@@ -162,7 +172,8 @@ module _ (p : LinearProgram) (t : ℚ) (d z : Vector) where
   }
 
   -- one that moves
-  pub moved_by : (ws : List ℚ) (all : Bool) (n k : ℕ) (x value rate : ℚ) → n + 1 ≡ k → k ≤ length ws → value ≡ value_at ws k → rate ≡ d k → x ≡ value +ℚ t *ℚ rate →
+  pub moved_by : (ws : List ℚ) (all : Bool) (n k : ℕ) (x value rate : ℚ) → n + 1 ≡ k → k ≤ length ws → value ≡ value_at ws k → rate ≡ d k →
+      x ≡ value +ℚ t *ℚ rate →
       IsMovedUpTo p t d z (value_at ws) all n → IsMovedUpTo p t d z (value_at (slice_set ws (k - 1) x)) all k
   moved_by ws all n k x value rate e within value_is rate_is is h =
       let there : x ≡ z k +ℚ t *ℚ d k = is ∙ ap₂ (λ (v r : ℚ). v +ℚ t *ℚ r) (value_is ∙ h.rest k (omega (arith, e))) rate_is in
@@ -173,7 +184,8 @@ module _ (p : LinearProgram) (t : ℚ) (d z : Vector) where
       }
 
   -- one without a limit that is left where it is, where not all are kept
-  pub moved_but : (w : Vector) (all now : Bool) (n k : ℕ) → n + 1 ≡ k → (IsTrue (has_limit p k) → ⊥) → (IsTrue now → ⊥) → IsMovedUpTo p t d z w all n → IsMovedUpTo p t d z w now k
+  pub moved_but : (w : Vector) (all now : Bool) (n k : ℕ) → n + 1 ≡ k → (IsTrue (has_limit p k) → ⊥) → (IsTrue now → ⊥) → IsMovedUpTo p t d z w all n →
+      IsMovedUpTo p t d z w now k
   moved_but w all now n k e free some h = record {
     limited = ahead_but t d z (λ j. IsTrue (has_limit p j)) w n k e free h.limited;
     moved = λ kept. absurd (some kept);

@@ -36,7 +36,8 @@ module _ (a : Matrix) where
   within_reached s (next ∷ bases) = inr (within_reached next bases)
 
 -- one more step of a path
-path_more : (rule : Rule) (p : LinearProgram) (s : List Status) (bases : List (List Status)) (next : List Status) → RulePath rule p s bases → RuleStep rule p (last_of s bases) next → RulePath rule p s (bases ++ next ∷ [])
+path_more : (rule : Rule) (p : LinearProgram) (s : List Status) (bases : List (List Status)) (next : List Status) → RulePath rule p s bases →
+    RuleStep rule p (last_of s bases) next → RulePath rule p s (bases ++ next ∷ [])
 path_more rule p s [] next path step = (step, tt)
 path_more rule p s (b ∷ bases) next path step = (path.0, path_more rule p b bases next path.1 step)
 
@@ -54,7 +55,8 @@ before_last s [] = ([], refl)
 before_last s (next ∷ bases) = let rest = before_last next bases in (s ∷ rest.0, ap (λ xs. s ∷ xs) rest.1)
 
 -- the walk from s, with the waypoints before, has reached now
-pub record HasReached (rule : Rule) (p : LinearProgram) (s : List Status) (before : List Basics) (now : List Status) (ways : List Basics) (steps : ℕ) : Type 0 where
+pub record HasReached (rule : Rule) (p : LinearProgram) (s : List Status) (before : List Basics) (now : List Status) (ways : List Basics)
+    (steps : ℕ) : Type 0 where
   pub bases : List (List Status)
   pub path : RulePath rule p s bases × (last_of s bases ≡ now)
   pub taken : length bases ≡ steps
@@ -75,7 +77,8 @@ module _ (rule : Rule) (p : LinearProgram) (s : List Status) (before : List Basi
       own : (earlier : List (List Status)) → IsWithinOne p.matrix (basics_of s) (map basics_of (earlier ++ s ∷ []))
       own earlier = within_suffix p.matrix (basics_of s) earlier (s ∷ []) (inl (within_itself p.matrix (basics_of s)))
 
-      place : (earlier : List (List Status)) → LieIn p.matrix before (earlier ++ s ∷ []) → (w : Basics) → IsKept p.matrix (basics_of s) before (basics_of s) w → IsWithinOne p.matrix w (map basics_of (earlier ++ s ∷ []))
+      place : (earlier : List (List Status)) → LieIn p.matrix before (earlier ++ s ∷ []) → (w : Basics) → IsKept p.matrix (basics_of s) before (basics_of s) w →
+          IsWithinOne p.matrix w (map basics_of (earlier ++ s ∷ []))
       place earlier lie w (inl old) = All-contains (λ w. IsWithinOne p.matrix w (map basics_of (earlier ++ s ∷ []))) before w lie old
       place earlier lie w (inr (inl within)) = within_by p.matrix w (basics_of s) (map basics_of (earlier ++ s ∷ [])) within (own earlier)
       place earlier lie w (inr (inr within)) = within_by p.matrix w (basics_of s) (map basics_of (earlier ++ s ∷ [])) within (own earlier)
@@ -89,13 +92,17 @@ module _ (rule : Rule) (p : LinearProgram) (s : List Status) (before : List Basi
 
   module _ (now : List Status) (ways : List Basics) (steps : ℕ) (h : HasReached rule p s before now ways steps) where
     reached_within : (earlier : List (List Status)) → IsWithinOne p.matrix (basics_of now) (map basics_of (earlier ++ s ∷ h.bases))
-    reached_within earlier = subst (λ (x : List Status). IsWithinOne p.matrix (basics_of x) (map basics_of (earlier ++ s ∷ h.bases))) h.path.1 (within_suffix p.matrix (basics_of (last_of s h.bases)) earlier (s ∷ h.bases) (within_reached p.matrix s h.bases))
+    reached_within earlier =
+        subst (λ (x : List Status). IsWithinOne p.matrix (basics_of x) (map basics_of (earlier ++ s ∷ h.bases))) h.path.1
+        (within_suffix p.matrix (basics_of (last_of s h.bases)) earlier (s ∷ h.bases) (within_reached p.matrix s h.bases))
 
     -- the same after calls at the basis that is reached
     pub reached_later : (more : List Basics) → KeepsWaypoints p.matrix (basics_of now) ways (basics_of now) more → HasReached rule p s before now more steps
-    reached_later more keeps = record { bases = h.bases; path = h.path; taken = h.taken; lie = λ earlier lie k d below. place earlier lie (get_or more k d) (keeps.each k d below) }
+    reached_later more keeps =
+        record { bases = h.bases; path = h.path; taken = h.taken; lie = λ earlier lie k d below. place earlier lie (get_or more k d) (keeps.each k d below) }
       where
-        place : (earlier : List (List Status)) → LieIn p.matrix before (earlier ++ s ∷ []) → (w : Basics) → IsKept p.matrix (basics_of now) ways (basics_of now) w → IsWithinOne p.matrix w (map basics_of (earlier ++ s ∷ h.bases))
+        place : (earlier : List (List Status)) → LieIn p.matrix before (earlier ++ s ∷ []) → (w : Basics) →
+            IsKept p.matrix (basics_of now) ways (basics_of now) w → IsWithinOne p.matrix w (map basics_of (earlier ++ s ∷ h.bases))
         place earlier lie w (inl old) = All-contains (λ w. IsWithinOne p.matrix w (map basics_of (earlier ++ s ∷ h.bases))) ways w (h.lie earlier lie) old
         place earlier lie w (inr (inl within)) = within_by p.matrix w (basics_of now) (map basics_of (earlier ++ s ∷ h.bases)) within (reached_within earlier)
         place earlier lie w (inr (inr within)) = within_by p.matrix w (basics_of now) (map basics_of (earlier ++ s ∷ h.bases)) within (reached_within earlier)
@@ -104,26 +111,33 @@ module _ (rule : Rule) (p : LinearProgram) (s : List Status) (before : List Basi
     follows_later more keeps = follows now more steps (reached_later more keeps)
 
     -- a step more
-    pub goes_over : (next : List Status) (more : List Basics) → RuleStep rule p now next → KeepsWaypoints p.matrix (basics_of now) ways (basics_of next) more → HasReached rule p s before next more (steps + 1)
+    pub goes_over : (next : List Status) (more : List Basics) → RuleStep rule p now next → KeepsWaypoints p.matrix (basics_of now) ways (basics_of next) more →
+        HasReached rule p s before next more (steps + 1)
     goes_over next more step keeps = record {
       bases = h.bases ++ next ∷ [];
       path = (path_more rule p s h.bases next h.path.0 (subst (λ (x : List Status). RuleStep rule p x next) (sym h.path.1) step), last_more s h.bases next);
       taken = length_more h.bases next ∙ ap (λ n. n + 1) h.taken;
-      lie = λ earlier lie k d below. subst (λ (xs : List (List Status)). IsWithinOne p.matrix (get_or more k d) (map basics_of xs)) (append_assoc earlier (s ∷ h.bases) (next ∷ []))
+      lie =
+          λ earlier lie k d below. subst (λ (xs : List (List Status)). IsWithinOne p.matrix (get_or more k d) (map basics_of xs))
+          (append_assoc earlier (s ∷ h.bases) (next ∷ []))
           (place earlier lie (get_or more k d) (keeps.each k d below));
     }
       where
-        place : (earlier : List (List Status)) → LieIn p.matrix before (earlier ++ s ∷ []) → (w : Basics) → IsKept p.matrix (basics_of now) ways (basics_of next) w → IsWithinOne p.matrix w (map basics_of ((earlier ++ s ∷ h.bases) ++ next ∷ []))
+        place : (earlier : List (List Status)) → LieIn p.matrix before (earlier ++ s ∷ []) → (w : Basics) →
+            IsKept p.matrix (basics_of now) ways (basics_of next) w → IsWithinOne p.matrix w (map basics_of ((earlier ++ s ∷ h.bases) ++ next ∷ []))
         place earlier lie w (inl old) =
-            within_prefix p.matrix w (earlier ++ s ∷ h.bases) (next ∷ []) (All-contains (λ w. IsWithinOne p.matrix w (map basics_of (earlier ++ s ∷ h.bases))) ways w (h.lie earlier lie) old)
+            within_prefix p.matrix w (earlier ++ s ∷ h.bases) (next ∷ [])
+            (All-contains (λ w. IsWithinOne p.matrix w (map basics_of (earlier ++ s ∷ h.bases))) ways w (h.lie earlier lie) old)
         place earlier lie w (inr (inl within)) =
-            within_prefix p.matrix w (earlier ++ s ∷ h.bases) (next ∷ []) (within_by p.matrix w (basics_of now) (map basics_of (earlier ++ s ∷ h.bases)) within (reached_within earlier))
+            within_prefix p.matrix w (earlier ++ s ∷ h.bases) (next ∷ [])
+            (within_by p.matrix w (basics_of now) (map basics_of (earlier ++ s ∷ h.bases)) within (reached_within earlier))
         place earlier lie w (inr (inr within)) =
             within_by p.matrix w (basics_of next) (map basics_of ((earlier ++ s ∷ h.bases) ++ next ∷ [])) within
             (within_suffix p.matrix (basics_of next) (earlier ++ s ∷ h.bases) (next ∷ []) (inl (within_itself p.matrix (basics_of next))))
 
     -- the path ends
-    pub ends_there : (limit reported : ℕ) (outcome : Outcome) → steps ≤ limit → reported ≡ counted_steps steps → RuleEndsHere rule p now reported outcome → RuleCallEnds rule p s now limit outcome
+    pub ends_there : (limit reported : ℕ) (outcome : Outcome) → steps ≤ limit → reported ≡ counted_steps steps → RuleEndsHere rule p now reported outcome →
+        RuleCallEnds rule p s now limit outcome
     ends_there limit reported outcome within is_reported e = record {
       bases = h.bases;
       ending = e.ending;
@@ -148,7 +162,8 @@ module _ (rule : Rule) (p : LinearProgram) (s : List Status) (before : List Basi
 
     -- or stops, by evidence at the basis that it has reached
     pub overflows_there : (statement : SolvingStatement) (limit : ℕ) (more : List Basics) (e : Evidence) → steps ≤ limit → e.way ≤ length more →
-        ((earlier : List (List Status)) → LieIn p.matrix ways (earlier ++ now ∷ []) → EvidenceHolds statement None (limit - steps) (earlier ++ now ∷ []) [] now (waypoint (basics_of now) more e.way) e) →
+        ((earlier : List (List Status)) → LieIn p.matrix ways (earlier ++ now ∷ []) →
+        EvidenceHolds statement None (limit - steps) (earlier ++ now ∷ []) [] now (waypoint (basics_of now) more e.way) e) →
         RuleStopsOnPath rule statement p s now limit before more e
     overflows_there statement limit more e within is_way shows = record {
       bases = h.bases;
@@ -158,7 +173,8 @@ module _ (rule : Rule) (p : LinearProgram) (s : List Status) (before : List Basi
       is_way = is_way;
       shows = λ earlier lie.
           subst (λ (n : ℕ). EvidenceHolds statement None (limit - n) (earlier ++ s ∷ h.bases) [] now (waypoint (basics_of now) more e.way) e) (sym h.taken)
-          (subst (λ (xs : List (List Status)). EvidenceHolds statement None (limit - steps) xs [] now (waypoint (basics_of now) more e.way) e) (sym (whole earlier))
+          (subst (λ (xs : List (List Status)). EvidenceHolds statement None (limit - steps) xs [] now (waypoint (basics_of now) more e.way) e)
+          (sym (whole earlier))
           (shows (earlier ++ initial.0) (subst (LieIn p.matrix ways) (whole earlier) (h.lie earlier lie))));
     }
       where
@@ -170,8 +186,10 @@ module _ (rule : Rule) (p : LinearProgram) (s : List Status) (before : List Basi
 
 -- ---- a stop of the simplex path
 
-module _ (p : LinearProgram) (s : List Status) (before : List Basics) (now : List Status) (ways : List Basics) (steps : ℕ) (h : HasReached turn p s before now ways steps) where
-  pub stops_there : (limit : ℕ) (more : List Basics) (stop : PrimalStop) → steps ≤ limit → TurnStops p now (limit - steps) ways more stop → PrimalStopsAlong p s now limit before more stop
+module _ (p : LinearProgram) (s : List Status) (before : List Basics) (now : List Status) (ways : List Basics) (steps : ℕ)
+    (h : HasReached turn p s before now ways steps) where
+  pub stops_there : (limit : ℕ) (more : List Basics) (stop : PrimalStop) → steps ≤ limit → TurnStops p now (limit - steps) ways more stop →
+      PrimalStopsAlong p s now limit before more stop
   stops_there limit more Limit within t = goes_on_there turn p s before now ways steps h limit (omega (arith, t.0, within)) t.1.0 t.1.1
   stops_there limit more NoMemory within t = (h.bases, (h.path.0, h.path.1), omega (arith, h.taken, within))
   stops_there limit more (Overflow e) within t = overflows_there turn p s before now ways steps h (job_of p p.change) limit more e within t.is_way t.shows

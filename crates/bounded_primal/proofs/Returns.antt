@@ -16,7 +16,8 @@ pub some_limit : (o : Option ℚ) → IsSome o → o ≡ Some (unwrap_or o zero_
 some_limit None h = cc
 some_limit (Some l) h = cc
 
-module _ (p : LinearProgram) (z d : Vector) (q k : ℕ) (to : Status) (e : Evidence) (number : ℕ) (limit value : ℚ) (some : IsSome (limit_numbered p k (number_of_limit to))) (number_is : number ≡ number_of_limit to)
+module _ (p : LinearProgram) (z d : Vector) (q k : ℕ) (to : Status) (e : Evidence) (number : ℕ) (limit value : ℚ)
+    (some : IsSome (limit_numbered p k (number_of_limit to))) (number_is : number ≡ number_of_limit to)
     (limit_is : limit ≡ unwrap_or (limit_numbered p k (number_of_limit to)) zero_ℚ) (value_is : value ≡ z k) where
   there : limit_numbered p k (number_of_limit to) ≡ Some limit
   there = some_limit (limit_numbered p k (number_of_limit to)) some ∙ ap Some (sym limit_is)
@@ -27,7 +28,8 @@ module _ (p : LinearProgram) (z d : Vector) (q k : ℕ) (to : Status) (e : Evide
       (subst (λ (x : ℚ). IsRefusal (reach_formula 6 0 k (number_of_limit to)) Sub limit x e) value_is
       (subst (λ (g : Formula). IsRefusal g Sub limit value e) (is ∙ ap (reach_formula 6 0 k) number_is) h))
 
-  pub change_refused : (distance rate : ℚ) → distance ≡ limit -ℚ value → rate ≡ d k → (f : Formula) → f ≡ reach_formula 7 q k number → IsRefusal f Div distance rate e → rate ≢ one_ℚ → ReturnRefused p z d q k to e
+  pub change_refused : (distance rate : ℚ) → distance ≡ limit -ℚ value → rate ≡ d k → (f : Formula) → f ≡ reach_formula 7 q k number →
+      IsRefusal f Div distance rate e → rate ≢ one_ℚ → ReturnRefused p z d q k to e
   change_refused distance rate far rate_is f is h other =
       of_quotient limit there (λ own. other (rate_is ∙ own))
       (subst (λ (x : ℚ). IsRefusal (reach_formula 7 q k (number_of_limit to)) Div (limit -ℚ z k) x e) rate_is

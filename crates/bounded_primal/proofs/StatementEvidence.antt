@@ -44,7 +44,8 @@ module _ (p : LinearProgram) (o : Option Change) (s : List Status) (t : Tableau)
   slack_as (f6_slack i names is refused) = f6_slack i names is refused
 
   step_as : (r q : ℕ) (to : Status) (step : ℚ) → IsStepTo p s t r q to step → IsStepTo (changed p o) s t r q to step
-  step_as r q to step h = record { limit = h.limit; is_limit = h.is_limit; is_variable = h.is_variable; is_nonbasic = h.is_nonbasic; moves = h.moves; is_step = h.is_step }
+  step_as r q to step h =
+      record { limit = h.limit; is_limit = h.is_limit; is_variable = h.is_variable; is_nonbasic = h.is_nonbasic; moves = h.moves; is_step = h.is_step }
 
   move_as : (to : Status) → MoveFormula p s t to e → MoveFormula (changed p o) s t to e
   move_as to (f8 r q i step names step_to is refused) = f8 r q i step names (step_as r q to step step_to) is refused
@@ -85,14 +86,16 @@ module _ (p : LinearProgram) (o : Option Change) (other : SolvingStatement) (s :
     formula_as t w rate (by_carried f) = by_carried (subst (λ (q : LinearProgram). CarriedFormula q.matrix (basics_of s) t.rate w rate e) is f)
     formula_as t w rate (by_point f) = by_point (subst (λ (q : LinearProgram). PointFormula q s t e) is (point_as p o s t e f))
     formula_as t w rate (by_slack f) = by_slack (subst (λ (q : LinearProgram). SlackFormula q s t e) is (slack_as p o s t e f))
-    formula_as t w rate (by_move to may f) = by_move to (goes to may (move_number p o s t e to f)) (subst (λ (q : LinearProgram). MoveFormula q s t to e) is (move_as p o s t e to f))
+    formula_as t w rate (by_move to may f) =
+        by_move to (goes to may (move_number p o s t e to f)) (subst (λ (q : LinearProgram). MoveFormula q s t to e) is (move_as p o s t e to f))
     formula_as t w rate (by_ratio f) = absurd (clash (sym number ∙ ratio_number p o s t e f))
     formula_as t w rate (by_range f) = absurd (clash (sym number ∙ range_number p o s t e f))
     formula_as t w rate (by_objective f) = absurd (clash (sym number ∙ objective_number p o s t e (change_row (Primal p)) f))
     formula_as t w rate (by_slope u is_u f) = absurd (clash (sym number ∙ slope_number p o s u e (shift_at (Primal p)) f))
 
     -- and with waypoints in wider sets
-    pub shows_as : (around wider : List Basics) (w : Basics) → Covers p.matrix around wider → ShowsRefusal (Primal p) Goes around s w e → ShowsRefusal other Other wider s w e
+    pub shows_as : (around wider : List Basics) (w : Basics) → Covers p.matrix around wider → ShowsRefusal (Primal p) Goes around s w e →
+        ShowsRefusal other Other wider s w e
     shows_as around wider w cover h = record {
       tableau = h.tableau;
       is_tableau = subst (λ (q : LinearProgram). IsTableau q s h.tableau) is
@@ -109,7 +112,8 @@ module _ (p : LinearProgram) (o : Option Change) (other : SolvingStatement) (s :
   -- ---- at the basis s, in a run
 
   module _ (no_change : p.change ≡ None) (breakpoint : Option ℚ) (left : ℕ) (before now : List Basics)
-      (is_theta : (ends : List ℚ) → Contains (thetas_of other ends) e.theta) (of_move : IsOfMove other breakpoint s e) (of_statement : IsTrue (belongs other e)) where
+      (is_theta : (ends : List ℚ) → Contains (thetas_of other ends) e.theta) (of_move : IsOfMove other breakpoint s e)
+      (of_statement : IsTrue (belongs other e)) where
     module _ (Goes : Status → Type 0) (goes : (to : Status) → Goes to → is_between 8 9 e.formula ≡ true → GoesTo other breakpoint s e to) where
       viewed : (around : List Basics) → StopsAt Goes p around s now e → ShowsRefusal (Primal p) Goes around s (waypoint (basics_of s) now e.way) e
       viewed around h = subst (λ (c : Option Change). ShowsRefusal (job_of p c) Goes around s (waypoint (basics_of s) now e.way) e) no_change h.shows
@@ -144,7 +148,8 @@ module _ (p : LinearProgram) (o : Option Change) (other : SolvingStatement) (s :
       within_next [] next = inl (within_itself p.matrix (basics_of next))
       within_next (x ∷ xs) next = inr (within_next xs next)
 
-      covers_more : (ways : List Basics) (xs ys : List (List Status)) → Covers p.matrix ways (map basics_of xs) → Covers p.matrix ways (map basics_of (xs ++ ys))
+      covers_more : (ways : List Basics) (xs ys : List (List Status)) → Covers p.matrix ways (map basics_of xs) →
+          Covers p.matrix ways (map basics_of (xs ++ ys))
       covers_more [] xs ys h = tt
       covers_more (w ∷ ways) xs ys h = (within_more w xs ys h.0, covers_more ways xs ys h.1)
 
@@ -162,7 +167,8 @@ module _ (p : LinearProgram) (o : Option Change) (other : SolvingStatement) (s :
               (map basics_of ((earlier ++ s ∷ []) ++ after s m ∷ [])) (waypoint (basics_of s) now e.way) (
                 within_more (basics_of s) (earlier ++ s ∷ []) (after s m ∷ []) (own_within earlier),
                 (
-                  subst (λ (b : Basics). IsWithinOne p.matrix b (map basics_of ((earlier ++ s ∷ []) ++ after s m ∷ []))) leads (within_next (earlier ++ s ∷ []) (after s m)),
+                  subst (λ (b : Basics). IsWithinOne p.matrix b (map basics_of ((earlier ++ s ∷ []) ++ after s m ∷ []))) leads
+                      (within_next (earlier ++ s ∷ []) (after s m)),
                   covers_more before (earlier ++ s ∷ []) (after s m ∷ []) (Covers-all p.matrix before (map basics_of (earlier ++ s ∷ [])) lie),
                 ),
               )
@@ -189,7 +195,8 @@ module _ (statement : SolvingStatement) (Other : Status → Type 0) (s : List St
   any_move t w rate (by_slope u is f) = by_slope u is f
 
 module _ (statement : SolvingStatement) (a : Matrix) (s : List Status) (e : Evidence) (breakpoint : Option ℚ) (left : ℕ) (before now : List Basics)
-    (is_theta : (ends : List ℚ) → Contains (thetas_of statement ends) e.theta) (of_move : IsOfMove statement breakpoint s e) (of_statement : IsTrue (belongs statement e)) where
+    (is_theta : (ends : List ℚ) → Contains (thetas_of statement ends) e.theta) (of_move : IsOfMove statement breakpoint s e)
+    (of_statement : IsTrue (belongs statement e)) where
   in_last : (b : Matrix) (w : Basics) → IsWithinOne b w (basics_of s ∷ []) → (xs : List (List Status)) → IsWithinOne b w (map basics_of (xs ++ s ∷ []))
   in_last b w (inl h) [] = inl h
   in_last b w (inr h) [] = inr h
@@ -204,16 +211,18 @@ module _ (statement : SolvingStatement) (a : Matrix) (s : List Status) (e : Evid
       reached = refl;
       ahead = None;
       is_ahead = tt;
-      shows = subst (λ (w : Basics). ShowsRefusal statement (GoesTo statement breakpoint s e) (map basics_of (earlier ++ s ∷ [])) s w e) (sym (ap (waypoint (basics_of s) now) no_way)) (record {
-        tableau = h.tableau;
-        is_tableau = h.is_tableau;
-        way_rate = h.way_rate;
-        are_way_rates = h.are_way_rates;
-        formula = any_move statement (GoesTo statement breakpoint s e) s e h.tableau (basics_of s) h.way_rate h.formula;
-        is_way = (h.is_way.0, in_last (program_at statement e.theta).matrix (basics_of s) h.is_way.1 earlier);
-        reaches = λ names. let there = h.reaches names in (there.0, in_last (program_at statement e.theta).matrix (exchanged (basics_of s) e.p e.q) there.1 earlier);
-        no_way = h.no_way;
-      });
+      shows = subst (λ (w : Basics). ShowsRefusal statement (GoesTo statement breakpoint s e) (map basics_of (earlier ++ s ∷ [])) s w e)
+          (sym (ap (waypoint (basics_of s) now) no_way)) (record {
+            tableau = h.tableau;
+            is_tableau = h.is_tableau;
+            way_rate = h.way_rate;
+            are_way_rates = h.are_way_rates;
+            formula = any_move statement (GoesTo statement breakpoint s e) s e h.tableau (basics_of s) h.way_rate h.formula;
+            is_way = (h.is_way.0, in_last (program_at statement e.theta).matrix (basics_of s) h.is_way.1 earlier);
+            reaches =
+                λ names. let there = h.reaches names in (there.0, in_last (program_at statement e.theta).matrix (exchanged (basics_of s) e.p e.q) there.1 earlier);
+            no_way = h.no_way;
+          });
       is_theta = is_theta ends;
       of_move = of_move;
       of_statement = of_statement;

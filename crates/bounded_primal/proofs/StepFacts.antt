@@ -39,7 +39,8 @@ pub record ReachesLimit (p : LinearProgram) (z d : Vector) (by : Stopper) : Type
   pub is_limit : limit_numbered p by.p (number_of_limit by.to) ≡ Some limit
   pub is_step : by.step ≡ (limit -ℚ z by.p) /ℚ d by.p
 
-ahead_numbered : (p : LinearProgram) (k : ℕ) (l : ℚ) (up down : Bool) → (if up then upper_of p k else (if down then lower_of p k else None)) ≡ Some l → limit_numbered p k (number_of_limit (if up then Ul else Ll)) ≡ Some l
+ahead_numbered : (p : LinearProgram) (k : ℕ) (l : ℚ) (up down : Bool) → (if up then upper_of p k else (if down then lower_of p k else None)) ≡ Some l →
+    limit_numbered p k (number_of_limit (if up then Ul else Ll)) ≡ Some l
 ahead_numbered p k l true down e = e
 ahead_numbered p k l false true e = e
 ahead_numbered p k l false false e = cc
@@ -48,7 +49,8 @@ signed_twice : (up : Bool) (x : ℚ) → signed up (signed up x) ≡ x
 signed_twice true x = refl
 signed_twice false x = by_ring1 x (λ x. opposite (opposite x) ≐ x) refl
 
-stop_reaches : (p : LinearProgram) (z d : Vector) (up : Bool) (k : ℕ) → stopper p z (motion d up) ≡ Some k → d k ≢ zero_ℚ → ReachesLimit p z d (stop_at p z d up k)
+stop_reaches : (p : LinearProgram) (z d : Vector) (up : Bool) (k : ℕ) → stopper p z (motion d up) ≡ Some k → d k ≢ zero_ℚ →
+    ReachesLimit p z d (stop_at p z d up k)
 stop_reaches p z d up k found moves =
     let first = stopper_some p z (motion d up) k found in
     let reach = reaches_limit (step_length p z (motion d up) k) (step_length p z (motion d up) k) (first.1 k first.0) in
@@ -61,7 +63,8 @@ stop_reaches p z d up k found moves =
           ∙ ap (signed up) (sym (signed_over up (there.0 -ℚ z k) (d k) moves)) ∙ signed_twice up ((there.0 -ℚ z k) /ℚ d k);
     }
 
-stops_reaches : (p : LinearProgram) (z d : Vector) (up : Bool) (by : Stopper) (o : Option ℕ) → stopper p z (motion d up) ≡ o → option_map (stop_at p z d up) o ≡ Some by → d by.p ≢ zero_ℚ → ReachesLimit p z d by
+stops_reaches : (p : LinearProgram) (z d : Vector) (up : Bool) (by : Stopper) (o : Option ℕ) → stopper p z (motion d up) ≡ o →
+    option_map (stop_at p z d up) o ≡ Some by → d by.p ≢ zero_ℚ → ReachesLimit p z d by
 stops_reaches p z d up by None found e moves = cc
 stops_reaches p z d up by (Some k) found e moves =
     let same : stop_at p z d up k ≡ by = cc in
@@ -79,13 +82,15 @@ limit_apart p k Ll l e = ((λ same. cc), (λ same. cc))
 limit_apart p k Ul l e = ((λ same. cc), (λ same. cc))
 limit_apart p k Fr l e = cc
 
-limit_allowed : (p : LinearProgram) (k : ℕ) (to : Status) (l : ℚ) → limit_numbered p k (number_of_limit to) ≡ Some l → IsAllowed to (lower_of p k) (upper_of p k)
+limit_allowed : (p : LinearProgram) (k : ℕ) (to : Status) (l : ℚ) → limit_numbered p k (number_of_limit to) ≡ Some l →
+    IsAllowed to (lower_of p k) (upper_of p k)
 limit_allowed p k Bs l e = tt
 limit_allowed p k Ll l e = rw e refl
 limit_allowed p k Ul l e = rw e refl
 limit_allowed p k Fr l e = cc
 
-limit_stands : (p : LinearProgram) (k : ℕ) (to : Status) (l : ℚ) → limit_numbered p k (number_of_limit to) ≡ Some l → StandsAt to (lower_of p k) (upper_of p k) l
+limit_stands : (p : LinearProgram) (k : ℕ) (to : Status) (l : ℚ) → limit_numbered p k (number_of_limit to) ≡ Some l →
+    StandsAt to (lower_of p k) (upper_of p k) l
 limit_stands p k Bs l e = tt
 limit_stands p k Ll l e = e
 limit_stands p k Ul l e = e
@@ -107,7 +112,8 @@ comes_to z l d some =
     back : (z l : ℚ) → z +ℚ (l -ℚ z) ≡ l
     back z l = by_ring3 z l z (λ z l u. z ⊕ (l ⊖ z) ≐ l) refl
 
-module _ (p : LinearProgram) (s : List Status) (z d : Vector) (q : ℕ) (by : Stopper) (basis : IsBasis p s) (nonsingular : IsNonsingular p.matrix (basics_of s)) (out : IsNonbasic p.matrix (basics_of s) q)
+module _ (p : LinearProgram) (s : List Status) (z d : Vector) (q : ℕ) (by : Stopper) (basis : IsBasis p s) (nonsingular : IsNonsingular p.matrix (basics_of s))
+    (out : IsNonbasic p.matrix (basics_of s) q)
     (direction : IsDirectionOf p.matrix (basics_of s) q d) (moves : d by.p ≢ zero_ℚ) (step : IsStepBy p s z d q by) where
   pub reaches : ReachesLimit p z d by
   reaches = step_reaches p s z d q by step moves
@@ -142,10 +148,13 @@ module _ (p : LinearProgram) (s : List Status) (z d : Vector) (q : ℕ) (by : St
   pub basics_replaced : basics_of (with_status (with_status s q Bs) by.p by.to) ≡ exchanged (basics_of s) by.p q
   basics_replaced = basics_of-replaced s by.p q by.to to_limit.0
 
-  pub has_replaced : (a : Matrix) (b : Basics) → by.p ≢ q → a ≡ p.matrix → b ≡ exchanged (basics_of s) by.p q → HasRates a b p (with_status (with_status s q Bs) by.p by.to)
+  pub has_replaced : (a : Matrix) (b : Basics) → by.p ≢ q → a ≡ p.matrix → b ≡ exchanged (basics_of s) by.p q →
+      HasRates a b p (with_status (with_status s q Bs) by.p by.to)
   has_replaced a b other same_matrix same_basics = record {
     is_basis = IsBasis-replaced p s basis by.p q by.to reaches.is_variable out.0 (leaver_status other) not_basic to_limit.0 to_limit.1 allowed;
-    nonsingular = subst (IsNonsingular p.matrix) (sym basics_replaced) (IsNonsingular-exchanged p.matrix (basics_of s) by.p q d nonsingular (leaver_basic other) out direction moves);
+    nonsingular =
+        subst (IsNonsingular p.matrix) (sym basics_replaced)
+        (IsNonsingular-exchanged p.matrix (basics_of s) by.p q d nonsingular (leaver_basic other) out direction moves);
     same_matrix = same_matrix;
     same_basics = same_basics ∙ sym basics_replaced;
   }
@@ -162,14 +171,17 @@ module _ (p : LinearProgram) (s : List Status) (z d : Vector) (q : ℕ) (by : St
 
   pub has_flipped : (a : Matrix) (b : Basics) → by.p ≡ q → a ≡ p.matrix → b ≡ basics_of s → HasRates a b p (with_status s q by.to)
   has_flipped a b same same_matrix same_basics = record {
-    is_basis = IsBasis-flipped p s basis q by.to out.0 not_basic to_limit.0 to_limit.1 (subst (λ k. IsAllowed by.to (lower_of p k) (upper_of p k)) same allowed);
+    is_basis =
+        IsBasis-flipped p s basis q by.to out.0 not_basic to_limit.0 to_limit.1 (subst (λ k. IsAllowed by.to (lower_of p k) (upper_of p k)) same allowed);
     nonsingular = subst (IsNonsingular p.matrix) (sym basics_flipped) nonsingular;
     same_matrix = same_matrix;
     same_basics = same_basics ∙ sym basics_flipped;
   }
 
   pub point_flipped : by.p ≡ q → IsPointOf p s z → IsPointOf p (with_status s q by.to) (along z by.step d)
-  point_flipped same point = IsPointOf-flipped p s basis z point q out.0 d direction by.step by.to (subst (λ k. StandsAt by.to (lower_of p k) (upper_of p k) (along z by.step d k)) same stands)
+  point_flipped same point =
+      IsPointOf-flipped p s basis z point q out.0 d direction by.step by.to
+      (subst (λ k. StandsAt by.to (lower_of p k) (upper_of p k) (along z by.step d k)) same stands)
 
   -- ---- the values of a vector x, which are those of y after the step
 
@@ -181,8 +193,11 @@ module _ (p : LinearProgram) (s : List Status) (z d : Vector) (q : ℕ) (by : St
       replaced : HasRates p.matrix (exchanged (basics_of s) by.p q) p (with_status (with_status s q Bs) by.p by.to)
       replaced = has_replaced p.matrix (exchanged (basics_of s) by.p q) other refl refl
 
-      replaced_agrees : AgreesWithPoint p s x → IsMovedAtLimits p by.step d x (size p.matrix) y → AgreesWithPoint p (with_status (with_status s q Bs) by.p by.to) y
-      replaced_agrees agrees = agrees_moved p (with_status (with_status s q Bs) by.p by.to) replaced.is_basis replaced.nonsingular z d by.step (point_replaced point) x y (agrees z point)
+      replaced_agrees : AgreesWithPoint p s x → IsMovedAtLimits p by.step d x (size p.matrix) y →
+          AgreesWithPoint p (with_status (with_status s q Bs) by.p by.to) y
+      replaced_agrees agrees =
+          agrees_moved p (with_status (with_status s q Bs) by.p by.to) replaced.is_basis replaced.nonsingular z d by.step (point_replaced point) x y
+          (agrees z point)
 
       replaced_exact : IsPointOf p s x → IsMoved by.step d x (size p.matrix) y → IsPointOf p (with_status (with_status s q Bs) by.p by.to) y
       replaced_exact exact moved = point_same p (with_status (with_status s q Bs) by.p by.to) (along z by.step d) y (comes exact moved) (point_replaced point)
@@ -192,13 +207,15 @@ module _ (p : LinearProgram) (s : List Status) (z d : Vector) (q : ℕ) (by : St
       flipped = has_flipped p.matrix (basics_of s) own refl refl
 
       flipped_agrees : AgreesWithPoint p s x → IsMovedAtLimits p by.step d x (size p.matrix) y → AgreesWithPoint p (with_status s q by.to) y
-      flipped_agrees agrees = agrees_moved p (with_status s q by.to) flipped.is_basis flipped.nonsingular z d by.step (point_flipped own point) x y (agrees z point)
+      flipped_agrees agrees =
+          agrees_moved p (with_status s q by.to) flipped.is_basis flipped.nonsingular z d by.step (point_flipped own point) x y (agrees z point)
 
       flipped_exact : IsPointOf p s x → IsMoved by.step d x (size p.matrix) y → IsPointOf p (with_status s q by.to) y
       flipped_exact exact moved = point_same p (with_status s q by.to) (along z by.step d) y (comes exact moved) (point_flipped own point)
 
     -- either way the basis goes over to this one
-    pub after_agrees : AgreesWithPoint p s x → IsMovedAtLimits p by.step d x (size p.matrix) y → AgreesWithPoint p (with_status (with_status s q Bs) by.p by.to) y
+    pub after_agrees : AgreesWithPoint p s x → IsMovedAtLimits p by.step d x (size p.matrix) y →
+        AgreesWithPoint p (with_status (with_status s q Bs) by.p by.to) y
     after_agrees agrees moved = at (eqb_tells by.p q)
       where
         at : (((eqb by.p q ≡ true) × (by.p ≡ q)) ⊎ ((eqb by.p q ≡ false) × (by.p ≢ q))) → AgreesWithPoint p (with_status (with_status s q Bs) by.p by.to) y

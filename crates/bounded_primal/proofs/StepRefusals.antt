@@ -50,7 +50,8 @@ module _ (p : LinearProgram) (s : List Status) (t : Tableau) (to : Status) (e : 
   move_names (f9 r q i step names step_to is refused) = ap names_waypoint names.is_formula
 
   module _ (is_t : IsTableau p s t) (nonsingular : IsNonsingular p.matrix (basics_of s)) where
-    shows_move : (o : Option Change) (Goes : Status → Type 0) (around : List Basics) → Goes to → e.way ≡ 0 → MoveFormula p s t to e → ShowsRefusal (job_of p o) Goes (basics_of s ∷ around) s (basics_of s) e
+    shows_move : (o : Option Change) (Goes : Status → Type 0) (around : List Basics) → Goes to → e.way ≡ 0 → MoveFormula p s t to e →
+        ShowsRefusal (job_of p o) Goes (basics_of s ∷ around) s (basics_of s) e
     shows_move None Goes around goes no_way formula = record {
       tableau = t;
       is_tableau = is_t;
@@ -72,21 +73,28 @@ module _ (p : LinearProgram) (s : List Status) (t : Tableau) (to : Status) (e : 
       no_way = λ h. (no_way, refl);
     }
 
-    stops_by_move : (Goes : Status → Type 0) (around after : List Basics) → Goes to → e.way ≡ 0 → e.theta ≡ zero_ℚ → MoveFormula p s t to e → StopsAt Goes p (basics_of s ∷ around) s after e
+    stops_by_move : (Goes : Status → Type 0) (around after : List Basics) → Goes to → e.way ≡ 0 → e.theta ≡ zero_ℚ → MoveFormula p s t to e →
+        StopsAt Goes p (basics_of s ∷ around) s after e
     stops_by_move Goes around after goes no_way no_theta formula = record {
       is_way = omega (arith, no_way);
       is_theta = no_parameter p p.change e.theta no_theta;
-      shows = subst (λ (w : Basics). ShowsRefusal (job_of p p.change) Goes (basics_of s ∷ around) s w e) (sym (ap (waypoint (basics_of s) after) no_way)) (shows_move p.change Goes around goes no_way formula);
+      shows =
+          subst (λ (w : Basics). ShowsRefusal (job_of p p.change) Goes (basics_of s ∷ around) s w e) (sym (ap (waypoint (basics_of s) after) no_way))
+          (shows_move p.change Goes around goes no_way formula);
     }
 
 -- formula 8 or 9 of the step
-module _ (p : LinearProgram) (s : List Status) (z d : Vector) (q : ℕ) (by : Stopper) (basis : IsBasis p s) (nonsingular : IsNonsingular p.matrix (basics_of s)) (out : IsNonbasic p.matrix (basics_of s) q)
-    (direction : IsDirectionOf p.matrix (basics_of s) q d) (moves : d by.p ≢ zero_ℚ) (step : IsStepBy p s z d q by) (point : IsPointOf p s z) (e : Evidence) where
+module _ (p : LinearProgram) (s : List Status) (z d : Vector) (q : ℕ) (by : Stopper) (basis : IsBasis p s) (nonsingular : IsNonsingular p.matrix (basics_of s))
+    (out : IsNonbasic p.matrix (basics_of s) q)
+    (direction : IsDirectionOf p.matrix (basics_of s) q d) (moves : d by.p ≢ zero_ℚ) (step : IsStepBy p s z d q by) (point : IsPointOf p s z)
+    (e : Evidence) where
   tableau : Tableau
   tableau = record { point = z; rate = (rates_exist p.matrix (basics_of s) nonsingular).0 }
 
   at_q : (k : ℕ) → IsVariable p.matrix k → (rates_exist p.matrix (basics_of s) nonsingular).0 k q ≡ d k
-  at_q k is = one_direction p.matrix (basics_of s) q (λ i. (rates_exist p.matrix (basics_of s) nonsingular).0 i q) d nonsingular ((rates_exist p.matrix (basics_of s) nonsingular).1 q out) direction k is
+  at_q k is =
+      one_direction p.matrix (basics_of s) q (λ i. (rates_exist p.matrix (basics_of s) nonsingular).0 i q) d nonsingular
+      ((rates_exist p.matrix (basics_of s) nonsingular).1 q out) direction k is
 
   there : ReachesLimit p z d by
   there = reaches p s z d q by basis nonsingular out direction moves step
@@ -131,7 +139,8 @@ module _ (p : LinearProgram) (s : List Status) (z d : Vector) (q : ℕ) (by : St
   }
 
   -- for a vector v that has the point's values where they are needed
-  pub move_refused : (v : Vector) (all : Bool) → ((k : ℕ) → IsVariable p.matrix k → IsTrue (all || has_limit p k) → v k ≡ z k) → (before after : List Basics) → SomeMovedRefused p all by d v q e → StepRefused p before s q by after e
+  pub move_refused : (v : Vector) (all : Bool) → ((k : ℕ) → IsVariable p.matrix k → IsTrue (all || has_limit p k) → v k ≡ z k) → (before after : List Basics) →
+      SomeMovedRefused p all by d v q e → StepRefused p before s q by after e
   unfolding tableau
   move_refused v all same before after some =
       let h = of_step some.i some.is (subst (λ (x : ℚ). MovedRefused by.step (d some.i) x by.p q some.i e) (same some.i some.is some.needed) some.refused) in
@@ -139,7 +148,9 @@ module _ (p : LinearProgram) (s : List Status) (z d : Vector) (q : ℕ) (by : St
         of_call = h.belongs_to;
         enters = λ _. h.is_q;
         leaves = λ _. h.is_p;
-        stops = stops_by_move p s tableau by.to e (record { is_point = point; are_rates = (rates_exist p.matrix (basics_of s) nonsingular).1 }) nonsingular (λ to. to ≡ by.to) (exchanged (basics_of s) by.p q ∷ before) after refl h.no_way h.no_theta h.formula;
+        stops =
+            stops_by_move p s tableau by.to e (record { is_point = point; are_rates = (rates_exist p.matrix (basics_of s) nonsingular).1 }) nonsingular
+            (λ to. to ≡ by.to) (exchanged (basics_of s) by.p q ∷ before) after refl h.no_way h.no_theta h.formula;
       }
 
 -- the numbers of the formulas of an exchange
@@ -150,14 +161,20 @@ module _ (a : Matrix) (w : Basics) (rate : ℕ → ℕ → ℚ) (e : Evidence) w
     no_step : is_between 8 9 e.formula ≡ false
 
   exchange_number : ExchangeFormula a w rate e → IsExchangeNumber
-  exchange_number (f1 p q j names ex out refused) = record { belongs_to = λ p. rw names.is_formula refl; no_move = rw names.is_formula refl; no_step = rw names.is_formula refl }
-  exchange_number (f2 p q i j names ex basic other out refused) = record { belongs_to = λ p. rw names.is_formula refl; no_move = rw names.is_formula refl; no_step = rw names.is_formula refl }
-  exchange_number (f3 p q i j names ex basic other out refused) = record { belongs_to = λ p. rw names.is_formula refl; no_move = rw names.is_formula refl; no_step = rw names.is_formula refl }
-  exchange_number (f4 p q names ex refused) = record { belongs_to = λ p. rw names.is_formula refl; no_move = rw names.is_formula refl; no_step = rw names.is_formula refl }
-  exchange_number (f5 p q i names ex basic other refused) = record { belongs_to = λ p. rw names.is_formula refl; no_move = rw names.is_formula refl; no_step = rw names.is_formula refl }
+  exchange_number (f1 p q j names ex out refused) =
+      record { belongs_to = λ p. rw names.is_formula refl; no_move = rw names.is_formula refl; no_step = rw names.is_formula refl }
+  exchange_number (f2 p q i j names ex basic other out refused) =
+      record { belongs_to = λ p. rw names.is_formula refl; no_move = rw names.is_formula refl; no_step = rw names.is_formula refl }
+  exchange_number (f3 p q i j names ex basic other out refused) =
+      record { belongs_to = λ p. rw names.is_formula refl; no_move = rw names.is_formula refl; no_step = rw names.is_formula refl }
+  exchange_number (f4 p q names ex refused) =
+      record { belongs_to = λ p. rw names.is_formula refl; no_move = rw names.is_formula refl; no_step = rw names.is_formula refl }
+  exchange_number (f5 p q i names ex basic other refused) =
+      record { belongs_to = λ p. rw names.is_formula refl; no_move = rw names.is_formula refl; no_step = rw names.is_formula refl }
 
 -- a refused exchange
-module _ (p : LinearProgram) (s : List Status) (q : ℕ) (by : Stopper) (basis : IsBasis p s) (nonsingular : IsNonsingular p.matrix (basics_of s)) (before after : List Basics) (keeps : KeepsWaypoints p.matrix (basics_of s) before (basics_of s) after) (e : Evidence) where
+module _ (p : LinearProgram) (s : List Status) (q : ℕ) (by : Stopper) (basis : IsBasis p s) (nonsingular : IsNonsingular p.matrix (basics_of s))
+    (before after : List Basics) (keeps : KeepsWaypoints p.matrix (basics_of s) before (basics_of s) after) (e : Evidence) where
   exchange_stops : ExchangeRefused p.matrix (basics_of s ∷ exchanged (basics_of s) by.p q ∷ before) (basics_of s) after e → StepRefused p before s q by after e
   exchange_stops h =
       let number = exchange_number p.matrix h.way h.rate e h.formula in
@@ -165,14 +182,19 @@ module _ (p : LinearProgram) (s : List Status) (q : ℕ) (by : Stopper) (basis :
         of_call = number.belongs_to p;
         enters = λ is. absurd (clash (sym is ∙ number.no_move));
         leaves = λ is. absurd (clash (sym is ∙ number.no_step));
-        stops = stops_by_exchange p s basis nonsingular (λ to. to ≡ by.to) (basics_of s ∷ exchanged (basics_of s) by.p q ∷ before) after (inl (within_itself p.matrix (basics_of s)))
+        stops =
+            stops_by_exchange p s basis nonsingular (λ to. to ≡ by.to) (basics_of s ∷ exchanged (basics_of s) by.p q ∷ before) after
+            (inl (within_itself p.matrix (basics_of s)))
             (Covers-insert p.matrix after (basics_of s) (exchanged (basics_of s) by.p q) before (kept_within p.matrix (basics_of s) before after keeps)) e h;
       }
 
-pub exchange_refused : (p : LinearProgram) (s : List Status) (q : ℕ) (by : Stopper) (a : Matrix) (b c : Basics) (before after : List Basics) (stop : Stop) → HasRates a b p s → c ≡ b → KeepsWaypoints a b before c after →
+pub exchange_refused : (p : LinearProgram) (s : List Status) (q : ℕ) (by : Stopper) (a : Matrix) (b c : Basics) (before after : List Basics) (stop : Stop) →
+    HasRates a b p s → c ≡ b → KeepsWaypoints a b before c after →
     IfOverflow stop (ExchangeRefused a (b ∷ exchanged b by.p q ∷ before) b after) → IfOverflow stop (StepRefused p before s q by after)
 exchange_refused p s q by a b c before after stop has same keeps h =
-    IfOverflow-map stop (λ e x. exchange_stops p s q by has.is_basis has.nonsingular before after (keeps_at p s a b c before after has same keeps) e x) (rw (has.same_matrix, has.same_basics) at h)
+    IfOverflow-map stop (λ e x. exchange_stops p s q by has.is_basis has.nonsingular before after (keeps_at p s a b c before after has same keeps) e x)
+    (rw (has.same_matrix, has.same_basics) at h)
 
-pub keeps_to : (p : LinearProgram) (s next : List Status) (a : Matrix) (b c : Basics) (ways now : List Basics) → HasRates a b p s → c ≡ basics_of next → KeepsWaypoints a b ways c now → KeepsWaypoints p.matrix (basics_of s) ways (basics_of next) now
+pub keeps_to : (p : LinearProgram) (s next : List Status) (a : Matrix) (b c : Basics) (ways now : List Basics) → HasRates a b p s → c ≡ basics_of next →
+    KeepsWaypoints a b ways c now → KeepsWaypoints p.matrix (basics_of s) ways (basics_of next) now
 keeps_to p s next a b c ways now has is keeps = rw (is, has.same_matrix, has.same_basics) at keeps

@@ -20,7 +20,8 @@ use Rattle.basis_values.proofs.Nearest.{nearest_stops, nothing_stops}
 use Rattle.basis_values.proofs.Refusals.{stops_at_basis}
 
 -- what is found, as the definition tells it
-pub stop_found : (p : LinearProgram) (z d : Vector) (up : Bool) (found : Option Reach) (r : Reach) (rate speed step : ℚ) (to : Status) → IsNearest (step_length p z (motion d up)) (size p.matrix) found → found ≡ Some r → rate ≡ d r.p → speed ≡ signed up rate →
+pub stop_found : (p : LinearProgram) (z d : Vector) (up : Bool) (found : Option Reach) (r : Reach) (rate speed step : ℚ) (to : Status) →
+    IsNearest (step_length p z (motion d up)) (size p.matrix) found → found ≡ Some r → rate ≡ d r.p → speed ≡ signed up rate →
     step ≡ signed up r.length → to ≡ reached (λ _. speed) 0 → Some (record { p = r.p; step = step; to = to }) ≡ stopper_of p z d up
 stop_found p z d up found r rate speed step to nearest is rate_is speed_is step_is to_is =
     ap₂ (λ (x : ℚ) (t : Status). Some (record { p = r.p; step = x; to = t }))
@@ -31,12 +32,15 @@ stop_found p z d up found r rate speed step to nearest is rate_is speed_is step_
     h : IsFirst (step_length p z (motion d up)) (size p.matrix) r
     h = subst (λ (o : Option Reach). IsNearest (step_length p z (motion d up)) (size p.matrix) o) is nearest
 
-pub nothing_found : (p : LinearProgram) (z d : Vector) (up : Bool) (found : Option Reach) → IsNearest (step_length p z (motion d up)) (size p.matrix) found → found ≡ None → None ≡ stopper_of p z d up
+pub nothing_found : (p : LinearProgram) (z d : Vector) (up : Bool) (found : Option Reach) → IsNearest (step_length p z (motion d up)) (size p.matrix) found →
+    found ≡ None → None ≡ stopper_of p z d up
 nothing_found p z d up found nearest is =
-    sym (ap (option_map (stop_at p z d up)) (nothing_stops p z (motion d up) (subst (λ (o : Option Reach). IsNearest (step_length p z (motion d up)) (size p.matrix) o) is nearest)))
+    sym (ap (option_map (stop_at p z d up))
+    (nothing_stops p z (motion d up) (subst (λ (o : Option Reach). IsNearest (step_length p z (motion d up)) (size p.matrix) o) is nearest)))
 
 -- something stops a motion where a variable has a limit ahead
-is_stopped : (p : LinearProgram) (z d : Vector) (up : Bool) (k : ℕ) (l : ℚ) → IsVariable p.matrix k → limit_ahead p (motion d up) k ≡ Some l → IsSome (stopper_of p z d up)
+is_stopped : (p : LinearProgram) (z d : Vector) (up : Bool) (k : ℕ) (l : ℚ) → IsVariable p.matrix k → limit_ahead p (motion d up) k ≡ Some l →
+    IsSome (stopper_of p z d up)
 is_stopped p z d up k l is ahead = at (stopper p z (motion d up)) refl
   where
     at : (o : Option ℕ) → stopper p z (motion d up) ≡ o → IsSome (stopper_of p z d up)
@@ -60,7 +64,9 @@ module _ (p : LinearProgram) (s : List Status) (z d : Vector) (q : ℕ) (up : Bo
   tableau = record { point = z; rate = (rates_exist p.matrix (basics_of s) nonsingular).0 }
 
   at_q : (rates_exist p.matrix (basics_of s) nonsingular).0 k q ≡ d k
-  at_q = one_direction p.matrix (basics_of s) q (λ i. (rates_exist p.matrix (basics_of s) nonsingular).0 i q) d nonsingular ((rates_exist p.matrix (basics_of s) nonsingular).1 q out) direction k is
+  at_q =
+      one_direction p.matrix (basics_of s) q (λ i. (rates_exist p.matrix (basics_of s) nonsingular).0 i q) d nonsingular
+      ((rates_exist p.matrix (basics_of s) nonsingular).1 q out) direction k is
 
   formula_of : StepLengthRefused p z d up q k e → PointFormula p s tableau e
   unfolding tableau
@@ -75,7 +81,9 @@ module _ (p : LinearProgram) (s : List Status) (z d : Vector) (q : ℕ) (up : Bo
     of_call = of_call h;
     is_stopped = λ six. stopped h;
     enters = enters h;
-    stops = stops_at_basis p s tableau (record { is_point = point; are_rates = (rates_exist p.matrix (basics_of s) nonsingular).1 }) nonsingular (λ to. ⊥) [] [] e (no_way h) (no_theta h) (formula_of h);
+    stops =
+        stops_at_basis p s tableau (record { is_point = point; are_rates = (rates_exist p.matrix (basics_of s) nonsingular).1 }) nonsingular (λ to. ⊥) [] [] e
+        (no_way h) (no_theta h) (formula_of h);
   }
     where
       of_call : StepLengthRefused p z d up q k e → IsTrue ((nat_eq e.formula 6 && not (nat_eq e.term 3)) || nat_eq e.formula 7)

@@ -64,13 +64,21 @@ module _ (p : LinearProgram) (lawful : IsLinearProgram p) where
       let proved = optimal_end p s z y lawful at ends in
       let places = optimal_places p s z y ends in
       record { point_places = places.0; price_places = places.1; best = proved.best; certificate = proved.certificate }
-  true_end s at steps (EndsCrossed k) ends = let crossed = crossed_end p s k ends in record { crossed = crossed; infeasible = infeasible_by_crossed p k crossed }
+  true_end s at steps (EndsCrossed k) ends =
+      let crossed = crossed_end p s k ends in record { crossed = crossed; infeasible = infeasible_by_crossed p k crossed }
   true_end s at steps (EndsInfeasible w) ends =
-      let ray = infeasible_end p s w at.is_basis at.nonsingular ends in record { ray_places = ray_places p s w ends; certificate = ray; infeasible = infeasible_by_ray p (value_at w) ray }
+      let ray = infeasible_end p s w at.is_basis at.nonsingular ends in
+      record { ray_places = ray_places p s w ends; certificate = ray; infeasible = infeasible_by_ray p (value_at w) ray }
   true_end s at steps (EndsUnbounded z d) ends =
       let certificate = unbounded_end p s z d lawful at.is_basis ends in
       let places = unbounded_places p s z d ends in
-      record { point_places = places.0; direction_places = places.1; certificate = certificate; unbounded = unbounded_by_direction p (value_at z) (value_at d) certificate }
+      record {
+        point_places = places.0;
+        direction_places = places.1;
+        certificate = certificate;
+        unbounded = unbounded_by_direction p (value_at z)
+            (value_at d) certificate;
+      }
 
   module _ (matrix : Matrix) (basics : Basics) (s : List Status) (has : HasRates matrix basics p s) where
     begun : IsNonsingularBasis p s
@@ -78,15 +86,18 @@ module _ (p : LinearProgram) (lawful : IsLinearProgram p) where
 
     pub true_outcome : (now : List Status) (limit : ℕ) (outcome : Outcome) → CallEnds p s now limit outcome → IsTrueOutcome p outcome
     true_outcome now limit outcome h =
-        subst (IsTrueOutcome p) (sym h.is_outcome) (true_end (last_of s h.bases) (path_leads p s h.bases begun h.ends.is_path) (counted_steps (length h.bases)) h.ending h.ends.ends)
+        subst (IsTrueOutcome p) (sym h.is_outcome)
+        (true_end (last_of s h.bases) (path_leads p s h.bases begun h.ends.is_path) (counted_steps (length h.bases)) h.ending h.ends.ends)
 
     -- of a call that may have stopped
-    pub true_result : {E : Type 0} (now : List Status) (limit : ℕ) (result : Result Outcome E) → IfOk result (CallEnds p s now limit) → IfOk result (IsTrueOutcome p)
+    pub true_result : {E : Type 0} (now : List Status) (limit : ℕ) (result : Result Outcome E) → IfOk result (CallEnds p s now limit) →
+        IfOk result (IsTrueOutcome p)
     true_result now limit (Ok outcome) h = true_outcome now limit outcome h
     true_result now limit (Err stop) h = tt
 
 -- the call that finds a crossed variable
-module _ (p : LinearProgram) (matrix : Matrix) (basics : Basics) (s : List Status) (k : ℕ) (has : HasRates matrix basics p s) (found : Some k ≡ least p (is_crossed p)) where
+module _ (p : LinearProgram) (matrix : Matrix) (basics : Basics) (s : List Status) (k : ℕ) (has : HasRates matrix basics p s)
+    (found : Some k ≡ least p (is_crossed p)) where
   ended : EndsHere p s 0 (Crossed k)
   ended = crossed_ends p s k 0 has.is_basis has.nonsingular found
 

@@ -50,7 +50,8 @@ module _ (p : LinearProgram) (s : List Status) (before mid now : List Basics) (k
   stops_later left NoMemory h = h
   stops_later left (Overflow e) h = record { is_way = h.is_way; shows = λ earlier lie. h.shows earlier (lie_later earlier lie) }
 
-pub found_later : (p : LinearProgram) (s : List Status) (before mid now : RatesState) → KeepsWaypoints p.matrix (basics_of s) before.waypoints (basics_of s) mid.waypoints →
+pub found_later : (p : LinearProgram) (s : List Status) (before mid now : RatesState) →
+    KeepsWaypoints p.matrix (basics_of s) before.waypoints (basics_of s) mid.waypoints →
     (result : Result Turn PrimalStop) (steps left : ℕ) (d : Vector) → TurnFound result p s steps left d mid now → TurnFound result p s steps left d before now
 found_later p s before mid now keeps (Ok (Ends outcome)) steps left d h = h
 found_later p s before mid now keeps (Ok (Moves q by)) steps left d h = h
@@ -58,17 +59,22 @@ found_later p s before mid now keeps (Err stop) steps left d h = stops_later p s
 
 -- ---- evidence of a phase
 
-module _ (p : LinearProgram) (s : List Status) (z : Vector) (basis : IsBasis p s) (nonsingular : IsNonsingular p.matrix (basics_of s)) (point : IsPointOf p s z) (uncrossed : IsUncrossed p) (left : ℕ) (before now : List Basics) (e : Evidence) where
-  pub return_evidence : (r : ℕ) (xs : Vector) (row : IsRowOf p.matrix (basics_of s) r xs) (broken : least_outside p s z ≡ Some r) (q : ℕ) (found : Some q ≡ entering p s (motion xs (not (is_below p z r)))) →
+module _ (p : LinearProgram) (s : List Status) (z : Vector) (basis : IsBasis p s) (nonsingular : IsNonsingular p.matrix (basics_of s)) (point : IsPointOf p s z)
+    (uncrossed : IsUncrossed p) (left : ℕ) (before now : List Basics) (e : Evidence) where
+  pub return_evidence : (r : ℕ) (xs : Vector) (row : IsRowOf p.matrix (basics_of s) r xs) (broken : least_outside p s z ≡ Some r) (q : ℕ)
+      (found : Some q ≡ entering p s (motion xs (not (is_below p z r)))) →
       ReturnStops p s z q r (if is_below p z r then Ll else Ul) before now e → EvidenceAt p s left before now e
   return_evidence r xs row broken q found (by_column h) = of_point p s left before now e h
   return_evidence r xs row broken q found (by_return d direction h) =
       of_return p s left before now e z d q r (if is_below p z r then Ll else Ul) (record { enters = q; leaves = r; to = if is_below p z r then Ll else Ul })
-      (return_enters p s z basis nonsingular point uncrossed r xs row broken q found) (return_move p s z basis nonsingular point uncrossed r xs row broken q found) point nonsingular
-      (restoring_basic p s z basis nonsingular point uncrossed r xs row broken) (restoring_nonbasic p s z basis nonsingular point uncrossed r xs row broken q found) direction
+      (return_enters p s z basis nonsingular point uncrossed r xs row broken q found)
+      (return_move p s z basis nonsingular point uncrossed r xs row broken q found) point nonsingular
+      (restoring_basic p s z basis nonsingular point uncrossed r xs row broken)
+      (restoring_nonbasic p s z basis nonsingular point uncrossed r xs row broken q found) direction
       (return_pivot p s z basis nonsingular point uncrossed r xs row broken q found d direction) h
 
-  pub run_evidence : (y : Vector) (prices : ArePricesOf p s y) (inside : least_outside p s z ≡ None) (m : EnteringVariable) (chosen : Some m ≡ entering_variable_by p s y) → RunStops p s z m.q m.up before now e → EvidenceAt p s left before now e
+  pub run_evidence : (y : Vector) (prices : ArePricesOf p s y) (inside : least_outside p s z ≡ None) (m : EnteringVariable)
+      (chosen : Some m ≡ entering_variable_by p s y) → RunStops p s z m.q m.up before now e → EvidenceAt p s left before now e
   run_evidence y prices inside m chosen (by_direction h) = of_point p s left before now e h
   run_evidence y prices inside m chosen (by_stopper d direction h) =
       of_stopper p s left before now e z d m.q m.up (improve_enters p s z basis nonsingular point uncrossed y prices inside m chosen)

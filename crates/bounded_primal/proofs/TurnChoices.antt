@@ -37,14 +37,17 @@ use Rattle.basis_values.proofs.RatesStops.{tableau_of, IsTableau-of}
 use Rattle.bounded_primal.proofs.SameChoices.{entering_same, stopper_same, listed_is, row_ray}
 
 -- a variable is crossed
-pub crossed_ends : (p : LinearProgram) (s : List Status) (k steps : ℕ) → IsBasis p s → IsNonsingular p.matrix (basics_of s) → Some k ≡ least p (is_crossed p) → EndsHere p s steps (Crossed k)
+pub crossed_ends : (p : LinearProgram) (s : List Status) (k steps : ℕ) → IsBasis p s → IsNonsingular p.matrix (basics_of s) → Some k ≡ least p (is_crossed p) →
+    EndsHere p s steps (Crossed k)
 unfolding turn
-crossed_ends p s k steps basis nonsingular found = record { ending = EndsCrossed k; ends = record { tableau = tableau_of p s basis nonsingular rates.0; is_tableau = IsTableau-of p s basis nonsingular rates.0 rates.1; turns = ap (λ (o : Option ℕ). turn_for p s (tableau_of p s basis nonsingular rates.0) o (outside p s (tableau_of p s basis nonsingular rates.0))) (sym found) }; is_outcome = refl }
+crossed_ends p s k steps basis nonsingular found =
+    record { ending = EndsCrossed k; ends = record { tableau = tableau_of p s basis nonsingular rates.0; is_tableau = IsTableau-of p s basis nonsingular rates.0 rates.1; turns = ap (λ (o : Option ℕ). turn_for p s (tableau_of p s basis nonsingular rates.0) o (outside p s (tableau_of p s basis nonsingular rates.0))) (sym found) }; is_outcome = refl }
   where
     rates : (rate : ℕ → ℕ → ℚ) × AreRates p.matrix (basics_of s) rate
     rates = rates_exist p.matrix (basics_of s) nonsingular
 
-module _ (p : LinearProgram) (s : List Status) (z : Vector) (basis : IsBasis p s) (nonsingular : IsNonsingular p.matrix (basics_of s)) (point : IsPointOf p s z) (uncrossed : IsUncrossed p) where
+module _ (p : LinearProgram) (s : List Status) (z : Vector) (basis : IsBasis p s) (nonsingular : IsNonsingular p.matrix (basics_of s)) (point : IsPointOf p s z)
+    (uncrossed : IsUncrossed p) where
   -- ---- the first phase
 
   module _ (r : ℕ) (xs : Vector) (row : IsRowOf p.matrix (basics_of s) r xs) (broken : least_outside p s z ≡ Some r) where
@@ -68,14 +71,18 @@ module _ (p : LinearProgram) (s : List Status) (z : Vector) (basis : IsBasis p s
     entry k is mark e = row.entries k is ∙ ap (λ m. if m then zero_ℚ else row.rate r k) e
 
     entering_variable_is : entering_variable p s t (Some r) ≡ entering p s (motion xs (not below))
-    entering_variable_is = entering_same p s basis (excess_rate row.rate r below) (motion xs (not below)) (λ k out. ap (signed (not below)) (sym (entry k out.0 false out.1)))
+    entering_variable_is =
+        entering_same p s basis (excess_rate row.rate r below) (motion xs (not below)) (λ k out. ap (signed (not below)) (sym (entry k out.0 false out.1)))
 
     -- nothing brings r back
-    pub infeasible_ends : (ray : List ℚ) (steps : ℕ) → None ≡ entering p s (motion xs (not below)) → length ray ≡ size p.matrix → ((k : ℕ) → IsVariable p.matrix k → value_at ray k ≡ ray_from xs r below k) → EndsHere p s steps (Infeasible steps ray)
+    pub infeasible_ends : (ray : List ℚ) (steps : ℕ) → None ≡ entering p s (motion xs (not below)) → length ray ≡ size p.matrix →
+        ((k : ℕ) → IsVariable p.matrix k → value_at ray k ≡ ray_from xs r below k) → EndsHere p s steps (Infeasible steps ray)
     infeasible_ends ray steps none counted values = record {
       ending = EndsInfeasible (listed p.matrix (ray_of (basics_of s) row.rate r below));
       ends = record { tableau = t; is_tableau = is_t; turns = first_turn None (entering_variable_is ∙ sym none) };
-      is_outcome = ap (Infeasible steps) (listed_is p.matrix ray (ray_of (basics_of s) row.rate r below) counted (λ k is. values k is ∙ row_ray p s r xs row below k is));
+      is_outcome =
+          ap (Infeasible steps)
+          (listed_is p.matrix ray (ray_of (basics_of s) row.rate r below) counted (λ k is. values k is ∙ row_ray p s r xs row below k is));
     }
 
     -- the basic r, and its limit that is broken
@@ -99,7 +106,13 @@ module _ (p : LinearProgram) (s : List Status) (z : Vector) (basis : IsBasis p s
 
     -- whatever brings it back, brings it to that limit
     pub return_step : (q : ℕ) (d : Vector) → StepsFromPoint p s d q (return_by p z d r to_limit)
-    return_step q d = record { point = z; is_point = point; is_step = brings limit_there.0 restoring_basic limit_there.1 (ap (λ o. (unwrap_or o zero_ℚ -ℚ z r) /ℚ d r) limit_there.1) }
+    return_step q d =
+        record {
+          point = z;
+          is_point = point;
+          is_step = brings limit_there.0 restoring_basic limit_there.1
+              (ap (λ o. (unwrap_or o zero_ℚ -ℚ z r) /ℚ d r) limit_there.1);
+        }
 
     module _ (q : ℕ) (found : Some q ≡ entering p s (motion xs (not below))) where
       moves : entering_variable p s t (Some r) ≡ Some q
@@ -121,7 +134,9 @@ module _ (p : LinearProgram) (s : List Status) (z : Vector) (basis : IsBasis p s
         pub return_pivot : d r ≢ zero_ℚ
         return_pivot vanishes =
             rate_apart p s (excess_rate row.rate r below) q entered
-            (ap (signed (not below)) (one_direction p.matrix (basics_of s) q (λ i. row.rate i q) d nonsingular (row.are_rates q entered.nonbasic) direction r restoring_basic.0 ∙ vanishes) ∙ signed_zero (not below))
+            (ap (signed (not below))
+            (one_direction p.matrix (basics_of s) q (λ i. row.rate i q) d nonsingular (row.are_rates q entered.nonbasic) direction r restoring_basic.0
+            ∙ vanishes) ∙ signed_zero (not below))
 
         pub return_on : (left : ℕ) → 1 ≤ left → MovesOn p s d q (return_by p z d r to_limit) left
         return_on left was_left = record {
@@ -164,17 +179,25 @@ module _ (p : LinearProgram) (s : List Status) (z : Vector) (basis : IsBasis p s
     none_moves (Some q) e = cc
 
     -- nothing improves the objective
-    pub best_ends : (zs ys : List ℚ) (steps : ℕ) → None ≡ entering_variable_by p s y → length zs ≡ size p.matrix → ((k : ℕ) → IsVariable p.matrix k → value_at zs k ≡ z k) →
+    pub best_ends : (zs ys : List ℚ) (steps : ℕ) → None ≡ entering_variable_by p s y → length zs ≡ size p.matrix →
+        ((k : ℕ) → IsVariable p.matrix k → value_at zs k ≡ z k) →
         length ys ≡ size p.matrix → ((k : ℕ) → IsVariable p.matrix k → value_at ys k ≡ y k) → EndsHere p s steps (Optimal steps zs ys)
     best_ends zs ys steps none zs_counted zs_are ys_counted ys_are = record {
       ending = EndsOptimal (listed p.matrix z) (listed p.matrix (price_at p (basics_of s) prices.rate));
       ends = record { tableau = u; is_tableau = is_u; turns = second_turn None (improve_is ∙ none_moves (entering p s (worth_by p y)) none) };
-      is_outcome = ap₂ (Optimal steps) (listed_is p.matrix zs z zs_counted zs_are) (listed_is p.matrix ys (price_at p (basics_of s) prices.rate) ys_counted (λ k is. ys_are k is ∙ prices.prices k is));
+      is_outcome =
+          ap₂ (Optimal steps) (listed_is p.matrix zs z zs_counted zs_are)
+          (listed_is p.matrix ys (price_at p (basics_of s) prices.rate) ys_counted (λ k is. ys_are k is ∙ prices.prices k is));
     }
 
     some_moves : (m : EnteringVariable) (o : Option ℕ) → Some m ≡ option_map (moved_by p y) o → (o ≡ Some m.q) × (m.up ≡ goes_up (worth_by p y) m.q)
     some_moves m None e = cc
-    some_moves m (Some q) e = let same : moved_by p y q ≡ m = cc in (ap (λ (x : EnteringVariable). Some x.q) same, sym (ap (λ (x : EnteringVariable). x.up) same) ∙ ap (λ (x : EnteringVariable). goes_up (worth_by p y) x.q) same)
+    some_moves m (Some q) e =
+        let same : moved_by p y q ≡ m = cc in (
+          ap (λ (x : EnteringVariable). Some x.q) same,
+          sym (ap (λ (x : EnteringVariable). x.up) same)
+              ∙ ap (λ (x : EnteringVariable). goes_up (worth_by p y) x.q) same,
+        )
 
     module _ (m : EnteringVariable) (chosen : Some m ≡ entering_variable_by p s y) where
       found : entering p s (worth_by p y) ≡ Some m.q
@@ -199,7 +222,8 @@ module _ (p : LinearProgram) (s : List Status) (z : Vector) (basis : IsBasis p s
       pub improve_may : IsTrue (may_move p s m.up m.q)
       improve_may =
           subst (λ (b : Bool). may_move p s b m.q ≡ true) (sym up_is)
-          (way (lt_ℚ (worth_by p y m.q) zero_ℚ) (lt_ℚ zero_ℚ (worth_by p y m.q)) (may_rise p s m.q) (may_fall p s m.q) (find_some (lowers p s (worth_by p y)) (size p.matrix) 1 m.q found).passes one_way)
+          (way (lt_ℚ (worth_by p y m.q) zero_ℚ) (lt_ℚ zero_ℚ (worth_by p y m.q)) (may_rise p s m.q) (may_fall p s m.q)
+          (find_some (lowers p s (worth_by p y)) (size p.matrix) 1 m.q found).passes one_way)
         where
           way : (a b x w : Bool) → ((a && x) || (b && w)) ≡ true → (a ≡ true → b ≡ true → ⊥) → (if a then x else w) ≡ true
           way true true x w e one = absurd (one refl refl)
@@ -219,19 +243,25 @@ module _ (p : LinearProgram) (s : List Status) (z : Vector) (basis : IsBasis p s
             (one_direction p.matrix (basics_of s) m.q (λ i. prices.rate i m.q) d nonsingular (prices.are_rates m.q improve_nonbasic) direction k is)
 
         run_turn : (o : Option ℕ) → stopper p z (motion d m.up) ≡ o → turn p s u ≡ run_until p s u m.q (improving p s u m.q) o
-        run_turn o stops = second_turn (Some m.q) improves ∙ ap (run_until p s u m.q (improving p s u m.q)) (stopper_same p z (improving p s u m.q) (motion d m.up) speeds_are ∙ stops)
+        run_turn o stops =
+            second_turn (Some m.q) improves
+            ∙ ap (run_until p s u m.q (improving p s u m.q)) (stopper_same p z (improving p s u m.q) (motion d m.up) speeds_are ∙ stops)
 
         none_stops : (o : Option ℕ) → option_map (stop_at p z d m.up) o ≡ None → o ≡ None
         none_stops None e = refl
         none_stops (Some k) e = cc
 
         -- nothing stops q
-        pub unbounded_ends : (zs : List ℚ) (steps : ℕ) (outcome : Outcome) → None ≡ stopper_of p z d m.up → length zs ≡ size p.matrix → ((k : ℕ) → IsVariable p.matrix k → value_at zs k ≡ z k) →
+        pub unbounded_ends : (zs : List ℚ) (steps : ℕ) (outcome : Outcome) → None ≡ stopper_of p z d m.up → length zs ≡ size p.matrix →
+            ((k : ℕ) → IsVariable p.matrix k → value_at zs k ≡ z k) →
             IsUnboundedEnd p zs d m.up steps outcome → EndsHere p s steps outcome
         unbounded_ends zs steps outcome none zs_counted zs_are h = record {
           ending = EndsUnbounded (listed p.matrix z) (listed p.matrix (improving p s u m.q));
           ends = record { tableau = u; is_tableau = is_u; turns = run_turn None (none_stops (stopper p z (motion d m.up)) (sym none)) };
-          is_outcome = h.is_outcome ∙ ap₂ (Unbounded steps) (listed_is p.matrix zs z zs_counted zs_are) (listed_is p.matrix h.ds (improving p s u m.q) h.counted (λ k is. h.speeds k is ∙ sym (speeds_are k is)));
+          is_outcome =
+              h.is_outcome
+              ∙ ap₂ (Unbounded steps) (listed_is p.matrix zs z zs_counted zs_are)
+              (listed_is p.matrix h.ds (improving p s u m.q) h.counted (λ k is. h.speeds k is ∙ sym (speeds_are k is)));
         }
 
         some_stops : (by : Stopper) (o : Option ℕ) → option_map (stop_at p z d m.up) o ≡ Some by → (k : ℕ) × (o ≡ Some k) × (stop_at p z d m.up k ≡ by)
@@ -243,8 +273,12 @@ module _ (p : LinearProgram) (s : List Status) (z : Vector) (basis : IsBasis p s
         run_move by stops =
             let at = some_stops by (stopper p z (motion d m.up)) (sym stops) in
             let is = (stopper_some p z (motion d m.up) at.0 at.1).0 in
-            subst (λ (b : Stopper). PathMoves p s (move_by m.q b)) at.2
-            (u, is_u, run_turn (Some at.0) at.1 ∙ ap (λ v. Moves (record { enters = m.q; leaves = at.0; to = if lt_ℚ zero_ℚ v then Ul else Ll })) (speeds_are at.0 is))
+            subst (λ (b : Stopper). PathMoves p s (move_by m.q b)) at.2 (
+              u,
+              is_u,
+              run_turn (Some at.0) at.1
+                  ∙ ap (λ v. Moves (record { enters = m.q; leaves = at.0; to = if lt_ℚ zero_ℚ v then Ul else Ll })) (speeds_are at.0 is),
+            )
 
         pub run_some : IsSome (stopper_of p z d m.up) → (n : Move) × PathMoves p s n
         run_some some = by_value (stopper_of p z d m.up) refl some
@@ -256,7 +290,8 @@ module _ (p : LinearProgram) (s : List Status) (z : Vector) (basis : IsBasis p s
         pub run_step : (by : Stopper) → Some by ≡ stopper_of p z d m.up → IsStepBy p s z d m.q by
         run_step by stops = is_stopper m.up point_feasible improve_may (sym stops)
 
-        moves_ahead : (low high : Option ℚ) (v l : ℚ) (a b : Bool) → lt_ℚ zero_ℚ v ≡ a → lt_ℚ v zero_ℚ ≡ b → (if a then high else (if b then low else None)) ≡ Some l → v ≢ zero_ℚ
+        moves_ahead : (low high : Option ℚ) (v l : ℚ) (a b : Bool) → lt_ℚ zero_ℚ v ≡ a → lt_ℚ v zero_ℚ ≡ b →
+            (if a then high else (if b then low else None)) ≡ Some l → v ≢ zero_ℚ
         moves_ahead low high v l true b a_is b_is e = λ vanishes. lt_irrefl (subst (λ x. zero_ℚ <ℚ x) vanishes (lt_from_test zero_ℚ v a_is))
         moves_ahead low high v l false true a_is b_is e = λ vanishes. lt_irrefl (subst (λ x. x <ℚ zero_ℚ) vanishes (lt_from_test v zero_ℚ b_is))
         moves_ahead low high v l false false a_is b_is e = λ vanishes. cc
@@ -272,7 +307,8 @@ module _ (p : LinearProgram) (s : List Status) (z : Vector) (basis : IsBasis p s
             let reach = reaches_limit (step_length p z (motion d m.up) at.0) (step_length p z (motion d m.up) at.0) (first.1 at.0 first.0) in
             let there = limit_of (limit_ahead p (motion d m.up) at.0) (z at.0) (motion d m.up at.0) reach.0 reach.1 in
             let same : d at.0 ≡ zero_ℚ = ap (λ (b : Stopper). d b.p) at.2 ∙ vanishes in
-            moves_ahead (lower_of p at.0) (upper_of p at.0) (motion d m.up at.0) there.0 (lt_ℚ zero_ℚ (motion d m.up at.0)) (lt_ℚ (motion d m.up at.0) zero_ℚ) refl refl there.1
+            moves_ahead (lower_of p at.0) (upper_of p at.0) (motion d m.up at.0) there.0 (lt_ℚ zero_ℚ (motion d m.up at.0))
+            (lt_ℚ (motion d m.up at.0) zero_ℚ) refl refl there.1
             (ap (signed m.up) same ∙ signed_zero m.up)
 
         pub run_on : (by : Stopper) (left : ℕ) → Some by ≡ stopper_of p z d m.up → 1 ≤ left → MovesOn p s d m.q by left
@@ -291,9 +327,11 @@ pub entering_within : (p : LinearProgram) (s : List Status) (f : Vector) (q : �
 entering_within p s f q e = let found = find_some (lowers p s f) (size p.matrix) 1 q (sym e) in (found.low, omega (arith, found.high))
 
 -- the variable whose price is wrong, with the way in which it moves
-pub some_improves : (p : LinearProgram) (s : List Status) (y : Vector) (q : ℕ) (m : EnteringVariable) → Some q ≡ entering p s (worth_by p y) → m ≡ moved_by p y q → Some m ≡ entering_variable_by p s y
+pub some_improves : (p : LinearProgram) (s : List Status) (y : Vector) (q : ℕ) (m : EnteringVariable) → Some q ≡ entering p s (worth_by p y) →
+    m ≡ moved_by p y q → Some m ≡ entering_variable_by p s y
 some_improves p s y q m found is = ap (λ (x : EnteringVariable). Some x) is ∙ ap (option_map (moved_by p y)) found
 
 -- how the price of q says which way it moves
-pub moved_at : (p : LinearProgram) (y : Vector) (min up : Bool) (q : ℕ) → ((v : ℚ) → for_min p.sense v ≡ signed min v) → up ≡ lt_ℚ (signed min (y q)) zero_ℚ → moved_by p y q ≡ record { q = q; up = up }
+pub moved_at : (p : LinearProgram) (y : Vector) (min up : Bool) (q : ℕ) → ((v : ℚ) → for_min p.sense v ≡ signed min v) → up ≡ lt_ℚ (signed min (y q)) zero_ℚ →
+    moved_by p y q ≡ record { q = q; up = up }
 moved_at p y min up q is up_is = ap (λ (b : Bool). record { q = q; up = b }) (ap (λ x. lt_ℚ x zero_ℚ) (is (y q)) ∙ sym up_is)

@@ -37,11 +37,13 @@ use Rattle.basis_values.proofs.Refusals.{stops_at_basis}
 
 -- ---- the limits to which a step may go
 
-move_number : (p : LinearProgram) (s : List Status) (t : Tableau) (to : Status) (e : Evidence) → MoveFormula p s t to e → (is_between 7 9 e.formula ≡ true) × (is_between 8 9 e.formula ≡ true)
+move_number : (p : LinearProgram) (s : List Status) (t : Tableau) (to : Status) (e : Evidence) → MoveFormula p s t to e →
+    (is_between 7 9 e.formula ≡ true) × (is_between 8 9 e.formula ≡ true)
 move_number p s t to e (f8 r q i step names step_to is refused) = rw names.is_formula (refl, refl)
 move_number p s t to e (f9 r q i step names step_to is refused) = rw names.is_formula (refl, refl)
 
-module _ (statement : SolvingStatement) (Goes Other : Status → Type 0) (s : List Status) (e : Evidence) (h : (to : Status) → Goes to → (is_between 7 9 e.formula ≡ true) × (is_between 8 9 e.formula ≡ true) → Other to) where
+module _ (statement : SolvingStatement) (Goes Other : Status → Type 0) (s : List Status) (e : Evidence)
+    (h : (to : Status) → Goes to → (is_between 7 9 e.formula ≡ true) × (is_between 8 9 e.formula ≡ true) → Other to) where
   formula_goes : (t : Tableau) (w : Basics) (rate : ℕ → ℕ → ℚ) → Formula statement Goes s t w rate e → Formula statement Other s t w rate e
   formula_goes t w rate (by_exchange f) = by_exchange f
   formula_goes t w rate (by_entry f) = by_entry f
@@ -142,22 +144,37 @@ module _ (n : ℕ) where
   primal_number : is_between 1 12 n ≡ true → (is_between 1 13 n || is_between 16 17 n) ≡ true
   primal_number h = let at = between 1 12 n h in ap (λ b. b || is_between 16 17 n) (within 1 13 n at.0 (omega (arith, at.1)))
 
-  point_apart : (is_between 1 5 n || is_between 10 12 n) ≡ true → (is_between 7 9 n ≡ false) × (nat_eq n 6 ≡ false) × (nat_eq n 14 ≡ false) × (is_between 1 12 n ≡ true)
+  point_apart : (is_between 1 5 n || is_between 10 12 n) ≡ true →
+      (is_between 7 9 n ≡ false) × (nat_eq n 6 ≡ false) × (nat_eq n 14 ≡ false) × (is_between 1 12 n ≡ true)
   point_apart h = at (or_cases (is_between 1 5 n) (is_between 10 12 n) h)
     where
-      at : ((is_between 1 5 n ≡ true) ⊎ (is_between 10 12 n ≡ true)) → (is_between 7 9 n ≡ false) × (nat_eq n 6 ≡ false) × (nat_eq n 14 ≡ false) × (is_between 1 12 n ≡ true)
+      at : ((is_between 1 5 n ≡ true) ⊎ (is_between 10 12 n ≡ true)) →
+          (is_between 7 9 n ≡ false) × (nat_eq n 6 ≡ false) × (nat_eq n 14 ≡ false) × (is_between 1 12 n ≡ true)
       at (inl low) =
-          let x = between 1 5 n low in
-          (below 7 9 n (omega (arith, x.1)), apart n 6 (λ e. omega (arith, x.1, e)), apart n 14 (λ e. omega (arith, x.1, e)), within 1 12 n x.0 (omega (arith, x.1)))
+          let x = between 1 5 n low in (
+            below 7 9 n (omega (arith, x.1)),
+            apart n 6 (λ e. omega (arith, x.1, e)),
+            apart n 14 (λ e. omega (arith, x.1, e)),
+            within 1 12 n x.0
+                (omega (arith, x.1)),
+          )
       at (inr high) =
-          let x = between 10 12 n high in
-          (above 7 9 n (omega (arith, x.0)), apart n 6 (λ e. omega (arith, x.0, e)), apart n 14 (λ e. omega (arith, x.1, e)), within 1 12 n (omega (arith, x.0)) x.1)
+          let x = between 10 12 n high in (
+            above 7 9 n (omega (arith, x.0)),
+            apart n 6 (λ e. omega (arith, x.0, e)),
+            apart n 14 (λ e. omega (arith, x.1, e)),
+            within 1 12 n
+                (omega (arith, x.0)) x.1,
+          )
 
-  price_apart : nat_eq n 17 ≡ true → (is_between 7 9 n ≡ false) × (nat_eq n 6 ≡ false) × (nat_eq n 14 ≡ false) × ((is_between 1 13 n || is_between 16 17 n) ≡ true)
+  price_apart : nat_eq n 17 ≡ true →
+      (is_between 7 9 n ≡ false) × (nat_eq n 6 ≡ false) × (nat_eq n 14 ≡ false) × ((is_between 1 13 n || is_between 16 17 n) ≡ true)
   price_apart h = at (eqb_tells n 17)
     where
-      at : (((eqb n 17 ≡ true) × (n ≡ 17)) ⊎ ((eqb n 17 ≡ false) × (n ≢ 17))) → (is_between 7 9 n ≡ false) × (nat_eq n 6 ≡ false) × (nat_eq n 14 ≡ false) × ((is_between 1 13 n || is_between 16 17 n) ≡ true)
-      at (inl same) = (ap (is_between 7 9) same.1, ap (λ m. nat_eq m 6) same.1, ap (λ m. nat_eq m 14) same.1, ap (λ m. is_between 1 13 m || is_between 16 17 m) same.1)
+      at : (((eqb n 17 ≡ true) × (n ≡ 17)) ⊎ ((eqb n 17 ≡ false) × (n ≢ 17))) →
+          (is_between 7 9 n ≡ false) × (nat_eq n 6 ≡ false) × (nat_eq n 14 ≡ false) × ((is_between 1 13 n || is_between 16 17 n) ≡ true)
+      at (inl same) =
+          (ap (is_between 7 9) same.1, ap (λ m. nat_eq m 6) same.1, ap (λ m. nat_eq m 14) same.1, ap (λ m. is_between 1 13 m || is_between 16 17 m) same.1)
       at (inr other_number) = absurd (clash (sym h ∙ other_number.0))
 
 pub belongs_job : (p : LinearProgram) (e : Evidence) → IsTrue (belongs (Primal p) e) → IsTrue (belongs (job_of p p.change) e)
@@ -188,11 +205,19 @@ either false b e f = e
 
 point_number : (p : LinearProgram) (o : Option Change) (e : Evidence) → IsTrue (is_of_point o e.formula) → IsPointNumber o p e
 point_number p None e h =
-    let n = point_apart e.formula h in record { no_move = n.0; no_distance = n.1; no_ratio = n.2; belongs_to = ap₂ (λ a b. a && (not b || not (nat_eq e.term 3))) n.3 n.1 }
+    let n = point_apart e.formula h in
+    record { no_move = n.0; no_distance = n.1; no_ratio = n.2; belongs_to = ap₂ (λ a b. a && (not b || not (nat_eq e.term 3))) n.3 n.1 }
 point_number p (Some c) e h = at (is_between 1 5 e.formula || is_between 10 12 e.formula) refl
   where
     at : (b : Bool) → (is_between 1 5 e.formula || is_between 10 12 e.formula) ≡ b → IsPointNumber (Some c) p e
-    at true is = let n = point_apart e.formula is in record { no_move = n.0; no_distance = n.1; no_ratio = n.2; belongs_to = ap₂ (λ a b. a && (not b || not (nat_eq e.term 3))) (primal_number e.formula n.3) n.1 }
+    at true is =
+        let n = point_apart e.formula is in record {
+          no_move = n.0;
+          no_distance = n.1;
+          no_ratio = n.2;
+          belongs_to = ap₂
+              (λ a b. a && (not b || not (nat_eq e.term 3))) (primal_number e.formula n.3) n.1;
+        }
     at false is =
         let n = price_apart e.formula (either (is_between 1 5 e.formula || is_between 10 12 e.formula) (nat_eq e.formula 17) h is) in
         record { no_move = n.0; no_distance = n.1; no_ratio = n.2; belongs_to = ap₂ (λ a b. a && (not b || not (nat_eq e.term 3))) n.3 n.1 }
@@ -208,18 +233,23 @@ limit_number p k Fr l e = refl
 
 module _ (p : LinearProgram) (s : List Status) (left : ℕ) (before now : List Basics) (e : Evidence) where
   -- with no other basis ahead
-  evidence_here : (Goes : Status → Type 0) → StopsAt Goes p (basics_of s ∷ before) s now e → ((to : Status) → Goes to → (is_between 7 9 e.formula ≡ true) × (is_between 8 9 e.formula ≡ true) → GoesTo (job_of p p.change) None s e to) → IsOfMove (job_of p p.change) None s e →
+  evidence_here : (Goes : Status → Type 0) → StopsAt Goes p (basics_of s ∷ before) s now e →
+      ((to : Status) → Goes to → (is_between 7 9 e.formula ≡ true) × (is_between 8 9 e.formula ≡ true) → GoesTo (job_of p p.change) None s e to) →
+      IsOfMove (job_of p p.change) None s e →
       IsTrue (belongs (job_of p p.change) e) → EvidenceAt p s left before now e
   evidence_here Goes stops goes of_move belongs_to = record {
     is_way = stops.is_way;
     shows = λ earlier lie.
-        let cover : Covers p.matrix (basics_of s ∷ before) (map basics_of (earlier ++ s ∷ [])) = (within_last p.matrix earlier s, Covers-all p.matrix before (map basics_of (earlier ++ s ∷ [])) lie) in
+        let cover : Covers p.matrix (basics_of s ∷ before) (map basics_of (earlier ++ s ∷ [])) =
+        (within_last p.matrix earlier s, Covers-all p.matrix before (map basics_of (earlier ++ s ∷ [])) lie) in
         record {
           before = earlier;
           reached = refl;
           ahead = None;
           is_ahead = tt;
-          shows = shows_goes (job_of p p.change) Goes (GoesTo (job_of p p.change) None s e) s e goes (map basics_of (earlier ++ s ∷ [])) (waypoint (basics_of s) now e.way)
+          shows =
+              shows_goes (job_of p p.change) Goes (GoesTo (job_of p p.change) None s e) s e goes (map basics_of (earlier ++ s ∷ []))
+              (waypoint (basics_of s) now e.way)
               (stops_covered Goes p (basics_of s ∷ before) (map basics_of (earlier ++ s ∷ [])) s now e cover stops).shows;
           is_theta = stops.is_theta;
           of_move = of_move;
@@ -229,7 +259,9 @@ module _ (p : LinearProgram) (s : List Status) (left : ℕ) (before now : List B
 
   -- with the basis ahead to which the move m leads
   evidence_ahead : (Goes : Status → Type 0) (m : Move) → PathMoves p s m → basics_of (after s m) ≡ exchanged (basics_of s) m.leaves m.enters → 1 ≤ left →
-      StopsAt Goes p (basics_of s ∷ exchanged (basics_of s) m.leaves m.enters ∷ before) s now e → ((to : Status) → Goes to → (is_between 7 9 e.formula ≡ true) × (is_between 8 9 e.formula ≡ true) → GoesTo (job_of p p.change) None s e to) → IsOfMove (job_of p p.change) None s e →
+      StopsAt Goes p (basics_of s ∷ exchanged (basics_of s) m.leaves m.enters ∷ before) s now e →
+      ((to : Status) → Goes to → (is_between 7 9 e.formula ≡ true) × (is_between 8 9 e.formula ≡ true) → GoesTo (job_of p p.change) None s e to) →
+      IsOfMove (job_of p p.change) None s e →
       IsTrue (belongs (job_of p p.change) e) → EvidenceAt p s left before now e
   evidence_ahead Goes m moves leads one_left stops goes of_move belongs_to = record {
     is_way = stops.is_way;
@@ -237,7 +269,8 @@ module _ (p : LinearProgram) (s : List Status) (left : ℕ) (before now : List B
         let cover : Covers p.matrix (basics_of s ∷ exchanged (basics_of s) m.leaves m.enters ∷ before) (map basics_of ((earlier ++ s ∷ []) ++ after s m ∷ [])) = (
           within_more p.matrix (basics_of s) (earlier ++ s ∷ []) (after s m ∷ []) (within_last p.matrix earlier s),
           (
-            subst (λ (b : Basics). IsWithinOne p.matrix b (map basics_of ((earlier ++ s ∷ []) ++ after s m ∷ []))) leads (within_last p.matrix (earlier ++ s ∷ []) (after s m)),
+            subst (λ (b : Basics). IsWithinOne p.matrix b (map basics_of ((earlier ++ s ∷ []) ++ after s m ∷ []))) leads
+                (within_last p.matrix (earlier ++ s ∷ []) (after s m)),
             covers_more p.matrix before (earlier ++ s ∷ []) (after s m ∷ []) (Covers-all p.matrix before (map basics_of (earlier ++ s ∷ [])) lie),
           ),
         ) in
@@ -246,8 +279,11 @@ module _ (p : LinearProgram) (s : List Status) (left : ℕ) (before now : List B
           reached = refl;
           ahead = Some (after s m);
           is_ahead = (one_left, (m, moves_at p s m moves, refl));
-          shows = shows_goes (job_of p p.change) Goes (GoesTo (job_of p p.change) None s e) s e goes (map basics_of ((earlier ++ s ∷ []) ++ after s m ∷ [])) (waypoint (basics_of s) now e.way)
-              (stops_covered Goes p (basics_of s ∷ exchanged (basics_of s) m.leaves m.enters ∷ before) (map basics_of ((earlier ++ s ∷ []) ++ after s m ∷ [])) s now e cover stops).shows;
+          shows =
+              shows_goes (job_of p p.change) Goes (GoesTo (job_of p p.change) None s e) s e goes (map basics_of ((earlier ++ s ∷ []) ++ after s m ∷ []))
+              (waypoint (basics_of s) now e.way)
+              (stops_covered Goes p (basics_of s ∷ exchanged (basics_of s) m.leaves m.enters ∷ before)
+              (map basics_of ((earlier ++ s ∷ []) ++ after s m ∷ [])) s now e cover stops).shows;
           is_theta = stops.is_theta;
           of_move = of_move;
           of_statement = belongs_to;
@@ -259,16 +295,23 @@ module _ (p : LinearProgram) (s : List Status) (left : ℕ) (before now : List B
   of_point h =
       let n = point_number p p.change e h.of_call in
       evidence_here (λ to. ⊥) h.stops (λ to none number. absurd none)
-      (record { enters = λ is. absurd (clash (sym is ∙ n.no_move)); brings = λ is. absurd (clash (sym is ∙ n.no_ratio)); steps = λ is. absurd (clash (sym is ∙ n.no_distance)) })
+      (record {
+        enters = λ is. absurd (clash (sym is ∙ n.no_move));
+        brings = λ is. absurd (clash (sym is ∙ n.no_ratio));
+        steps = λ is. absurd
+            (clash (sym is ∙ n.no_distance));
+      })
       n.belongs_to
 
 -- ---- the numbers of the formulas of a move
 
-stopper_number : (n term : ℕ) → ((nat_eq n 6 && not (nat_eq term 3)) || nat_eq n 7) ≡ true → (is_between 7 9 n ≡ true → nat_eq n 7 ≡ true) × (nat_eq n 14 ≡ false) × (is_between 1 12 n ≡ true) × ((not (nat_eq n 6) || not (nat_eq term 3)) ≡ true)
+stopper_number : (n term : ℕ) → ((nat_eq n 6 && not (nat_eq term 3)) || nat_eq n 7) ≡ true →
+    (is_between 7 9 n ≡ true → nat_eq n 7 ≡ true) × (nat_eq n 14 ≡ false) × (is_between 1 12 n ≡ true) × ((not (nat_eq n 6) || not (nat_eq term 3)) ≡ true)
 stopper_number n term h = at (eqb_tells n 6) (eqb_tells n 7)
   where
     goal : Type 0
-    goal = (is_between 7 9 n ≡ true → nat_eq n 7 ≡ true) × (nat_eq n 14 ≡ false) × (is_between 1 12 n ≡ true) × ((not (nat_eq n 6) || not (nat_eq term 3)) ≡ true)
+    goal =
+        (is_between 7 9 n ≡ true → nat_eq n 7 ≡ true) × (nat_eq n 14 ≡ false) × (is_between 1 12 n ≡ true) × ((not (nat_eq n 6) || not (nat_eq term 3)) ≡ true)
 
     term_of : (b : Bool) → (b || false) ≡ true → b ≡ true
     term_of true e = refl
@@ -276,8 +319,13 @@ stopper_number n term h = at (eqb_tells n 6) (eqb_tells n 7)
 
     at : (((eqb n 6 ≡ true) × (n ≡ 6)) ⊎ ((eqb n 6 ≡ false) × (n ≢ 6))) → (((eqb n 7 ≡ true) × (n ≡ 7)) ⊎ ((eqb n 7 ≡ false) × (n ≢ 7))) → goal
     at (inl six) other =
-        let term_is = term_of (not (nat_eq term 3)) (subst (λ (m : ℕ). ((nat_eq m 6 && not (nat_eq term 3)) || nat_eq m 7) ≡ true) six.1 h) in
-        (λ e. absurd (clash (sym e ∙ ap (is_between 7 9) six.1)), ap (λ m. nat_eq m 14) six.1, ap (is_between 1 12) six.1, ap₂ (λ a b. not a || b) six.0 term_is)
+        let term_is = term_of (not (nat_eq term 3)) (subst (λ (m : ℕ). ((nat_eq m 6 && not (nat_eq term 3)) || nat_eq m 7) ≡ true) six.1 h) in (
+          λ e. absurd (clash (sym e ∙ ap (is_between 7 9) six.1)),
+          ap (λ m. nat_eq m 14) six.1,
+          ap (is_between 1 12) six.1,
+          ap₂
+              (λ a b. not a || b) six.0 term_is,
+        )
     at (inr other) (inl seven) = (λ e. seven.0, ap (λ m. nat_eq m 14) seven.1, ap (is_between 1 12) seven.1, ap (λ a. not a || not (nat_eq term 3)) other.0)
     at (inr other) (inr far) = absurd (clash (sym h ∙ ap₂ (λ a b. (a && not (nat_eq term 3)) || b) other.0 far.0))
 
@@ -290,7 +338,8 @@ step_brings_not n term h = at (eqb_tells n 14)
 
 module _ (p : LinearProgram) (s : List Status) (left : ℕ) (before now : List Basics) (e : Evidence) where
   -- of the search for what stops q
-  pub of_stopper : (z d : Vector) (q : ℕ) (up : Bool) → PathEnters p s q → (IsSome (stopper_of p z d up) → (m : Move) × PathMoves p s m) → StopperRefused p s z d q up e → EvidenceAt p s left before now e
+  pub of_stopper : (z d : Vector) (q : ℕ) (up : Bool) → PathEnters p s q → (IsSome (stopper_of p z d up) → (m : Move) × PathMoves p s m) →
+      StopperRefused p s z d q up e → EvidenceAt p s left before now e
   of_stopper z d q up enters moves h =
       let n = stopper_number e.formula e.term h.of_call in
       let bound : e.way ≤ 0 = h.stops.is_way in
@@ -300,7 +349,9 @@ module _ (p : LinearProgram) (s : List Status) (left : ℕ) (before now : List B
       (record {
         is_way = omega (arith, no_way);
         is_theta = h.stops.is_theta;
-        shows = subst (λ (w : Basics). ShowsRefusal (job_of p p.change) (λ to. ⊥) (basics_of s ∷ []) s w e) (ap (waypoint (basics_of s) []) no_way ∙ sym (ap (waypoint (basics_of s) now) no_way)) h.stops.shows;
+        shows =
+            subst (λ (w : Basics). ShowsRefusal (job_of p p.change) (λ to. ⊥) (basics_of s ∷ []) s w e)
+            (ap (waypoint (basics_of s) []) no_way ∙ sym (ap (waypoint (basics_of s) now) no_way)) h.stops.shows;
       }))
       (λ to none number. absurd none)
       (record {
@@ -311,7 +362,8 @@ module _ (p : LinearProgram) (s : List Status) (left : ℕ) (before now : List B
       (belongs_job p e (ap₂ (λ a b. a && b) n.2 n.3))
 
   -- of what brings r back
-  pub of_return : (z d : Vector) (q r : ℕ) (to : Status) (m : Move) → PathEnters p s q → PathMoves p s m → IsPointOf p s z → IsNonsingular p.matrix (basics_of s) → IsBasic p.matrix (basics_of s) r → IsNonbasic p.matrix (basics_of s) q →
+  pub of_return : (z d : Vector) (q r : ℕ) (to : Status) (m : Move) → PathEnters p s q → PathMoves p s m → IsPointOf p s z →
+      IsNonsingular p.matrix (basics_of s) → IsBasic p.matrix (basics_of s) r → IsNonbasic p.matrix (basics_of s) q →
       IsDirectionOf p.matrix (basics_of s) q d → d r ≢ zero_ℚ → ReturnRefused p z d q r to e → EvidenceAt p s left before now e
   of_return z d q r to m enters moves point nonsingular basic out direction pivot h = by_kind h
     where
@@ -332,16 +384,20 @@ module _ (p : LinearProgram) (s : List Status) (left : ℕ) (before now : List B
 
       by_kind : ReturnRefused p z d q r to e → EvidenceAt p s left before now e
       by_kind (of_distance l limit f) =
-          evidence_here p s left before now e (λ to. ⊥) (stops f.no_way f.is_theta (f6 r (number_of_limit to) l f.names basic.0 limit f.refuses)) (λ to none number. absurd none)
+          evidence_here p s left before now e (λ to. ⊥) (stops f.no_way f.is_theta (f6 r (number_of_limit to) l f.names basic.0 limit f.refuses))
+          (λ to none number. absurd none)
           (record {
             enters = λ is. absurd (clash (sym is ∙ ap (is_between 7 9) f.names.is_formula));
             brings = λ is. absurd (clash (sym is ∙ ap (λ n. nat_eq n 14) f.names.is_formula));
             steps = λ is. takes_step p s m moves;
           })
-          (belongs_job p e (ap₂ (λ a b. is_between 1 12 a && (not (nat_eq a 6) || not (nat_eq b 3))) f.names.is_formula f.names.is_term ∙ limit_number p r to l limit))
+          (belongs_job p e
+          (ap₂ (λ a b. is_between 1 12 a && (not (nat_eq a 6) || not (nat_eq b 3))) f.names.is_formula f.names.is_term ∙ limit_number p r to l limit))
       by_kind (of_quotient l limit other f) =
           evidence_here p s left before now e (λ to. ⊥)
-          (stops f.no_way f.is_theta (f7 q r (number_of_limit to) l f.names basic out limit (λ vanishes. pivot (sym at_q ∙ vanishes)) (subst (λ (x : ℚ). Refuses e Div (l -ℚ z r) x) (sym at_q) f.refuses)))
+          (stops f.no_way f.is_theta
+          (f7 q r (number_of_limit to) l f.names basic out limit (λ vanishes. pivot (sym at_q ∙ vanishes))
+          (subst (λ (x : ℚ). Refuses e Div (l -ℚ z r) x) (sym at_q) f.refuses)))
           (λ to none number. absurd none)
           (record {
             enters = λ is. subst (EntersAt (job_of p p.change) None s) (sym f.names.is_q) (enters_at p s q enters);
@@ -351,7 +407,8 @@ module _ (p : LinearProgram) (s : List Status) (left : ℕ) (before now : List B
           (belongs_job p e (ap (λ a. is_between 1 12 a && (not (nat_eq a 6) || not (nat_eq e.term 3))) f.names.is_formula))
 
   -- of the step of q by what stops it, with the basis that it leads to ahead
-  pub of_step : (q : ℕ) (by : Stopper) → PathEnters p s q → PathMoves p s (move_by q by) → by.to ≢ Bs → 1 ≤ left → StepRefused p before s q by now e → EvidenceAt p s left before now e
+  pub of_step : (q : ℕ) (by : Stopper) → PathEnters p s q → PathMoves p s (move_by q by) → by.to ≢ Bs → 1 ≤ left → StepRefused p before s q by now e →
+      EvidenceAt p s left before now e
   of_step q by enters moves apart one_left h =
       evidence_ahead p s left before now e (λ to. to ≡ by.to) (move_by q by) moves (basics_of-replaced s by.p q by.to apart) one_left h.stops
       (λ to same number. goes_to p s (move_by q by) e to moves (sym (h.enters number.0)) (sym (h.leaves number.1)) (sym same))
@@ -363,16 +420,25 @@ module _ (p : LinearProgram) (s : List Status) (left : ℕ) (before now : List B
       (belongs_job p e h.of_call)
 
 -- a step after other calls at the same basis
-pub step_refused_later : (p : LinearProgram) (before mid now : List Basics) (s : List Status) (q : ℕ) (by : Stopper) (e : Evidence) → KeepsWaypoints p.matrix (basics_of s) before (basics_of s) mid → StepRefused p mid s q by now e → StepRefused p before s q by now e
+pub step_refused_later : (p : LinearProgram) (before mid now : List Basics) (s : List Status) (q : ℕ) (by : Stopper) (e : Evidence) →
+    KeepsWaypoints p.matrix (basics_of s) before (basics_of s) mid → StepRefused p mid s q by now e → StepRefused p before s q by now e
 step_refused_later p before mid now s q by e keeps h = record {
   of_call = h.of_call;
   enters = h.enters;
   leaves = h.leaves;
-  stops = stops_covered (λ to. to ≡ by.to) p (basics_of s ∷ exchanged (basics_of s) by.p q ∷ mid) (basics_of s ∷ exchanged (basics_of s) by.p q ∷ before) s now e
-      (inl (within_itself p.matrix (basics_of s)), (inr (inl (within_itself p.matrix (exchanged (basics_of s) by.p q))), Covers-insert p.matrix mid (basics_of s) (exchanged (basics_of s) by.p q) before (kept_within p.matrix (basics_of s) before mid keeps))) h.stops;
+  stops =
+      stops_covered (λ to. to ≡ by.to) p (basics_of s ∷ exchanged (basics_of s) by.p q ∷ mid) (basics_of s ∷ exchanged (basics_of s) by.p q ∷ before) s now e (
+        inl (within_itself p.matrix (basics_of s)),
+        (
+          inr (inl (within_itself p.matrix (exchanged (basics_of s) by.p q))),
+          Covers-insert p.matrix mid (basics_of s) (exchanged (basics_of s) by.p q) before
+              (kept_within p.matrix (basics_of s) before mid keeps),
+        ),
+      ) h.stops;
 }
 
 -- a stop of a call as that of the turn
-pub turn_stops : (p : LinearProgram) (s : List Status) (left : ℕ) (before now : List Basics) (why : Stop) (P : Evidence → Type 0) → ((e : Evidence) → P e → EvidenceAt p s left before now e) → IfOverflow why P → TurnStops p s left before now (primal_stop_of why)
+pub turn_stops : (p : LinearProgram) (s : List Status) (left : ℕ) (before now : List Basics) (why : Stop) (P : Evidence → Type 0) →
+    ((e : Evidence) → P e → EvidenceAt p s left before now e) → IfOverflow why P → TurnStops p s left before now (primal_stop_of why)
 turn_stops p s left before now (stop.Overflow e) P f h = f e h
 turn_stops p s left before now stop.NoMemory P f h = tt

@@ -59,7 +59,8 @@ pub record RuleNeverReturned (rule : Rule) (p : LinearProgram) (s now : List Sta
 
 -- the path from s to now, within the limit; and for every list of bases that ends with s, in which the waypoints lay before the
 -- call, the evidence holds on that list followed by this path
-pub record RuleStopsOnPath (rule : Rule) (statement : SolvingStatement) (p : LinearProgram) (s now : List Status) (limit : ℕ) (before after : List Basics) (e : Evidence) : Type 0 where
+pub record RuleStopsOnPath (rule : Rule) (statement : SolvingStatement) (p : LinearProgram) (s now : List Status) (limit : ℕ) (before after : List Basics)
+    (e : Evidence) : Type 0 where
   pub bases : List (List Status)
   pub is_path : RulePath rule p s bases
   pub reaches : last_of s bases ≡ now

@@ -39,6 +39,7 @@ pub record SomeMovedRefused (p : LinearProgram) (all : Bool) (by : Stopper) (d z
   pub refused : MovedRefused by.step (d i) (z i) by.p q i e
 
 pub data ReturnRefused (p : LinearProgram) (z d : Vector) (q k : ℕ) (to : Status) (e : Evidence) : Type 0 where
-  of_distance : (l : ℚ) → limit_numbered p k (number_of_limit to) ≡ Some l → IsRefusal (reach_formula 6 0 k (number_of_limit to)) Sub l (z k) e → ReturnRefused p z d q k to e
+  of_distance : (l : ℚ) → limit_numbered p k (number_of_limit to) ≡ Some l → IsRefusal (reach_formula 6 0 k (number_of_limit to)) Sub l (z k) e →
+      ReturnRefused p z d q k to e
   of_quotient : (l : ℚ) → limit_numbered p k (number_of_limit to) ≡ Some l → d k ≢ one_ℚ →
       IsRefusal (reach_formula 7 q k (number_of_limit to)) Div (l -ℚ z k) (d k) e → ReturnRefused p z d q k to e

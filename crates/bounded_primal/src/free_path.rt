@@ -59,10 +59,12 @@ fn free_turn<R: Rates>(
     requires row_places { length row.old ≡ size at.now.lp.now.matrix }
     requires direction_places { length direction.old ≡ size at.now.lp.now.matrix }
     requires point { AgreesWithPoint at.now.lp.now at.now.basis.now (value_at at.now.point.now) }
-    requires kept { IsTrue (all_kept at.now.kept) → IsPointOf at.now.lp.now at.now.basis.now (value_at at.now.point.now) }
+    requires kept { IsTrue (all_kept at.now.kept) →
+        IsPointOf at.now.lp.now at.now.basis.now (value_at at.now.point.now) }
     requires uncrossed { IsUncrossed at.now.lp.now }
     requires left { at.now.left ≡ 1 }
-    requires broken { at.now.broken ≡ least_outside at.now.lp.now at.now.basis.now (value_at at.now.point.now) }
+    requires broken { at.now.broken ≡
+        least_outside at.now.lp.now at.now.basis.now (value_at at.now.point.now) }
     ensures turn { FreeTurnFound result at.now.lp.now at.now.basis.now at.now.steps
         (value_at direction.new) (R.state rates.old) (R.state rates.new) }
     ensures direction_places { OnOk result (length direction.new ≡ size at.now.lp.now.matrix) }

@@ -85,7 +85,8 @@ fn moved_if_possible(
     i: u32,
     needed: bool,
 ) -> Result<Option<Frac>, Evidence>
-    ensures value { IfOk result (λ found. IfSome found (λ moved. moved ≡ value +ℚ by.now.step *ℚ rate)) }
+    ensures value { IfOk result
+        (λ found. IfSome found (λ moved. moved ≡ value +ℚ by.now.step *ℚ rate)) }
     ensures found { IfOk result (λ found. IsTrue needed → IsSome found) }
     ensures refused { IfErr result (MovedRefused by.now.step rate value by.now.p q i) }
     ensures moves { OnErr result (rate ≢ zero_ℚ) }
@@ -102,10 +103,12 @@ fn moved_if_possible(
 fn move_point(lp: &Lp, step: &Move<'_>, point: &mut [Frac], kept: Kept) -> Result<Kept, Evidence>
     requires direction_places { length step.now.direction.now ≡ size lp.now.matrix }
     requires point_places { length point.old ≡ size lp.now.matrix }
-    ensures limited { OnOk result (IsMovedAtLimits lp.now step.now.by.now.step (value_at step.now.direction.now)
+    ensures limited { OnOk result
+        (IsMovedAtLimits lp.now step.now.by.now.step (value_at step.now.direction.now)
         (value_at point.old) (size lp.now.matrix) (value_at point.new)) }
     ensures moved { IfOk result (λ still. IsTrue (all_kept still) → IsMoved step.now.by.now.step
-        (value_at step.now.direction.now) (value_at point.old) (size lp.now.matrix) (value_at point.new)) }
+        (value_at step.now.direction.now) (value_at point.old)
+        (size lp.now.matrix) (value_at point.new)) }
     ensures kept { IfOk result (λ still. IsTrue (all_kept still) → IsTrue (all_kept kept)) }
     ensures needed { IfOk result (λ still. IsTrue (all_needed kept) → IsTrue (all_kept still)) }
     ensures refused { IfErr result (SomeMovedRefused lp.now (all_needed kept) step.now.by.now
@@ -193,7 +196,8 @@ fn change_basis<R: Rates>(
     requires direction { IsDirectionOf lp.now.matrix (basics_of basis.old) step.now.q
         (value_at step.now.direction.now) }
     requires direction_places { length step.now.direction.now ≡ size lp.now.matrix }
-    requires step { StepsFromPoint lp.now basis.old (value_at step.now.direction.now) step.now.q step.now.by.now }
+    requires step { StepsFromPoint lp.now basis.old
+        (value_at step.now.direction.now) step.now.q step.now.by.now }
     requires moves { value_at step.now.direction.now step.now.by.now.p ≢ zero_ℚ }
     ensures basis { OnOk result (basis.new ≡ after basis.old (move_by step.now.q step.now.by.now)) }
     ensures unchanged { OnErr result (basis.new ≡ basis.old) }
@@ -233,7 +237,8 @@ pub fn step_over<R: Rates>(
     requires direction { IsDirectionOf lp.now.matrix (basics_of basis.old) step.now.q
         (value_at step.now.direction.now) }
     requires moves { value_at step.now.direction.now step.now.by.now.p ≢ zero_ℚ }
-    requires step { StepsFromPoint lp.now basis.old (value_at step.now.direction.now) step.now.q step.now.by.now }
+    requires step { StepsFromPoint lp.now basis.old
+        (value_at step.now.direction.now) step.now.q step.now.by.now }
     ensures basis { OnOk result (basis.new ≡ after basis.old (move_by step.now.q step.now.by.now)) }
     ensures point { OnOk result (AgreesWithPoint lp.now basis.new (value_at point.new)) }
     ensures kept { IfOk result (λ still. IsTrue (all_kept still) →

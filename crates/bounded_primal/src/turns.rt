@@ -117,7 +117,8 @@ fn restoring<R: Rates>(
     requires wants { AreWants at.now.lp.now at.now.basis.now wanted.now }
     requires places { length row.old ≡ size at.now.lp.now.matrix }
     requires basic { IsBasic at.now.lp.now.matrix (basics_of at.now.basis.now) r }
-    ensures found { IfOk result (IsRestoring at.now.lp.now at.now.basis.now r below (value_at row.new)) }
+    ensures found { IfOk result
+        (IsRestoring at.now.lp.now at.now.basis.now r below (value_at row.new)) }
     ensures rates { StaysAt (R.state rates.old) (R.state rates.new) at.now.lp.now at.now.basis.now }
     ensures overflow { PointOverflow result at.now.lp.now at.now.basis.now (R.state rates.old)
         (R.state rates.new) }
@@ -143,9 +144,11 @@ pub fn return_along<R: Rates>(
     requires nonbasic { IsNonbasic at.now.lp.now.matrix (basics_of at.now.basis.now) q }
     requires basic { IsBasic at.now.lp.now.matrix (basics_of at.now.basis.now) p }
     requires limit { IsSome (limit_numbered at.now.lp.now p (number_of_limit to)) }
-    requires pivot { (d : ℕ → ℚ) → IsDirectionOf at.now.lp.now.matrix (basics_of at.now.basis.now) q d →
+    requires pivot { (d : ℕ → ℚ) →
+        IsDirectionOf at.now.lp.now.matrix (basics_of at.now.basis.now) q d →
         d p ≢ zero_ℚ }
-    ensures direction { OnOk result (IsDirectionOf at.now.lp.now.matrix (basics_of at.now.basis.now) q
+    ensures direction { OnOk result
+        (IsDirectionOf at.now.lp.now.matrix (basics_of at.now.basis.now) q
         (value_at direction.new)) }
     ensures stopper { IfOk result (λ by. by ≡ return_by at.now.lp.now (value_at at.now.point.now)
         (value_at direction.new) p to) }
@@ -177,9 +180,11 @@ fn stopper_of<R: Rates>(
     requires within { IsWithinLimits at.now.lp.now (value_at at.now.point.now) }
     requires nonbasic { IsNonbasic at.now.lp.now.matrix (basics_of at.now.basis.now) q }
     requires may { IsTrue (may_move at.now.lp.now at.now.basis.now up q) }
-    ensures direction { OnOk result (IsDirectionOf at.now.lp.now.matrix (basics_of at.now.basis.now) q
+    ensures direction { OnOk result
+        (IsDirectionOf at.now.lp.now.matrix (basics_of at.now.basis.now) q
         (value_at direction.new)) }
-    ensures stopper { IfOk result (λ found. found ≡ stopper_by at.now.lp.now (value_at at.now.point.now)
+    ensures stopper { IfOk result
+        (λ found. found ≡ stopper_by at.now.lp.now (value_at at.now.point.now)
         (value_at direction.new) up) }
     ensures direction_places { OnOk result (length direction.new ≡ size at.now.lp.now.matrix) }
     ensures rates { StaysAt (R.state rates.old) (R.state rates.new) at.now.lp.now at.now.basis.now }
@@ -233,7 +238,8 @@ fn entering_variable_by_prices<R: Rates>(
     requires lawful { IsLinearProgram at.now.lp.now }
     requires row_places { length row.old ≡ size at.now.lp.now.matrix }
     requires price_places { length prices.old ≡ size at.now.lp.now.matrix }
-    ensures found { IfOk result (IsEnteringVariableFound at.now.lp.now at.now.basis.now (value_at prices.new)) }
+    ensures found { IfOk result
+        (IsEnteringVariableFound at.now.lp.now at.now.basis.now (value_at prices.new)) }
     ensures rates { StaysAt (R.state rates.old) (R.state rates.new) at.now.lp.now at.now.basis.now }
     ensures overflow { PointOverflow result at.now.lp.now at.now.basis.now (R.state rates.old)
         (R.state rates.new) }
@@ -256,7 +262,8 @@ fn entering_variable_by_row<R: Rates>(
     requires wants { AreWants at.now.lp.now at.now.basis.now wanted.now }
     requires unchanged { at.now.lp.now.change ≡ None }
     requires places { length prices.old ≡ size at.now.lp.now.matrix }
-    ensures found { IfOk result (IsEnteringVariableFound at.now.lp.now at.now.basis.now (value_at prices.new)) }
+    ensures found { IfOk result
+        (IsEnteringVariableFound at.now.lp.now at.now.basis.now (value_at prices.new)) }
     ensures rates { StaysAt (R.state rates.old) (R.state rates.new) at.now.lp.now at.now.basis.now }
     ensures overflow { PointOverflow result at.now.lp.now at.now.basis.now (R.state rates.old)
         (R.state rates.new) }
@@ -282,7 +289,8 @@ fn entering_variable_of<R: Rates>(
     requires wants { AreWants at.now.lp.now at.now.basis.now wanted.now }
     requires row_places { length row.old ≡ size at.now.lp.now.matrix }
     requires price_places { length prices.old ≡ size at.now.lp.now.matrix }
-    ensures found { IfOk result (IsEnteringVariableFound at.now.lp.now at.now.basis.now (value_at prices.new)) }
+    ensures found { IfOk result
+        (IsEnteringVariableFound at.now.lp.now at.now.basis.now (value_at prices.new)) }
     ensures rates { StaysAt (R.state rates.old) (R.state rates.new) at.now.lp.now at.now.basis.now }
     ensures overflow { PointOverflow result at.now.lp.now at.now.basis.now (R.state rates.old)
         (R.state rates.new) }
@@ -316,7 +324,8 @@ fn first_phase<R: Rates>(
     requires direction_places { length direction.old ≡ size at.now.lp.now.matrix }
     requires point { AgreesWithPoint at.now.lp.now at.now.basis.now (value_at at.now.point.now) }
     requires uncrossed { IsUncrossed at.now.lp.now }
-    requires outside { least_outside at.now.lp.now at.now.basis.now (value_at at.now.point.now) ≡ Some r }
+    requires outside { least_outside at.now.lp.now at.now.basis.now
+        (value_at at.now.point.now) ≡ Some r }
     ensures turn { TurnFound result at.now.lp.now at.now.basis.now at.now.steps at.now.left
         (value_at direction.new) (R.state rates.old) (R.state rates.new) }
     ensures direction_places { OnOk result (length direction.new ≡ size at.now.lp.now.matrix) }
@@ -340,9 +349,11 @@ fn first_phase<R: Rates>(
 /// The point of the basis: a copy where all its values are kept, and else made anew.
 pub fn whole_point<R: Rates>(at: &Position<'_>, rates: &mut R) -> Result<Vec<Frac>, Stop>
     requires rates { IsAtBasis (R.state rates.old) at.now.lp.now at.now.basis.now }
-    requires kept { IsTrue (all_kept at.now.kept) → IsPointOf at.now.lp.now at.now.basis.now (value_at at.now.point.now) }
+    requires kept { IsTrue (all_kept at.now.kept) →
+        IsPointOf at.now.lp.now at.now.basis.now (value_at at.now.point.now) }
     ensures places { IfOk result (λ made. length made.items ≡ size at.now.lp.now.matrix) }
-    ensures point { IfOk result (λ made. IsPointOf at.now.lp.now at.now.basis.now (value_at made.items)) }
+    ensures point { IfOk result
+        (λ made. IsPointOf at.now.lp.now at.now.basis.now (value_at made.items)) }
     ensures rates { StaysAt (R.state rates.old) (R.state rates.new) at.now.lp.now at.now.basis.now }
     ensures overflow { PointOverflow result at.now.lp.now at.now.basis.now (R.state rates.old)
         (R.state rates.new) }
@@ -404,9 +415,11 @@ fn run<R: Rates>(
     requires rates { IsAtBasis (R.state rates.old) at.now.lp.now at.now.basis.now }
     requires direction_places { length direction.old ≡ size at.now.lp.now.matrix }
     requires point { AgreesWithPoint at.now.lp.now at.now.basis.now (value_at at.now.point.now) }
-    requires kept { IsTrue (all_kept at.now.kept) → IsPointOf at.now.lp.now at.now.basis.now (value_at at.now.point.now) }
+    requires kept { IsTrue (all_kept at.now.kept) →
+        IsPointOf at.now.lp.now at.now.basis.now (value_at at.now.point.now) }
     requires uncrossed { IsUncrossed at.now.lp.now }
-    requires inside { least_outside at.now.lp.now at.now.basis.now (value_at at.now.point.now) ≡ None }
+    requires inside { least_outside at.now.lp.now at.now.basis.now
+        (value_at at.now.point.now) ≡ None }
     requires moves { Improves at.now.lp.now at.now.basis.now moved }
     ensures turn { TurnFound result at.now.lp.now at.now.basis.now at.now.steps at.now.left
         (value_at direction.new) (R.state rates.old) (R.state rates.new) }
@@ -452,9 +465,11 @@ fn second_phase<R: Rates>(
     requires row_places { length row.old ≡ size at.now.lp.now.matrix }
     requires direction_places { length direction.old ≡ size at.now.lp.now.matrix }
     requires point { AgreesWithPoint at.now.lp.now at.now.basis.now (value_at at.now.point.now) }
-    requires kept { IsTrue (all_kept at.now.kept) → IsPointOf at.now.lp.now at.now.basis.now (value_at at.now.point.now) }
+    requires kept { IsTrue (all_kept at.now.kept) →
+        IsPointOf at.now.lp.now at.now.basis.now (value_at at.now.point.now) }
     requires uncrossed { IsUncrossed at.now.lp.now }
-    requires inside { least_outside at.now.lp.now at.now.basis.now (value_at at.now.point.now) ≡ None }
+    requires inside { least_outside at.now.lp.now at.now.basis.now
+        (value_at at.now.point.now) ≡ None }
     ensures turn { TurnFound result at.now.lp.now at.now.basis.now at.now.steps at.now.left
         (value_at direction.new) (R.state rates.old) (R.state rates.new) }
     ensures direction_places { OnOk result (length direction.new ≡ size at.now.lp.now.matrix) }
@@ -486,9 +501,11 @@ pub fn next_turn<R: Rates>(
     requires row_places { length row.old ≡ size at.now.lp.now.matrix }
     requires direction_places { length direction.old ≡ size at.now.lp.now.matrix }
     requires point { AgreesWithPoint at.now.lp.now at.now.basis.now (value_at at.now.point.now) }
-    requires kept { IsTrue (all_kept at.now.kept) → IsPointOf at.now.lp.now at.now.basis.now (value_at at.now.point.now) }
+    requires kept { IsTrue (all_kept at.now.kept) →
+        IsPointOf at.now.lp.now at.now.basis.now (value_at at.now.point.now) }
     requires uncrossed { IsUncrossed at.now.lp.now }
-    requires broken { at.now.broken ≡ least_outside at.now.lp.now at.now.basis.now (value_at at.now.point.now) }
+    requires broken { at.now.broken ≡
+        least_outside at.now.lp.now at.now.basis.now (value_at at.now.point.now) }
     ensures turn { TurnFound result at.now.lp.now at.now.basis.now at.now.steps at.now.left
         (value_at direction.new) (R.state rates.old) (R.state rates.new) }
     ensures direction_places { OnOk result (length direction.new ≡ size at.now.lp.now.matrix) }

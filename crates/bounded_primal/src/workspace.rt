@@ -58,7 +58,8 @@ impl Workspace {
         requires lawful { IsLinearProgram lp.now }
         requires sized { AreSized (size lp.now.matrix) self.old }
         ensures sized { AreSized (size lp.now.matrix) self.new }
-        ensures prices { OnOk result (ArePricesOf lp.now basis.now (value_at self.new.prices.items)) }
+        ensures prices { OnOk result
+            (ArePricesOf lp.now basis.now (value_at self.new.prices.items)) }
         ensures rates { StaysAt (R.state rates.old) (R.state rates.new) lp.now basis.now }
         ensures overflow { PointOverflow result lp.now basis.now (R.state rates.old)
             (R.state rates.new) }

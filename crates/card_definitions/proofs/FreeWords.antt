@@ -9,7 +9,8 @@ use Rattle.card_definitions.specs.Fields.{Word, word_if_any, words_from, words, 
 -- ---- parts
 
 module _ (p q : ℕ → Bool) where
-  into-first : (x : ℕ) (parts : List (List ℕ)) → q x ≡ true → AllByRecursion (λ part. list_all q part ≡ true) parts → AllByRecursion (λ part. list_all q part ≡ true) (onto_first x parts)
+  into-first : (x : ℕ) (parts : List (List ℕ)) → q x ≡ true → AllByRecursion (λ part. list_all q part ≡ true) parts →
+      AllByRecursion (λ part. list_all q part ≡ true) (onto_first x parts)
   into-first x [] is each = (rw is refl, tt)
   into-first x (part ∷ parts) is each = (rw is each.0, each.1)
 
@@ -18,7 +19,8 @@ module _ (p q : ℕ → Bool) where
   parts-pass [] each = (refl, tt)
   parts-pass (x ∷ xs) each = by (p x) refl (parts-pass xs each.1)
     where
-      by : (b : Bool) → p x ≡ b → AllByRecursion (λ part. list_all q part ≡ true) (slice_split p xs) → AllByRecursion (λ part. list_all q part ≡ true) (cond (p x) ([] ∷ slice_split p xs) (onto_first x (slice_split p xs)))
+      by : (b : Bool) → p x ≡ b → AllByRecursion (λ part. list_all q part ≡ true) (slice_split p xs) →
+          AllByRecursion (λ part. list_all q part ≡ true) (cond (p x) ([] ∷ slice_split p xs) (onto_first x (slice_split p xs)))
       by true is more = rw is (refl, more)
       by false is more = rw is (into-first x (slice_split p xs) (each.0 is) more)
 
@@ -28,7 +30,11 @@ is_word_byte byte = is_printable byte && not (is_blank byte)
 
 printable-parts : (card : List ℕ) → list_all is_printable card ≡ true → AllByRecursion (λ byte. is_blank byte ≡ false → is_word_byte byte ≡ true) card
 printable-parts [] is = tt
-printable-parts (byte ∷ card) is = (λ clear. both (is_printable byte) (is_blank byte) (first (is_printable byte) (list_all is_printable card) is) clear, printable-parts card (second (is_printable byte) (list_all is_printable card) is))
+printable-parts (byte ∷ card) is = (
+  λ clear. both (is_printable byte) (is_blank byte) (first (is_printable byte) (list_all is_printable card) is) clear,
+  printable-parts card
+      (second (is_printable byte) (list_all is_printable card) is),
+)
   where
     first : (a b : Bool) → (a && b) ≡ true → a ≡ true
     first true b is = refl
@@ -46,16 +52,19 @@ printable-parts (byte ∷ card) is = (λ clear. both (is_printable byte) (is_bla
 -- ---- words
 
 module _ (P : List ℕ → Type 0) where
-  word-passes : (column : ℕ) (part : List ℕ) (more : List Word) → P part → AllByRecursion (λ (word : Word). P word.text) more → AllByRecursion (λ (word : Word). P word.text) (word_if_any column part ++ more)
+  word-passes : (column : ℕ) (part : List ℕ) (more : List Word) → P part → AllByRecursion (λ (word : Word). P word.text) more →
+      AllByRecursion (λ (word : Word). P word.text) (word_if_any column part ++ more)
   word-passes column [] more is each = each
   word-passes column (byte ∷ part) more is each = (is, each)
 
   words-pass : (column : ℕ) (parts : List (List ℕ)) → AllByRecursion P parts → AllByRecursion (λ (word : Word). P word.text) (words_from column parts)
   words-pass column [] each = tt
-  words-pass column (part ∷ parts) each = word-passes column part (words_from (column + length part + 1) parts) each.0 (words-pass (column + length part + 1) parts each.1)
+  words-pass column (part ∷ parts) each =
+      word-passes column part (words_from (column + length part + 1) parts) each.0 (words-pass (column + length part + 1) parts each.1)
 
   -- a field that is read of words is empty, or one of them
-  pub field-passes : (fields : List ℕ) (all : List Word) (field : ℕ) → P [] → AllByRecursion (λ (word : Word). P word.text) all → P (word_of fields all field).text
+  pub field-passes : (fields : List ℕ) (all : List Word) (field : ℕ) → P [] → AllByRecursion (λ (word : Word). P word.text) all →
+      P (word_of fields all field).text
   field-passes fields all field blank each = by (position (λ other. other == field) fields)
     where
       at : (all : List Word) (k : ℕ) → AllByRecursion (λ (word : Word). P word.text) all → P (unwrap_or (slice_get all k) no_word).text
@@ -93,7 +102,8 @@ last-clear (byte ∷ text) zero d below is = by (is_printable byte) (is_blank by
     by true false c is = refl
     by true true c is = absurd (cc is)
     by false b c is = absurd (cc is)
-last-clear (byte ∷ text) (suc k) d below is = last-clear text k d (omega (arith, below)) (by (is_printable byte && not (is_blank byte)) (list_all is_word_byte text) is)
+last-clear (byte ∷ text) (suc k) d below is =
+    last-clear text k d (omega (arith, below)) (by (is_printable byte && not (is_blank byte)) (list_all is_word_byte text) is)
   where
     by : (a b : Bool) → (a && b) ≡ true → b ≡ true
     by true b is = is
@@ -105,5 +115,7 @@ word-trimmed [] is = refl
 word-trimmed (byte ∷ text) is =
     let whole : take (length (byte ∷ text)) (byte ∷ text) ≡ byte ∷ text = take_all (length (byte ∷ text)) (byte ∷ text) (omega arith) in
     let none : suffix_len is_blank (byte ∷ text) ≡ 0 =
-    ap (suffix_len is_blank) (sym whole) ∙ suffix_len-take_no is_blank (byte ∷ text) (length (byte ∷ text)) 0 (omega arith) (omega arith) (last-clear (byte ∷ text) (length (byte ∷ text) - 1) 0 (omega arith) is) in
+    ap (suffix_len is_blank) (sym whole)
+    ∙ suffix_len-take_no is_blank (byte ∷ text) (length (byte ∷ text)) 0 (omega arith) (omega arith)
+    (last-clear (byte ∷ text) (length (byte ∷ text) - 1) 0 (omega arith) is) in
     take_all (length (byte ∷ text) - suffix_len is_blank (byte ∷ text)) (byte ∷ text) (omega (arith, none))

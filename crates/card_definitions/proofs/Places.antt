@@ -17,7 +17,8 @@ all_blank : (ys : List ℕ) → list_all is_blank ys ≡ true → ys ≡ replica
 all_blank [] h = refl
 all_blank (y ∷ ys) h = by (eqb y 32) refl h (all_blank ys)
   where
-    by : (b : Bool) → eqb y 32 ≡ b → (b && list_all is_blank ys) ≡ true → (list_all is_blank ys ≡ true → ys ≡ replicate (length ys) 32) → (y ∷ ys) ≡ (32 ∷ replicate (length ys) 32)
+    by : (b : Bool) → eqb y 32 ≡ b → (b && list_all is_blank ys) ≡ true → (list_all is_blank ys ≡ true → ys ≡ replicate (length ys) 32) →
+        (y ∷ ys) ≡ (32 ∷ replicate (length ys) 32)
     by true e rest more = ap (λ z. z ∷ ys) (eqb-true y 32 e) ∙ ap (λ zs. 32 ∷ zs) (more rest)
     by false e rest more = cc rest
 
@@ -43,7 +44,8 @@ module _ (width : ℕ) where
 
   -- Places hold their text with blanks after it.
   pub padded-text_in : (places : List ℕ) → length places ≡ width → padded width (text_in places) ≡ places
-  padded-text_in places full = let split = trailing_split is_blank places in padded-split (text_in places) split.0 split.1 (ap length (sym split.2) ∙ full) ∙ sym split.2
+  padded-text_in places full =
+      let split = trailing_split is_blank places in padded-split (text_in places) split.0 split.1 (ap length (sym split.2) ∙ full) ∙ sym split.2
 
   -- A text without blanks at its end is what its places hold.
   pub text_in-padded : (text : List ℕ) → without_trailing is_blank text ≡ text → text_in (padded width text) ≡ text
@@ -54,7 +56,8 @@ module _ (width : ℕ) where
   pub same_in_places : (a b : List ℕ) → length a ≡ width → length b ≡ width → bytes_eq a b ≡ bytes_eq (text_in a) (text_in b)
   same_in_places a b a_full b_full =
       same_from_decides (bytes_eq a b) (bytes_eq (text_in a) (text_in b)) (bytes_eq-Decides a b)
-      (Decides-like (bytes_eq (text_in a) (text_in b)) (λ e. sym (padded-text_in a a_full) ∙ ap (padded width) e ∙ padded-text_in b b_full) (ap text_in) (bytes_eq-Decides (text_in a) (text_in b)))
+      (Decides-like (bytes_eq (text_in a) (text_in b)) (λ e. sym (padded-text_in a a_full) ∙ ap (padded width) e ∙ padded-text_in b b_full) (ap text_in)
+      (bytes_eq-Decides (text_in a) (text_in b)))
 
 -- A text none of whose last bytes passes is trimmed, and the other way round.
 pub untrimmed : (p : ℕ → Bool) (xs : List ℕ) → (suffix_len p xs ≡ 0 → without_trailing p xs ≡ xs) × (without_trailing p xs ≡ xs → suffix_len p xs ≡ 0)

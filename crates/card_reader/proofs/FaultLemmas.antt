@@ -25,11 +25,13 @@ first_fault-one None = refl
 first_fault-one (Some fault) = refl
 
 -- one more card
-pub fault_of_cards-append : (cards : List (List ℕ)) (card : List ℕ) (number : ℕ) → number ≡ length cards + 1 → fault_of_cards (cards ++ card ∷ []) ≡ option_or (fault_of_cards cards) (card_fault (record { number = number; bytes = card }))
+pub fault_of_cards-append : (cards : List (List ℕ)) (card : List ℕ) (number : ℕ) → number ≡ length cards + 1 →
+    fault_of_cards (cards ++ card ∷ []) ≡ option_or (fault_of_cards cards) (card_fault (record { number = number; bytes = card }))
 fault_of_cards-append cards card number at =
     let place : 1 + length cards ≡ number = omega arith in
     let last : Card = record { number = number; bytes = card } in
-    ap (λ list. first_fault (map card_fault list)) (numbered_from-append 1 cards (card ∷ []) ∙ ap (λ n. numbered_cards cards ++ numbered_from n (card ∷ [])) place)
+    ap (λ list. first_fault (map card_fault list))
+    (numbered_from-append 1 cards (card ∷ []) ∙ ap (λ n. numbered_cards cards ++ numbered_from n (card ∷ [])) place)
     ∙ ap first_fault (map-append card_fault (numbered_cards cards) (last ∷ []))
     ∙ first_fault-append (map card_fault (numbered_cards cards)) (card_fault last ∷ [])
     ∙ ap (option_or (fault_of_cards cards)) (first_fault-one (card_fault last))
@@ -39,23 +41,27 @@ pub job_fault-bytes : (job : List ℕ) → MAX_JOB_BYTES < length job → job_fa
 unfolding job_fault
 job_fault-bytes job long =
     let size : nat_lt MAX_JOB_BYTES (length job) ≡ true = grind (arith, nat_tests) in
-    ap (λ t. first_fault ((t ⟹ TooLong) ∷ map card_fault (numbered_cards (cards_of job)))) (or_left (nat_lt MAX_JOB_BYTES (length job)) (nat_lt MAX_JOB_CARDS (length (cards_of job))) size)
+    ap (λ t. first_fault ((t ⟹ TooLong) ∷ map card_fault (numbered_cards (cards_of job))))
+    (or_left (nat_lt MAX_JOB_BYTES (length job)) (nat_lt MAX_JOB_CARDS (length (cards_of job))) size)
 
 -- more cards than a job may have
 pub job_fault-cards : (job : List ℕ) → MAX_JOB_CARDS < length (cards_of job) → job_fault job ≡ Some TooLong
 unfolding job_fault
 job_fault-cards job many =
     let count : nat_lt MAX_JOB_CARDS (length (cards_of job)) ≡ true = grind (arith, nat_tests) in
-    ap (λ t. first_fault ((t ⟹ TooLong) ∷ map card_fault (numbered_cards (cards_of job)))) (or_right (nat_lt MAX_JOB_BYTES (length job)) (nat_lt MAX_JOB_CARDS (length (cards_of job))) count)
+    ap (λ t. first_fault ((t ⟹ TooLong) ∷ map card_fault (numbered_cards (cards_of job))))
+    (or_right (nat_lt MAX_JOB_BYTES (length job)) (nat_lt MAX_JOB_CARDS (length (cards_of job))) count)
 
 -- neither, so the fault is that of the first card that has one
-pub job_fault-within : (job : List ℕ) (cards : List (List ℕ)) → length job ≤ MAX_JOB_BYTES → length cards ≤ MAX_JOB_CARDS → cards ≡ cards_of job → job_fault job ≡ fault_of_cards cards
+pub job_fault-within : (job : List ℕ) (cards : List (List ℕ)) → length job ≤ MAX_JOB_BYTES → length cards ≤ MAX_JOB_CARDS → cards ≡ cards_of job →
+    job_fault job ≡ fault_of_cards cards
 unfolding job_fault
 job_fault-within job cards short few all =
     let size : nat_lt MAX_JOB_BYTES (length job) ≡ false = grind (arith, nat_tests) in
     let fewer : length (cards_of job) ≤ MAX_JOB_CARDS = omega (arith, ap length all) in
     let count : nat_lt MAX_JOB_CARDS (length (cards_of job)) ≡ false = grind (arith, nat_tests) in
-    ap (λ t. first_fault ((t ⟹ TooLong) ∷ map card_fault (numbered_cards (cards_of job)))) (or_from (nat_lt MAX_JOB_BYTES (length job)) (nat_lt MAX_JOB_CARDS (length (cards_of job))) size count)
+    ap (λ t. first_fault ((t ⟹ TooLong) ∷ map card_fault (numbered_cards (cards_of job))))
+    (or_from (nat_lt MAX_JOB_BYTES (length job)) (nat_lt MAX_JOB_CARDS (length (cards_of job))) size count)
     ∙ ap fault_of_cards (sym all)
 
 -- a card without a fault is printable, and short enough

@@ -12,7 +12,8 @@ take_min card to = elim (cases_lt (length card) to) [
 ]
 
 -- the columns after the first n, up to one
-columns_up_to : (card : List ℕ) (n to end start : ℕ) → n ≤ to → end ≡ min (length card) to → start ≡ min end n → slice_range card start end ≡ drop n (take to card)
+columns_up_to : (card : List ℕ) (n to end start : ℕ) → n ≤ to → end ≡ min (length card) to → start ≡ min end n →
+    slice_range card start end ≡ drop n (take to card)
 columns_up_to card n to end start order at_end at_start = elim (cases_lt (length card) n) [
   | inl short ↦
       let none : end - start ≡ 0 = omega arith in
@@ -21,10 +22,12 @@ columns_up_to card n to end start order at_end at_start = elim (cases_lt (length
   | inr long ↦
       let same : start ≡ n = omega arith in
       let split : end ≡ n + (end - n) = omega arith in
-      ap (λ k. take (end - k) (drop k card)) same ∙ sym (drop-take n (end - n) card) ∙ ap (λ k. drop n (take k card)) (sym split) ∙ ap (λ k. drop n (take k card)) at_end ∙ ap (drop n) (take_min card to)
+      ap (λ k. take (end - k) (drop k card)) same ∙ sym (drop-take n (end - n) card) ∙ ap (λ k. drop n (take k card)) (sym split)
+      ∙ ap (λ k. drop n (take k card)) at_end ∙ ap (drop n) (take_min card to)
 ]
 
 -- the same by their number
-pub columns_of : (card : List ℕ) (n width end start : ℕ) → end ≡ min (length card) (n + width) → start ≡ min end n → slice_range card start end ≡ take width (drop n card)
+pub columns_of : (card : List ℕ) (n width end start : ℕ) → end ≡ min (length card) (n + width) → start ≡ min end n →
+    slice_range card start end ≡ take width (drop n card)
 columns_of card n width end start at_end at_start =
     columns_up_to card n (n + width) end start (omega arith) at_end at_start ∙ drop-take n width card

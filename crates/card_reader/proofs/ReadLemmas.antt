@@ -38,7 +38,8 @@ reads_at_source_stop source.Failed old new prefix = prefix
 reads_at_source_stop source.NoMemory old new prefix = prefix
 
 -- what holds of the kept bytes holds of a job that isn't too long
-pub holds_of_job : (P : List ℕ → Type 0) (old : Option (List ℕ)) (bytes : List ℕ) → IsKept read_limit old bytes → length bytes ≤ MAX_JOB_BYTES → P bytes → IfSome old P
+pub holds_of_job : (P : List ℕ → Type 0) (old : Option (List ℕ)) (bytes : List ℕ) → IsKept read_limit old bytes → length bytes ≤ MAX_JOB_BYTES → P bytes →
+    IfSome old P
 holds_of_job P None bytes kept short p = tt
 holds_of_job P (Some job) bytes kept short p =
     let small : length job ≤ read_limit = omega (arith, ap length kept, length-take read_limit job) in
@@ -46,6 +47,7 @@ holds_of_job P (Some job) bytes kept short p =
     subst P same p
 
 -- a job of which more bytes were kept than it may have is too long
-pub too_long_by_bytes : (old : Option (List ℕ)) (bytes : List ℕ) → IsKept read_limit old bytes → MAX_JOB_BYTES < length bytes → IfSome old (λ job. job_fault job ≡ Some fault.TooLong)
+pub too_long_by_bytes : (old : Option (List ℕ)) (bytes : List ℕ) → IsKept read_limit old bytes → MAX_JOB_BYTES < length bytes →
+    IfSome old (λ job. job_fault job ≡ Some fault.TooLong)
 too_long_by_bytes None bytes kept long = tt
 too_long_by_bytes (Some job) bytes kept long = job_fault-bytes job (omega (arith, ap length kept, length-take read_limit job))

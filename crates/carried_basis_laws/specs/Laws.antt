@@ -28,21 +28,27 @@ pub record StandsForPresent (setup : Option Present) (cells : Cells) (deck : Lis
   pub program : PresentProgram setup cells
   pub is_basis : IsNonsingularBasis program.lp (present_basis program.present)
   pub reads : (first : ℕ) → basis_reading program.present.problem program.lp (numbered_from first deck) ≡ Ok (present_basis program.present)
-  pub is_one_deck : (first : ℕ) → (decks_of (numbered_from first deck) ≡ numbered_from first deck ∷ []) × (name_of_deck (numbered_from first deck) ≡ Some program.present.problem.name)
+  pub is_one_deck : (first : ℕ) →
+      (decks_of (numbered_from first deck) ≡ numbered_from first deck ∷ []) × (name_of_deck (numbered_from first deck) ≡ Some program.present.problem.name)
   pub reads_back : cards_of (card_text deck) ≡ deck
 
 -- the basis becomes the present one, with which the path in hand begins anew; or an operation on the way to its inverse is refused
 pub data ComesBack (present : Present) (s : Basis) : StatementOutcome → Type 0 where
-  goes : (name : Name) (count : ℕ) (after : State) → after.setup ≡ Some (record present { opening = s; steps = [] }) → ComesBack present s (Goes (Prints (Inserted name count)) after)
+  goes : (name : Name) (count : ℕ) (after : State) → after.setup ≡ Some (record present { opening = s; steps = [] }) →
+      ComesBack present s (Goes (Prints (Inserted name count)) after)
   overflows : (overflow : Overflow) → ComesBack present s (Ends Nothing (OverflowStop overflow))
 
 pub record CarriedBasisLaws : Type 0 where
   -- PUNCH, in the run of a job
-  pub stands : (bytes : List ℕ) (program : Program) (reports : List Report) (cards : List (List ℕ)) (state after : State) (report : Report) (deck : List (List ℕ)) →
-      IsSoFar linear_programming bytes reports cards program state → (step : Step linear_programming program state (Goes (Punches report deck) after)) → step.statement.verb ≡ Punch →
+  pub stands : (bytes : List ℕ) (program : Program) (reports : List Report) (cards : List (List ℕ)) (state after : State) (report : Report)
+      (deck : List (List ℕ)) →
+      IsSoFar linear_programming bytes reports cards program state → (step : Step linear_programming program state (Goes (Punches report deck) after)) →
+      step.statement.verb ≡ Punch →
       StandsForPresent state.setup state.cells deck
   -- INSERT of a deck that stood for the basis of some state, where the same linear program is selected of the same problem
-  pub comes_back : (punched : State) (deck : List (List ℕ)) (program : Program) (state : State) (first : ℕ) (rest : List (List Card)) (outcome : StatementOutcome) →
-      (from : StandsForPresent punched.setup punched.cells deck) → (to : PresentProgram state.setup state.cells) → to.present.problem ≡ from.program.present.problem → to.lp ≡ from.program.lp →
+  pub comes_back : (punched : State) (deck : List (List ℕ)) (program : Program) (state : State) (first : ℕ) (rest : List (List Card))
+      (outcome : StatementOutcome) →
+      (from : StandsForPresent punched.setup punched.cells deck) → (to : PresentProgram state.setup state.cells) →
+      to.present.problem ≡ from.program.present.problem → to.lp ≡ from.program.lp →
       deck_taken state.cells.xdata state.decks ≡ Some (numbered_from first deck, rest) →
       (step : Step linear_programming program state outcome) → step.statement.verb ≡ Insert → ComesBack to.present (present_basis from.program.present) outcome

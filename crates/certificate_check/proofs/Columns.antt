@@ -18,7 +18,8 @@ use Rattle.certificate_check.proofs.Each.{goes_on, value_exit}
 module _ (p : LinearProgram) (y : Vector) (j : ℕ) (es : List Entry) (is_column : es ≡ column p.matrix j) where
   -- ---- the sum over the numbers of a column
 
-  column_refused : (start s : ℚ) → s ≡ start → (refused : Refused) → SumsTo (Err refused) s (entry_products y es) → verdict_of (sum_steps start (column_products p y j)) ≡ Unchecked refused
+  column_refused : (start s : ℚ) → s ≡ start → (refused : Refused) → SumsTo (Err refused) s (entry_products y es) →
+      verdict_of (sum_steps start (column_products p y j)) ≡ Unchecked refused
   column_refused start s is refused h =
       ap (λ (c : List Entry). verdict_of (sum_steps start (entry_products y c))) (sym is_column)
       ∙ ap (λ (s : ℚ). verdict_of (sum_steps s (entry_products y es))) (sym is) ∙ h
@@ -36,11 +37,14 @@ module _ (p : LinearProgram) (y : Vector) (j : ℕ) (es : List Entry) (is_column
   abbrev vanishing : List Step
   vanishing = comparison 1 (p.rows + j) (eq_ℚ (sum_of (y (p.rows + j)) (column_products p y j)) zero_ℚ) ∷ []
 
-  pub ray_exit : (s : ℚ) → s ≡ y (p.rows + j) → (result : Result (Unit {0}) Stopped) (refused : Refused) → SumsTo (Err refused) s (entry_products y es) → IsErrAnd result (λ x. x ≡ Operation refused)
+  pub ray_exit : (s : ℚ) → s ≡ y (p.rows + j) → (result : Result (Unit {0}) Stopped) (refused : Refused) → SumsTo (Err refused) s (entry_products y es)
+      → IsErrAnd result (λ x. x ≡ Operation refused)
       → verdict_from result ≡ verdict_of (ray_column p y j)
-  ray_exit s is result refused h handed = value_exit result (sum_steps (y (p.rows + j)) (column_products p y j)) vanishing refused (column_refused (y (p.rows + j)) s is refused h) handed
+  ray_exit s is result refused h handed =
+      value_exit result (sum_steps (y (p.rows + j)) (column_products p y j)) vanishing refused (column_refused (y (p.rows + j)) s is refused h) handed
 
-  pub ray_done : (s : ℚ) → s ≡ y (p.rows + j) → (t : ℚ) → SumsTo (Ok t) s (entry_products y es) → (n : ℕ) → n ≡ p.rows + j → verdict_of (comparison 1 n (eq_ℚ t zero_ℚ) ∷ []) ≡ verdict_of (ray_column p y j)
+  pub ray_done : (s : ℚ) → s ≡ y (p.rows + j) → (t : ℚ) → SumsTo (Ok t) s (entry_products y es) → (n : ℕ) → n ≡ p.rows + j →
+      verdict_of (comparison 1 n (eq_ℚ t zero_ℚ) ∷ []) ≡ verdict_of (ray_column p y j)
   ray_done s is t h n is_n =
       let summed = column_summed (y (p.rows + j)) s is t h in
       ap (λ (n : ℕ). verdict_of (comparison 1 n (eq_ℚ t zero_ℚ) ∷ [])) is_n
@@ -66,7 +70,8 @@ module _ (p : LinearProgram) (y : Vector) (j : ℕ) (es : List Entry) (is_column
     after_cost : verdict_of (reduced_cost p y j) ≡ verdict_of (sum_steps zero_ℚ (column_products p y j) ++ subtracting)
     after_cost = goes_on (combined_steps p (λ i. entry p.matrix i j)) (sum_steps zero_ℚ (column_products p y j) ++ subtracting) cost_checked
 
-    pub sum_exit : (s : ℚ) → s ≡ zero_ℚ → (result : Result (Unit {0}) Stopped) (refused : Refused) → SumsTo (Err refused) s (entry_products y es) → IsErrAnd result (λ x. x ≡ Operation refused)
+    pub sum_exit : (s : ℚ) → s ≡ zero_ℚ → (result : Result (Unit {0}) Stopped) (refused : Refused) → SumsTo (Err refused) s (entry_products y es)
+        → IsErrAnd result (λ x. x ≡ Operation refused)
         → verdict_from result ≡ verdict_of (reduced_cost p y j)
     sum_exit s is result refused h handed =
         value_exit result (sum_steps zero_ℚ (column_products p y j)) subtracting refused (column_refused zero_ℚ s is refused h) handed ∙ sym after_cost
@@ -78,7 +83,8 @@ module _ (p : LinearProgram) (y : Vector) (j : ℕ) (es : List Entry) (is_column
           after_cost ∙ goes_on (sum_steps zero_ℚ (column_products p y j)) subtracting sum.0
           ∙ ap₂ (λ (a b : ℚ). verdict_of (operation Sub a b ∷ comparing)) (sym cost_is) (sym sum.1)
 
-      pub difference_exit : (result : Result (Unit {0}) Stopped) (refused : Refused) → Gives (Err refused) (operation Sub a b ∷ []) (a -ℚ b) → IsErrAnd result (λ x. x ≡ Operation refused)
+      pub difference_exit : (result : Result (Unit {0}) Stopped) (refused : Refused) → Gives (Err refused) (operation Sub a b ∷ []) (a -ℚ b)
+          → IsErrAnd result (λ x. x ≡ Operation refused)
           → verdict_from result ≡ verdict_of (reduced_cost p y j)
       difference_exit result refused h handed = value_exit result (operation Sub a b ∷ []) comparing refused h handed ∙ sym after_sum
 

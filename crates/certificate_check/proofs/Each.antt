@@ -20,12 +20,15 @@ pub each_left : (f : ℕ → List Step) (n : ℕ) → EachLeft f n 0
 each_left f n = let all : n - 0 ≡ n = omega arith in record { left = ap (λ k. verdict_of (flat_map f (numbers_from 1 k))) (sym all) }
 
 pub each_passed : (f : ℕ → List Step) (n i : ℕ) → EachLeft f n i → i < n → Checked ≡ verdict_of (f (i + 1)) → EachLeft f n (i + 1)
-each_passed f n i h below passed = record { left = h.left ∙ each-next f i n below ∙ ap (λ v. followed_by v (verdict_of (flat_map f (numbers_from (i + 1 + 1) (n - (i + 1)))))) (sym passed) }
+each_passed f n i h below passed =
+    record { left = h.left ∙ each-next f i n below ∙ ap (λ v. followed_by v (verdict_of (flat_map f (numbers_from (i + 1 + 1) (n - (i + 1)))))) (sym passed) }
 
-pub each_stopped : (f : ℕ → List Step) (n i : ℕ) → EachLeft f n i → i < n → (s : Stopped) → verdict_from (Err s) ≡ verdict_of (f (i + 1)) → verdict_from (Err s) ≡ verdict_of (flat_map f (numbers_from 1 n))
+pub each_stopped : (f : ℕ → List Step) (n i : ℕ) → EachLeft f n i → i < n → (s : Stopped) → verdict_from (Err s) ≡ verdict_of (f (i + 1)) →
+    verdict_from (Err s) ≡ verdict_of (flat_map f (numbers_from 1 n))
 each_stopped f n i h below s stopped = at s stopped ∙ sym (h.left ∙ each-next f i n below)
   where
-    at : (s : Stopped) → verdict_from (Err s) ≡ verdict_of (f (i + 1)) → verdict_from (Err s) ≡ followed_by (verdict_of (f (i + 1))) (verdict_of (flat_map f (numbers_from (i + 1 + 1) (n - (i + 1)))))
+    at : (s : Stopped) → verdict_from (Err s) ≡ verdict_of (f (i + 1)) →
+        verdict_from (Err s) ≡ followed_by (verdict_of (f (i + 1))) (verdict_of (flat_map f (numbers_from (i + 1 + 1) (n - (i + 1)))))
     at (Comparison part number) e = ap (λ v. followed_by v (verdict_of (flat_map f (numbers_from (i + 1 + 1) (n - (i + 1)))))) e
     at (Operation refused) e = ap (λ v. followed_by v (verdict_of (flat_map f (numbers_from (i + 1 + 1) (n - (i + 1)))))) e
 
@@ -53,12 +56,15 @@ module _ (result : Result (Unit {0}) Stopped) where
   pub handed_on : (s : Stopped) → IsErrAnd result (λ y. y ≡ s) → verdict_from result ≡ verdict_from (Err s)
   handed_on s h = let p = err_from_is_err_and result h in ap verdict_from p.1 ∙ ap (λ (y : Stopped). verdict_from (Err y)) p.2
 
-  pub each_exit : (f : ℕ → List Step) (n i : ℕ) → EachLeft f n i → i < n → (s : Stopped) → verdict_from (Err s) ≡ verdict_of (f (i + 1)) → IsErrAnd result (λ y. y ≡ s)
+  pub each_exit : (f : ℕ → List Step) (n i : ℕ) → EachLeft f n i → i < n → (s : Stopped) → verdict_from (Err s) ≡ verdict_of (f (i + 1))
+      → IsErrAnd result (λ y. y ≡ s)
       → verdict_from result ≡ verdict_of (flat_map f (numbers_from 1 n))
   each_exit f n i h below s stopped is = handed_on s is ∙ each_stopped f n i h below s stopped
 
-  pub part_exit : (xs ys : List Step) (s : Stopped) → verdict_from (Err s) ≡ verdict_of xs → IsErrAnd result (λ y. y ≡ s) → verdict_from result ≡ verdict_of (xs ++ ys)
+  pub part_exit : (xs ys : List Step) (s : Stopped) → verdict_from (Err s) ≡ verdict_of xs → IsErrAnd result (λ y. y ≡ s) →
+      verdict_from result ≡ verdict_of (xs ++ ys)
   part_exit xs ys s stopped is = handed_on s is ∙ stopped_before xs ys s stopped
 
-  pub value_exit : (xs ys : List Step) (refused : Refused) → verdict_of xs ≡ Unchecked refused → IsErrAnd result (λ y. y ≡ Operation refused) → verdict_from result ≡ verdict_of (xs ++ ys)
+  pub value_exit : (xs ys : List Step) (refused : Refused) → verdict_of xs ≡ Unchecked refused → IsErrAnd result (λ y. y ≡ Operation refused) →
+      verdict_from result ≡ verdict_of (xs ++ ys)
   value_exit xs ys refused stopped is = handed_on (Operation refused) is ∙ sym (refused_before xs ys refused stopped)

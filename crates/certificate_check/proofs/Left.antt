@@ -25,7 +25,8 @@ pub all_left : (start : ℚ) (ts : List Product) → IsLeft start ts start ts
 all_left start ts = record { steps = refl; total = refl }
 
 -- one product more
-pub left_next : (start : ℚ) (ts : List Product) (sum next : ℚ) (t : Product) (rest : List Product) → IsLeft start ts sum (t ∷ rest) → SumsTo (Ok next) sum (t ∷ []) → IsLeft start ts next rest
+pub left_next : (start : ℚ) (ts : List Product) (sum next : ℚ) (t : Product) (rest : List Product) → IsLeft start ts sum (t ∷ rest) →
+    SumsTo (Ok next) sum (t ∷ []) → IsLeft start ts next rest
 left_next start ts sum next t rest left made = record {
   steps = left.steps ∙ verdict-append (sum_steps sum (t ∷ [])) (sum_steps (sum +ℚ product_of t) rest)
       ∙ ap (λ v. followed_by v (verdict_of (sum_steps (sum +ℚ product_of t) rest))) made.0
@@ -33,7 +34,8 @@ left_next start ts sum next t rest left made = record {
   total = left.total ∙ ap (λ s. sum_of s rest) (sym made.1);
 }
 
-pub left_refused : (start : ℚ) (ts : List Product) (sum : ℚ) (t : Product) (rest : List Product) (refused : Refused) → IsLeft start ts sum (t ∷ rest) → SumsTo (Err refused) sum (t ∷ []) → SumsTo (Err refused) start ts
+pub left_refused : (start : ℚ) (ts : List Product) (sum : ℚ) (t : Product) (rest : List Product) (refused : Refused) → IsLeft start ts sum (t ∷ rest) →
+    SumsTo (Err refused) sum (t ∷ []) → SumsTo (Err refused) start ts
 left_refused start ts sum t rest refused left stopped =
     left.steps ∙ verdict-append (sum_steps sum (t ∷ [])) (sum_steps (sum +ℚ product_of t) rest)
     ∙ ap (λ v. followed_by v (verdict_of (sum_steps (sum +ℚ product_of t) rest))) stopped
@@ -59,7 +61,8 @@ skipped_right sum x y none fits = skipped sum (record { left = x; right = y }) (
 
 -- ---- the numbers of a column, and those of a row
 
-pub column_next : (y : Vector) (es : List Entry) (i : ℕ) (d : Entry) → i < length es → entry_products y (drop i es) ≡ (record { left = y (get_or es i d).row; right = (get_or es i d).value }) ∷ entry_products y (drop (i + 1) es)
+pub column_next : (y : Vector) (es : List Entry) (i : ℕ) (d : Entry) → i < length es →
+    entry_products y (drop i es) ≡ (record { left = y (get_or es i d).row; right = (get_or es i d).value }) ∷ entry_products y (drop (i + 1) es)
 column_next y es i d below = ap (entry_products y) (drop-cons es i d below ∙ ap (λ j. get_or es i d ∷ drop j es) (sym (add-one i)))
 
 abbrev pub row_product : LinearProgram → Vector → ℕ → ℕ → Product
@@ -73,13 +76,15 @@ row_next : (p : LinearProgram) (z : Vector) (i j : ℕ) → j < p.cols → colum
 row_next p z i j below = ap (map (row_product p z i)) (numbers-next j p.cols below)
 
 -- the number that a column has on row i, and the value of that column
-pub same_product : (p : LinearProgram) (z : Vector) (i j : ℕ) (x v : ℚ) → x ≡ entry p.matrix i j → v ≡ z (p.rows + j) → (record { left = x; right = v }) ≡ row_product p z i j
+pub same_product : (p : LinearProgram) (z : Vector) (i j : ℕ) (x v : ℚ) → x ≡ entry p.matrix i j → v ≡ z (p.rows + j) →
+    (record { left = x; right = v }) ≡ row_product p z i j
 same_product p z i j x v is_number is_value = ap (λ (s : ℚ). product s v) is_number ∙ ap (λ (s : ℚ). product (entry p.matrix i j) s) is_value
   where
     product : ℚ → ℚ → Product
     product x y = record { left = x; right = y }
 
-module _ (p : LinearProgram) (z : Vector) (i j : ℕ) (below : j < p.cols) (start : ℚ) (ts : List Product) (sum : ℚ) (left : IsLeft start ts sum (columns_left p z i j)) where
+module _ (p : LinearProgram) (z : Vector) (i j : ℕ) (below : j < p.cols) (start : ℚ) (ts : List Product) (sum : ℚ)
+    (left : IsLeft start ts sum (columns_left p z i j)) where
   pub row_step : (next : ℚ) → SumsTo (Ok next) sum (row_product p z i (j + 1) ∷ []) → IsLeft start ts next (columns_left p z i (j + 1))
   row_step next made =
       left_next start ts sum next (row_product p z i (j + 1)) (columns_left p z i (j + 1))

@@ -51,12 +51,15 @@ module _ (p : LinearProgram) (w : Vector) where
   total-append sum [] js = refl
   total-append sum (k ∷ ks) js = total-append (sum +ℚ product_of (limit_product p w k)) ks js
 
-  ray_limits-append : (sum : ℚ) (ks js : List ℕ) → verdict_of (ray_limits p w sum (ks ++ js)) ≡ followed_by (verdict_of (ray_limits p w sum ks)) (verdict_of (ray_limits p w (total sum ks) js))
+  ray_limits-append : (sum : ℚ) (ks js : List ℕ) →
+      verdict_of (ray_limits p w sum (ks ++ js)) ≡ followed_by (verdict_of (ray_limits p w sum ks)) (verdict_of (ray_limits p w (total sum ks) js))
   ray_limits-append sum ks js = ap verdict_of (steps sum ks) ∙ verdict-append (ray_limits p w sum ks) (ray_limits p w (total sum ks) js)
     where
       steps : (sum : ℚ) (ks : List ℕ) → ray_limits p w sum (ks ++ js) ≡ ray_limits p w sum ks ++ ray_limits p w (total sum ks) js
       steps sum [] = refl
-      steps sum (k ∷ ks) = ap (λ rest. comparison 2 k (is_some (limit_against p w k)) ∷ sum_steps sum (limit_product p w k ∷ []) ++ rest) (steps (sum +ℚ product_of (limit_product p w k)) ks)
+      steps sum (k ∷ ks) =
+          ap (λ rest. comparison 2 k (is_some (limit_against p w k)) ∷ sum_steps sum (limit_product p w k ∷ []) ++ rest)
+          (steps (sum +ℚ product_of (limit_product p w k)) ks)
 
   -- ---- one variable more
 
@@ -66,10 +69,13 @@ module _ (p : LinearProgram) (w : Vector) where
 
   -- any other adds its product with the limit that it meets
   pub adds_one : (result : Result ℚ Stopped) (sum : ℚ) (k : ℕ) (m : ℚ) (limit : Option ℚ) → m ≡ w k → limit ≡ limit_against p w k → w k ≢ zero_ℚ
-      → Leads result (comparison 2 k (is_some limit) ∷ sum_steps sum (record { left = m; right = unwrap_or limit zero_ℚ } ∷ [])) (sum +ℚ m *ℚ unwrap_or limit zero_ℚ)
+      → Leads result (comparison 2 k (is_some limit) ∷ sum_steps sum (record { left = m; right = unwrap_or limit zero_ℚ } ∷ []))
+      (sum +ℚ m *ℚ unwrap_or limit zero_ℚ)
       → Leads result (ray_limits p w sum (multiplied_among w (k ∷ []))) (total sum (multiplied_among w (k ∷ [])))
   adds_one result sum k m limit is_m is_limit apart h =
-      let P : ℚ → Option ℚ → Type 0 = λ m limit. Leads result (comparison 2 k (is_some limit) ∷ sum_steps sum (record { left = m; right = unwrap_or limit zero_ℚ } ∷ [])) (sum +ℚ m *ℚ unwrap_or limit zero_ℚ) in
+      let P : ℚ → Option ℚ → Type 0 =
+      λ m limit. Leads result (comparison 2 k (is_some limit) ∷ sum_steps sum (record { left = m; right = unwrap_or limit zero_ℚ } ∷ []))
+      (sum +ℚ m *ℚ unwrap_or limit zero_ℚ) in
       let at_k : P (w k) (limit_against p w k) = subst (λ (o : Option ℚ). P (w k) o) is_limit (subst (λ (x : ℚ). P x limit) is_m h) in
       subst (λ (ks : List ℕ). Leads result (ray_limits p w sum ks) (total sum ks)) (sym (one_among w k apart)) at_k
 
@@ -97,12 +103,14 @@ module _ (p : LinearProgram) (w : Vector) where
 
   module _ (k : ℕ) (sum : ℚ) (h : LimitsLeft k sum) (below : k < size p.matrix) where
     steps_next : verdict_of (ray_limits p w zero_ℚ (multiplied p w))
-        ≡ followed_by (verdict_of (ray_limits p w sum (multiplied_among w ((k + 1) ∷ [])))) (verdict_of (ray_limits p w (total sum (multiplied_among w ((k + 1) ∷ []))) (left_from (k + 1))))
+        ≡ followed_by (verdict_of (ray_limits p w sum (multiplied_among w ((k + 1) ∷ []))))
+        (verdict_of (ray_limits p w (total sum (multiplied_among w ((k + 1) ∷ []))) (left_from (k + 1))))
     steps_next =
         h.steps ∙ ap (λ ks. verdict_of (ray_limits p w sum ks)) (left-next k below)
         ∙ ray_limits-append sum (multiplied_among w ((k + 1) ∷ [])) (left_from (k + 1))
 
-    pub limits_next : (next : ℚ) → Leads (Ok next) (ray_limits p w sum (multiplied_among w ((k + 1) ∷ []))) (total sum (multiplied_among w ((k + 1) ∷ []))) → LimitsLeft (k + 1) next
+    pub limits_next : (next : ℚ) → Leads (Ok next) (ray_limits p w sum (multiplied_among w ((k + 1) ∷ []))) (total sum (multiplied_among w ((k + 1) ∷ []))) →
+        LimitsLeft (k + 1) next
     limits_next next made = record {
       steps = steps_next
           ∙ ap (λ v. followed_by v (verdict_of (ray_limits p w (total sum (multiplied_among w ((k + 1) ∷ []))) (left_from (k + 1))))) made.0
@@ -116,8 +124,10 @@ module _ (p : LinearProgram) (w : Vector) where
     limits_stopped s stopped = at s stopped ∙ sym steps_next
       where
         at : (s : Stopped) → verdict_from (Err s) ≡ verdict_of (ray_limits p w sum (multiplied_among w ((k + 1) ∷ [])))
-            → verdict_from (Err s) ≡ followed_by (verdict_of (ray_limits p w sum (multiplied_among w ((k + 1) ∷ [])))) (verdict_of (ray_limits p w (total sum (multiplied_among w ((k + 1) ∷ []))) (left_from (k + 1))))
-        at (Comparison part number) e = ap (λ v. followed_by v (verdict_of (ray_limits p w (total sum (multiplied_among w ((k + 1) ∷ []))) (left_from (k + 1))))) e
+            → verdict_from (Err s) ≡ followed_by (verdict_of (ray_limits p w sum (multiplied_among w ((k + 1) ∷ []))))
+            (verdict_of (ray_limits p w (total sum (multiplied_among w ((k + 1) ∷ []))) (left_from (k + 1))))
+        at (Comparison part number) e =
+            ap (λ v. followed_by v (verdict_of (ray_limits p w (total sum (multiplied_among w ((k + 1) ∷ []))) (left_from (k + 1))))) e
         at (Operation refused) e = ap (λ v. followed_by v (verdict_of (ray_limits p w (total sum (multiplied_among w ((k + 1) ∷ []))) (left_from (k + 1))))) e
 
   pub limits_done : (sum : ℚ) → LimitsLeft (size p.matrix) sum → Leads (Ok sum) (ray_limits p w zero_ℚ (multiplied p w)) (total zero_ℚ (multiplied p w))

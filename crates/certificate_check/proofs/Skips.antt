@@ -40,7 +40,8 @@ listed_last f first [] last listed = (
 )
 listed_last f first (j ∷ js) last listed = (listed.0, (listed.1.0, listed_last f j js last listed.1.1))
 
-pub listed_more : (f : ℕ → ℚ) (list : List ℕ) (count last : ℕ) → count < length list → AreListed f 0 (take count list) last → AreListed f 0 (take (count + 1) (set list count (last + 1))) (last + 1)
+pub listed_more : (f : ℕ → ℚ) (list : List ℕ) (count last : ℕ) → count < length list → AreListed f 0 (take count list) last →
+    AreListed f 0 (take (count + 1) (set list count (last + 1))) (last + 1)
 listed_more f list count last below listed =
     subst (λ (js : List ℕ). AreListed f 0 js (last + 1)) (sym (take_more_set list count (last + 1) below)) (listed_last f 0 (take count list) last listed)
 
@@ -52,11 +53,13 @@ up_to_last f first (j ∷ js) last listed = omega (arith, listed.0, up_to_last f
 
 module _ (p : LinearProgram) (z : Vector) (i : ℕ) (start : ℚ) (ts : List Product) (sum : ℚ) (fits : TermsFit sum) where
   -- a column of value 0
-  pub passed_zero : (j : ℕ) → j < p.cols → z (p.rows + (j + 1)) ≡ zero_ℚ → IsLeft start ts sum (columns_left p z i j) → IsLeft start ts sum (columns_left p z i (j + 1))
+  pub passed_zero : (j : ℕ) → j < p.cols → z (p.rows + (j + 1)) ≡ zero_ℚ → IsLeft start ts sum (columns_left p z i j) →
+      IsLeft start ts sum (columns_left p z i (j + 1))
   passed_zero j below none left =
       row_step p z i j below start ts sum left sum (skipped_right sum (entry p.matrix i (j + 1)) (z (p.rows + (j + 1))) none fits)
 
-  passed : (n first : ℕ) → first + n ≤ p.cols → AreZero (λ j. z (p.rows + j)) first (first + n) → IsLeft start ts sum (columns_left p z i first) → IsLeft start ts sum (columns_left p z i (first + n))
+  passed : (n first : ℕ) → first + n ≤ p.cols → AreZero (λ j. z (p.rows + j)) first (first + n) → IsLeft start ts sum (columns_left p z i first) →
+      IsLeft start ts sum (columns_left p z i (first + n))
   passed zero first within zeros left =
       let same : first ≡ first + zero = omega arith in
       subst (λ (k : ℕ). IsLeft start ts sum (columns_left p z i k)) same left
@@ -68,7 +71,8 @@ module _ (p : LinearProgram) (z : Vector) (i : ℕ) (start : ℚ) (ts : List Pro
       (passed_zero first (omega (arith, within)) (zeros (first + 1) (omega arith) (omega arith)) left)
       )
 
-  pub passed_to : (first last : ℕ) → first ≤ last → last ≤ p.cols → AreZero (λ j. z (p.rows + j)) first last → IsLeft start ts sum (columns_left p z i first) → IsLeft start ts sum (columns_left p z i last)
+  pub passed_to : (first last : ℕ) → first ≤ last → last ≤ p.cols → AreZero (λ j. z (p.rows + j)) first last → IsLeft start ts sum (columns_left p z i first) →
+      IsLeft start ts sum (columns_left p z i last)
   passed_to first last up within zeros left =
       let same : first + (last - first) ≡ last = omega (arith, up) in
       subst (λ (k : ℕ). IsLeft start ts sum (columns_left p z i k)) same
@@ -83,23 +87,28 @@ pub record IsListLeft (p : LinearProgram) (z : Vector) (i : ℕ) (sum : ℚ) (js
   pub left : IsLeft zero_ℚ (row_products p z i) sum (columns_left p z i first)
   pub listed : AreListed (λ j. z (p.rows + j)) first js last
 
-pub list_start : (p : LinearProgram) (z : Vector) (i : ℕ) (sum : ℚ) (js : List ℕ) (last : ℕ) → sum ≡ zero_ℚ → TermsFit sum → AreListed (λ j. z (p.rows + j)) 0 js last → IsListLeft p z i sum js last
+pub list_start : (p : LinearProgram) (z : Vector) (i : ℕ) (sum : ℚ) (js : List ℕ) (last : ℕ) → sum ≡ zero_ℚ → TermsFit sum →
+    AreListed (λ j. z (p.rows + j)) 0 js last → IsListLeft p z i sum js last
 list_start p z i sum js last none fits listed = record {
   fits = fits;
   first = 0;
-  left = subst (λ (s : ℚ). IsLeft zero_ℚ (row_products p z i) s (columns_left p z i 0)) (sym none) (subst (λ (ts : List Product). IsLeft zero_ℚ (row_products p z i) zero_ℚ ts) whole (all_left zero_ℚ (row_products p z i)));
+  left =
+      subst (λ (s : ℚ). IsLeft zero_ℚ (row_products p z i) s (columns_left p z i 0)) (sym none)
+      (subst (λ (ts : List Product). IsLeft zero_ℚ (row_products p z i) zero_ℚ ts) whole (all_left zero_ℚ (row_products p z i)));
   listed = listed;
 }
   where
     whole : row_products p z i ≡ columns_left p z i 0
     whole = let same : p.cols ≡ p.cols - 0 = omega arith in ap (λ (n : ℕ). map (row_product p z i) (numbers_from 1 n)) same
 
-pub next_listed : (p : LinearProgram) (z : Vector) (i : ℕ) (sum : ℚ) (js : List ℕ) (k last : ℕ) → k < length js → IsListLeft p z i sum (drop k js) last → IsListLeft p z i sum (get_or js k 0 ∷ drop (k + 1) js) last
+pub next_listed : (p : LinearProgram) (z : Vector) (i : ℕ) (sum : ℚ) (js : List ℕ) (k last : ℕ) → k < length js → IsListLeft p z i sum (drop k js) last →
+    IsListLeft p z i sum (get_or js k 0 ∷ drop (k + 1) js) last
 next_listed p z i sum js k last below so_far =
     let same : drop k js ≡ get_or js k 0 ∷ drop (k + 1) js = search (rules, drop-cons) in
     subst (λ (ks : List ℕ). IsListLeft p z i sum ks last) same so_far
 
-pub next_within : (p : LinearProgram) (z : Vector) (i : ℕ) (sum : ℚ) (j : ℕ) (js : List ℕ) (last : ℕ) → IsListLeft p z i sum (j ∷ js) last → (1 ≤ j) × (j ≤ last)
+pub next_within : (p : LinearProgram) (z : Vector) (i : ℕ) (sum : ℚ) (j : ℕ) (js : List ℕ) (last : ℕ) → IsListLeft p z i sum (j ∷ js) last →
+    (1 ≤ j) × (j ≤ last)
 next_within p z i sum j js last so_far = (omega (arith, so_far.listed.0), up_to_last (λ j. z (p.rows + j)) j js last so_far.listed.1.1)
 
 module _ (p : LinearProgram) (z : Vector) (i : ℕ) (sum : ℚ) (j : ℕ) (js : List ℕ) (last : ℕ) (within : last ≤ p.cols)
@@ -121,16 +130,19 @@ module _ (p : LinearProgram) (z : Vector) (i : ℕ) (sum : ℚ) (j : ℕ) (js : 
     fits = fits;
     first = j;
     left = subst (λ (k : ℕ). IsLeft zero_ℚ (row_products p z i) next (columns_left p z i k)) (sym same)
-        (row_step p z i (j - 1) below zero_ℚ (row_products p z i) sum before next (subst (λ (k : ℕ). SumsTo (Ok next) sum (row_product p z i k ∷ [])) same made));
+        (row_step p z i (j - 1) below zero_ℚ (row_products p z i) sum before next
+        (subst (λ (k : ℕ). SumsTo (Ok next) sum (row_product p z i k ∷ [])) same made));
     listed = so_far.listed.1.1;
   }
 
   pub listed_refused : (refused : Refused) → SumsTo (Err refused) sum (row_product p z i j ∷ []) → SumsTo (Err refused) zero_ℚ (row_products p z i)
   listed_refused refused stopped =
-      row_refused p z i (j - 1) below zero_ℚ (row_products p z i) sum before refused (subst (λ (k : ℕ). SumsTo (Err refused) sum (row_product p z i k ∷ [])) same stopped)
+      row_refused p z i (j - 1) below zero_ℚ (row_products p z i) sum before refused
+      (subst (λ (k : ℕ). SumsTo (Err refused) sum (row_product p z i k ∷ [])) same stopped)
 
 -- at the end of the list
-pub listed_done : (p : LinearProgram) (z : Vector) (i : ℕ) (sum : ℚ) (js : List ℕ) (k last : ℕ) → length js ≤ k → last ≤ p.cols → IsListLeft p z i sum (drop k js) last
+pub listed_done : (p : LinearProgram) (z : Vector) (i : ℕ) (sum : ℚ) (js : List ℕ) (k last : ℕ) → length js ≤ k → last ≤ p.cols
+    → IsListLeft p z i sum (drop k js) last
     → IsLeft zero_ℚ (row_products p z i) sum (columns_left p z i last)
 listed_done p z i sum js k last all within so_far =
     let none : drop k js ≡ [] = drop_all k js all in
@@ -141,7 +153,8 @@ listed_done p z i sum js k last all within so_far =
 
 -- ---- the values after the list
 
-pub tail_value : (xs : List ℚ) (n place : ℕ) (x : ℚ) → n + place < length xs → x ≡ get_or (take (length xs - n) (drop n xs)) place x → x ≡ value_at xs (n + place + 1)
+pub tail_value : (xs : List ℚ) (n place : ℕ) (x : ℚ) → n + place < length xs → x ≡ get_or (take (length xs - n) (drop n xs)) place x →
+    x ≡ value_at xs (n + place + 1)
 tail_value xs n place x within is =
     let same : n + place ≡ n + place + 1 - 1 = omega arith in
     value_at_place xs (n + place + 1) x (omega arith) (omega (arith, within))

@@ -84,7 +84,8 @@ absent : (limit : Option ℚ) → limit ≡ None → is_none limit ≡ true
 absent None e = refl
 absent (Some l) e = cc
 
-sign_holds : (x : ℚ) (negative positive : Bool) → (x <ℚ zero_ℚ → negative ≡ true) → (zero_ℚ <ℚ x → positive ≡ true) → by_sign (compare_ℚ x zero_ℚ) negative positive ≡ true
+sign_holds : (x : ℚ) (negative positive : Bool) → (x <ℚ zero_ℚ → negative ≡ true) → (zero_ℚ <ℚ x → positive ≡ true) →
+    by_sign (compare_ℚ x zero_ℚ) negative positive ≡ true
 sign_holds x negative positive below above = at (compare_ℚ x zero_ℚ) (λ less. below (lt_from_compare less)) (λ greater. above (gt_from_compare greater))
   where
     at : (o : Ordering) → (o ≡ Less → negative ≡ true) → (o ≡ Greater → positive ≡ true) → by_sign o negative positive ≡ true
@@ -113,7 +114,8 @@ module _ (p : LinearProgram) where
   never_limits z within = never_each (within_limit p z) 1 (size p.matrix) (λ k low high.
       let both = within k (low, omega arith) in
       never_comparison 2 k (is_not_below (lower_of p k) (z k) && is_not_above (upper_of p k) (z k))
-      (and_from (is_not_below (lower_of p k) (z k)) (is_not_above (upper_of p k) (z k)) (is_above (lower_of p k) (z k) both.0) (is_below (upper_of p k) (z k) both.1)))
+      (and_from (is_not_below (lower_of p k) (z k)) (is_not_above (upper_of p k) (z k)) (is_above (lower_of p k) (z k) both.0)
+      (is_below (upper_of p k) (z k) both.1)))
 
   pub never_point : (z : Vector) → IsFeasible p z → NeverFails (feasible_point p z)
   never_point z h = never-append (equations p 1 z) (within_limits p z) (never_equations 1 z h.keeps) (never_limits z h.within)
@@ -122,7 +124,9 @@ module _ (p : LinearProgram) where
   never_costs matrix y reduced = never_each (reduced_cost p y) 1 p.cols (λ j low high.
       let total = sum_of zero_ℚ (column_products p y j) in
       let is : IsColumn p.matrix j = (low, omega arith) in
-      let same : cost p j -ℚ total ≡ y (p.rows + j) = ap (λ (s : ℚ). cost p j -ℚ s) (products_of_column p matrix y zero_ℚ j is ∙ zero-add (sum_up_to p.rows (λ i. y i *ℚ entry p.matrix i j))) ∙ sym (reduced j is) in
+      let same : cost p j -ℚ total ≡ y (p.rows + j) =
+      ap (λ (s : ℚ). cost p j -ℚ s) (products_of_column p matrix y zero_ℚ j is ∙ zero-add (sum_up_to p.rows (λ i. y i *ℚ entry p.matrix i j)))
+      ∙ sym (reduced j is) in
       let ending : List Step = comparison 3 (p.rows + j) (eq_ℚ (cost p j -ℚ total) (y (p.rows + j))) ∷ [] in
       never-append (combined_steps p (λ i. entry p.matrix i j)) (sum_steps zero_ℚ (column_products p y j) ++ operation Sub (cost p j) total ∷ ending)
       (never_combined (λ i. entry p.matrix i j))
@@ -130,19 +134,24 @@ module _ (p : LinearProgram) where
       (never_sum zero_ℚ (column_products p y j))
       (never_operation Sub (cost p j) total ending (never_comparison 3 (p.rows + j) (eq_ℚ (cost p j -ℚ total) (y (p.rows + j))) (test_from_same _ _ same)))))
 
-  pub never_optimal : IsMatrix p.matrix → (z y : Vector) → IsFeasible p z → IsDualCertificate p z y → NeverFails (feasible_point p z ++ (reduced_costs p y ++ standing_prices p z y))
+  pub never_optimal : IsMatrix p.matrix → (z y : Vector) → IsFeasible p z → IsDualCertificate p z y →
+      NeverFails (feasible_point p z ++ (reduced_costs p y ++ standing_prices p z y))
   never_optimal matrix z y feasible certificate =
       never-append (feasible_point p z) (reduced_costs p y ++ standing_prices p z y) (never_point z feasible)
       (never-append (reduced_costs p y) (standing_prices p z y) (never_costs matrix y certificate.reduced)
       (never_each (standing_price p z y) 1 (size p.matrix) (λ k low high.
       let is : IsVariable p.matrix k = (low, omega arith) in
-      let holds = sign_holds (for_min p.sense (y k)) (is_at (upper_of p k) (z k)) (is_at (lower_of p k) (z k)) (λ below. stands (upper_of p k) (z k) (certificate.at_upper k is below)) (λ above. stands (lower_of p k) (z k) (certificate.at_lower k is above)) in
+      let holds =
+      sign_holds (for_min p.sense (y k)) (is_at (upper_of p k) (z k)) (is_at (lower_of p k) (z k))
+      (λ below. stands (upper_of p k) (z k) (certificate.at_upper k is below)) (λ above. stands (lower_of p k) (z k) (certificate.at_lower k is above)) in
       never_comparison 4 k (by_sign (compare_ℚ (for_min p.sense (y k)) zero_ℚ) (is_at (upper_of p k) (z k)) (is_at (lower_of p k) (z k))) holds)))
 
   pub never_free : (d : Vector) → IsFreeDirection p d → NeverFails (free_direction p d)
   never_free d free = never_each (free_to_move p d) 1 (size p.matrix) (λ k low high.
       let is : IsVariable p.matrix k = (low, omega arith) in
-      let holds = sign_holds (d k) (is_none (lower_of p k)) (is_none (upper_of p k)) (λ below. absent (lower_of p k) (free.falls k is below)) (λ above. absent (upper_of p k) (free.rises k is above)) in
+      let holds =
+      sign_holds (d k) (is_none (lower_of p k)) (is_none (upper_of p k)) (λ below. absent (lower_of p k) (free.falls k is below))
+      (λ above. absent (upper_of p k) (free.rises k is above)) in
       never_comparison 4 k (by_sign (compare_ℚ (d k) zero_ℚ) (is_none (lower_of p k)) (is_none (upper_of p k))) holds)
 
   pub never_unbounded : (z d : Vector) → ProvesUnbounded p z d → NeverFails (feasible_point p z ++ (equations p 3 d ++ (free_direction p d ++ improving p d)))
@@ -170,7 +179,8 @@ module _ (p : LinearProgram) where
 
   -- each multiplier that is not 0 meets a limit
   met : (w : Vector) → MeetsLimits p w → (k : ℕ) → IsVariable p.matrix k → w k ≢ zero_ℚ → is_some (limit_against p w k) ≡ true
-  met w meets k is apart = at (compare_ℚ (w k) zero_ℚ) (λ less. below (lt_from_compare less)) (λ equal. apart (same_from_compare equal)) (λ greater. above (gt_from_compare greater))
+  met w meets k is apart =
+      at (compare_ℚ (w k) zero_ℚ) (λ less. below (lt_from_compare less)) (λ equal. apart (same_from_compare equal)) (λ greater. above (gt_from_compare greater))
     where
       below : w k <ℚ zero_ℚ → is_some (limit_against p w k) ≡ true
       below h = ap is_some (limit_of_negative p w k h) ∙ meets.meets_lower k is h
@@ -178,25 +188,31 @@ module _ (p : LinearProgram) where
       above : zero_ℚ <ℚ w k → is_some (limit_against p w k) ≡ true
       above h = ap is_some (limit_of_positive p w k h) ∙ meets.meets_upper k is h
 
-      at : (o : Ordering) → (o ≡ Less → is_some (limit_against p w k) ≡ true) → (o ≡ Equal → ⊥) → (o ≡ Greater → is_some (limit_against p w k) ≡ true) → is_some (limit_against p w k) ≡ true
+      at : (o : Ordering) → (o ≡ Less → is_some (limit_against p w k) ≡ true) → (o ≡ Equal → ⊥) → (o ≡ Greater → is_some (limit_against p w k) ≡ true) →
+          is_some (limit_against p w k) ≡ true
       at Less less equal greater = less refl
       at Equal less equal greater = absurd (equal refl)
       at Greater less equal greater = greater refl
 
-  never_met : (w : Vector) (first n : ℕ) (sum : ℚ) → ((k : ℕ) → first ≤ k → k < first + n → w k ≢ zero_ℚ → is_some (limit_against p w k) ≡ true) → NeverFails (ray_limits p w sum (multiplied_from p w first n))
+  never_met : (w : Vector) (first n : ℕ) (sum : ℚ) → ((k : ℕ) → first ≤ k → k < first + n → w k ≢ zero_ℚ → is_some (limit_against p w k) ≡ true) →
+      NeverFails (ray_limits p w sum (multiplied_from p w first n))
   never_met w first zero sum all = never_none
   never_met w first (suc n) sum all =
-      by_test (not (eq_ℚ (w first) zero_ℚ)) (λ is. all first (omega arith) (omega arith) (λ e. apart_by_test e is)) (λ next. never_met w (suc first) n next (λ k low high. all k (omega arith) (omega arith)))
+      by_test (not (eq_ℚ (w first) zero_ℚ)) (λ is. all first (omega arith) (omega arith) (λ e. apart_by_test e is))
+      (λ next. never_met w (suc first) n next (λ k low high. all k (omega arith) (omega arith)))
     where
       apart_by_test : w first ≡ zero_ℚ → not (eq_ℚ (w first) zero_ℚ) ≡ true → ⊥
       apart_by_test e is = let same : eq_ℚ (w first) zero_ℚ ≡ true = test_from_same _ _ e in let clash : not true ≡ true = ap not (sym same) ∙ is in cc
 
-      by_test : (b : Bool) → (b ≡ true → is_some (limit_against p w first) ≡ true) → ((next : ℚ) → NeverFails (ray_limits p w next (multiplied_from p w (suc first) n)))
+      by_test : (b : Bool) → (b ≡ true → is_some (limit_against p w first) ≡ true)
+          → ((next : ℚ) → NeverFails (ray_limits p w next (multiplied_from p w (suc first) n)))
           → NeverFails (ray_limits p w sum (cond b (first ∷ multiplied_from p w (suc first) n) (multiplied_from p w (suc first) n)))
       by_test true here later =
-          never-append (comparison 2 first (is_some (limit_against p w first)) ∷ []) (sum_steps sum (limit_product p w first ∷ []) ++ ray_limits p w (sum +ℚ product_of (limit_product p w first)) (multiplied_from p w (suc first) n))
+          never-append (comparison 2 first (is_some (limit_against p w first)) ∷ [])
+          (sum_steps sum (limit_product p w first ∷ []) ++ ray_limits p w (sum +ℚ product_of (limit_product p w first)) (multiplied_from p w (suc first) n))
           (never_comparison 2 first (is_some (limit_against p w first)) (here refl))
-          (never-append (sum_steps sum (limit_product p w first ∷ [])) (ray_limits p w (sum +ℚ product_of (limit_product p w first)) (multiplied_from p w (suc first) n))
+          (never-append (sum_steps sum (limit_product p w first ∷ []))
+          (ray_limits p w (sum +ℚ product_of (limit_product p w first)) (multiplied_from p w (suc first) n))
           (never_sum sum (limit_product p w first ∷ [])) (later (sum +ℚ product_of (limit_product p w first))))
       by_test false here later = later sum
 
@@ -208,4 +224,5 @@ module _ (p : LinearProgram) where
       never-append (ray_columns p w) (ray_limits p w zero_ℚ (multiplied p w) ++ ray_sum p w) (never_columns matrix w ray.vanishes)
       (never-append (ray_limits p w zero_ℚ (multiplied p w)) (ray_sum p w)
       (never_limits_met w (record { meets_upper = ray.meets_upper; meets_lower = ray.meets_lower }))
-      (never_comparison 3 0 (lt_ℚ (sum_of zero_ℚ (map (limit_product p w) (multiplied p w))) zero_ℚ) (test_of_below (subst (λ (s : ℚ). s <ℚ zero_ℚ) (sym (sum_of_met p w)) ray.negative))))
+      (never_comparison 3 0 (lt_ℚ (sum_of zero_ℚ (map (limit_product p w) (multiplied p w))) zero_ℚ)
+      (test_of_below (subst (λ (s : ℚ). s <ℚ zero_ℚ) (sym (sum_of_met p w)) ray.negative))))

@@ -48,7 +48,8 @@ asked_negative x negative positive h below = at (compare_ℚ x zero_ℚ) h (comp
     at Greater h e = cc
 
 asked_positive : (x : ℚ) (negative positive : Bool) → by_sign (compare_ℚ x zero_ℚ) negative positive ≡ true → zero_ℚ <ℚ x → positive ≡ true
-asked_positive x negative positive h above = at (compare_ℚ x zero_ℚ) h (λ less. lt_not_le above (le_of_lt (lt_from_compare less))) (λ equal. apart_from_above above (same_from_compare equal))
+asked_positive x negative positive h above =
+    at (compare_ℚ x zero_ℚ) h (λ less. lt_not_le above (le_of_lt (lt_from_compare less))) (λ equal. apart_from_above above (same_from_compare equal))
   where
     at : (o : Ordering) → by_sign o negative positive ≡ true → (o ≡ Less → ⊥) → (o ≡ Equal → ⊥) → positive ≡ true
     at Less h less equal = absurd (less refl)
@@ -78,7 +79,8 @@ module _ (p : LinearProgram) where
   -- ---- columns
 
   module _ (matrix : IsMatrix p.matrix) where
-    pub products_of_column : (y : Vector) (start : ℚ) (j : ℕ) → IsColumn p.matrix j → sum_of start (column_products p y j) ≡ start +ℚ sum_up_to p.rows (λ i. y i *ℚ entry p.matrix i j)
+    pub products_of_column : (y : Vector) (start : ℚ) (j : ℕ) → IsColumn p.matrix j →
+        sum_of start (column_products p y j) ≡ start +ℚ sum_up_to p.rows (λ i. y i *ℚ entry p.matrix i j)
     products_of_column y start j is = sum_of-entries start y (column p.matrix j) ∙ sum_of_entries p.matrix matrix y start j is
 
     pub reduced_if_held : (y : Vector) → AllHold (reduced_costs p y) → AreReducedCosts p y
@@ -131,13 +133,17 @@ module _ (p : LinearProgram) where
       by_test : (b : Bool) → not (eq_ℚ (w first) zero_ℚ) ≡ b
           → AllHold (ray_limits p w sum (cond b (first ∷ multiplied_from w (suc first) n) (multiplied_from w (suc first) n)))
           → Dec (first ≡ k)
-          → ((next : ℚ) → AllHold (ray_limits p w next (multiplied_from w (suc first) n)) → suc first ≤ k → k < suc first + n → w k ≢ zero_ℚ → is_some (limit_against p w k) ≡ true)
+          → ((next : ℚ) → AllHold (ray_limits p w next (multiplied_from w (suc first) n)) → suc first ≤ k → k < suc first + n → w k ≢ zero_ℚ
+          → is_some (limit_against p w k) ≡ true)
           → is_some (limit_against p w k) ≡ true
       by_test true is e (yes same) later =
           ap (λ i. is_some (limit_against p w i)) (sym same)
-          ∙ (hold-append (comparison 2 first (is_some (limit_against p w first)) ∷ []) (sum_steps sum (limit_product p w first ∷ []) ++ later_limits w sum first n) e).0.0
+          ∙ (hold-append (comparison 2 first (is_some (limit_against p w first)) ∷ [])
+          (sum_steps sum (limit_product p w first ∷ []) ++ later_limits w sum first n) e).0.0
       by_test true is e (no other) later =
-          later (sum +ℚ product_of (limit_product p w first)) (hold-append (comparison 2 first (is_some (limit_against p w first)) ∷ sum_steps sum (limit_product p w first ∷ [])) (later_limits w sum first n) e).1 (omega arith) (omega arith) apart
+          later (sum +ℚ product_of (limit_product p w first))
+          (hold-append (comparison 2 first (is_some (limit_against p w first)) ∷ sum_steps sum (limit_product p w first ∷ []))
+          (later_limits w sum first n) e).1 (omega arith) (omega arith) apart
       by_test false is e (yes same) later = absurd (apart (ap w (sym same) ∙ same_from_test (w first) zero_ℚ (not-false (eq_ℚ (w first) zero_ℚ) is)))
       by_test false is e (no other) later = later sum e (omega arith) (omega arith) apart
 
@@ -150,9 +156,12 @@ module _ (p : LinearProgram) where
       }
 
   -- the products of the multipliers that are not 0 add up to those of all
-  pub sum_of_met : (w : Vector) → sum_of zero_ℚ (map (limit_product p w) (multiplied p w)) ≡ sum_up_to (size p.matrix) (λ k. w k *ℚ unwrap_or (limit_against p w k) zero_ℚ)
+  pub sum_of_met : (w : Vector) →
+      sum_of zero_ℚ (map (limit_product p w) (multiplied p w)) ≡ sum_up_to (size p.matrix) (λ k. w k *ℚ unwrap_or (limit_against p w k) zero_ℚ)
   sum_of_met w =
-      sum_of-filtered (λ k. not (eq_ℚ (w k) zero_ℚ)) (limit_product p w) (λ k none. ap (λ s. s *ℚ unwrap_or (limit_against p w k) zero_ℚ) (same_from_test (w k) zero_ℚ (not-false (eq_ℚ (w k) zero_ℚ) none)) ∙ zero-mul (unwrap_or (limit_against p w k) zero_ℚ)) zero_ℚ (variables p.matrix)
+      sum_of-filtered (λ k. not (eq_ℚ (w k) zero_ℚ)) (limit_product p w)
+      (λ k none. ap (λ s. s *ℚ unwrap_or (limit_against p w k) zero_ℚ) (same_from_test (w k) zero_ℚ (not-false (eq_ℚ (w k) zero_ℚ) none))
+      ∙ zero-mul (unwrap_or (limit_against p w k) zero_ℚ)) zero_ℚ (variables p.matrix)
       ∙ sum_of-all (limit_product p w) (size p.matrix)
 
   negative_if_held : (w : Vector) → AllHold (ray_sum p w) → sum_up_to (size p.matrix) (λ k. w k *ℚ unwrap_or (limit_against p w k) zero_ℚ) <ℚ zero_ℚ

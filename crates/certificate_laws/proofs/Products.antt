@@ -12,7 +12,8 @@ use Rattle.check_definitions.specs.Steps.{Product, product_of, sum_of}
 use Rattle.check_definitions.specs.Checks.{entry_products}
 
 -- products in the order of numbers
-pub sum_of-numbers : (f : ℕ → Product) (start : ℚ) (first n : ℕ) → sum_of start (map f (numbers_from first n)) ≡ start +ℚ sum_to n (λ k. product_of (f (first + k)))
+pub sum_of-numbers : (f : ℕ → Product) (start : ℚ) (first n : ℕ) →
+    sum_of start (map f (numbers_from first n)) ≡ start +ℚ sum_to n (λ k. product_of (f (first + k)))
 unfolding sum_to
 sum_of-numbers f start first zero = sym (add-zero start)
 sum_of-numbers f start first (suc n) =
@@ -31,7 +32,8 @@ sum_of-all f n =
 pub sum_of-filtered : (test : ℕ → Bool) (f : ℕ → Product) → ((k : ℕ) → test k ≡ false → product_of (f k) ≡ zero_ℚ)
     → (start : ℚ) (ks : List ℕ) → sum_of start (map f (filter test ks)) ≡ sum_of start (map f ks)
 sum_of-filtered test f none start [] = refl
-sum_of-filtered test f none start (k ∷ ks) = by_test (test k) (none k) (sum_of-filtered test f none start ks) (sum_of-filtered test f none (start +ℚ product_of (f k)) ks)
+sum_of-filtered test f none start (k ∷ ks) =
+    by_test (test k) (none k) (sum_of-filtered test f none start ks) (sum_of-filtered test f none (start +ℚ product_of (f k)) ks)
   where
     by_test : (b : Bool) → (b ≡ false → product_of (f k) ≡ zero_ℚ)
         → sum_of start (map f (filter test ks)) ≡ sum_of start (map f ks)
@@ -41,6 +43,7 @@ sum_of-filtered test f none start (k ∷ ks) = by_test (test k) (none k) (sum_of
     by_test false none here there = here ∙ ap (λ s. sum_of s (map f ks)) (sym (ap (λ s. start +ℚ s) (none refl) ∙ add-zero start))
 
 -- the products of a column's numbers
-pub sum_of-entries : (start : ℚ) (y : ℕ → ℚ) (es : List Entry) → sum_of start (entry_products y es) ≡ sum_from start (map (λ (e : Entry). y e.row *ℚ e.value) es)
+pub sum_of-entries : (start : ℚ) (y : ℕ → ℚ) (es : List Entry) →
+    sum_of start (entry_products y es) ≡ sum_from start (map (λ (e : Entry). y e.row *ℚ e.value) es)
 sum_of-entries start y [] = refl
 sum_of-entries start y (e ∷ es) = sum_of-entries (start +ℚ y e.row *ℚ e.value) y es

@@ -69,7 +69,9 @@ wrong_sign = refl
 -- ---- x is at least 3 by one row, and at most 2 by another
 
 abbrev contradiction : LinearProgram
-contradiction = one_column 3 (on 1 (number 1) ∷ on 2 (number 1) ∷ on 3 (number 1) ∷ []) (None ∷ Some (number 3) ∷ None ∷ Some zero_ℚ ∷ []) (None ∷ None ∷ Some (number 2) ∷ None ∷ []) Min
+contradiction =
+    one_column 3 (on 1 (number 1) ∷ on 2 (number 1) ∷ on 3 (number 1) ∷ []) (None ∷ Some (number 3) ∷ None ∷ Some zero_ℚ ∷ [])
+    (None ∷ None ∷ Some (number 2) ∷ None ∷ []) Min
 
 no_point : infeasible_check contradiction (value_at (zero_ℚ ∷ minus 0 ∷ number 1 ∷ zero_ℚ ∷ [])) ≡ Checked
 unfolding refuses shared_factor raised_numerator raised_sum sum_denominator ◌+ℚ◌ ◌*ℚ◌ neg_ℚ fraction whole gcd compare_ℚ
@@ -105,7 +107,11 @@ no_improvement = refl
 
 -- with the second row as its change row, 3 times
 abbrev changed : LinearProgram
-changed = record (one_column 2 (on 1 (number 1) ∷ on 2 (minus 0) ∷ []) (None ∷ None ∷ Some zero_ℚ ∷ []) (None ∷ None ∷ None ∷ []) Min) { change = Some (record { row = 2; theta = number 3 }) }
+changed =
+    record (one_column 2 (on 1 (number 1) ∷ on 2 (minus 0) ∷ []) (None ∷ None ∷ Some zero_ℚ ∷ []) (None ∷ None ∷ None ∷ []) Min) {
+      change = Some
+          (record { row = 2; theta = number 3 });
+    }
 
 -- x - 3 x falls, and x alone does not
 change_counts : unbounded_check changed (value_at (zero_ℚ ∷ zero_ℚ ∷ zero_ℚ ∷ [])) (value_at (number 1 ∷ minus 0 ∷ number 1 ∷ [])) ≡ Checked

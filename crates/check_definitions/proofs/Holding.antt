@@ -13,7 +13,8 @@ pub checked_hold : (A : Arithmetic) (steps : List Step) → verdict_by A steps �
 checked_hold A [] e = tt
 checked_hold A (operation op x y ∷ steps) e = made (A.refused op x y) e (checked_hold A steps)
   where
-    made : (b : Bool) → (if b then Unchecked (record { op = op; left = x; right = y }) else verdict_by A steps) ≡ Checked → (verdict_by A steps ≡ Checked → AllHold steps) → AllHold steps
+    made : (b : Bool) → (if b then Unchecked (record { op = op; left = x; right = y }) else verdict_by A steps) ≡ Checked →
+        (verdict_by A steps ≡ Checked → AllHold steps) → AllHold steps
     made true e rest = cc
     made false e rest = rest e
 checked_hold A (comparison part number true ∷ steps) e = (refl, checked_hold A steps e)

@@ -14,7 +14,8 @@ verdict-append [] ys = refl
 verdict-append (operation op x y ∷ xs) ys = by_test (refuses op x y) (verdict-append xs ys)
   where
     by_test : (b : Bool) → verdict_of (xs ++ ys) ≡ followed_by (verdict_of xs) (verdict_of ys)
-        → (if b then Unchecked (record { op = op; left = x; right = y }) else verdict_of (xs ++ ys)) ≡ followed_by (if b then Unchecked (record { op = op; left = x; right = y }) else verdict_of xs) (verdict_of ys)
+        → (if b then Unchecked (record { op = op; left = x; right = y }) else verdict_of (xs ++ ys)) ≡ followed_by
+        (if b then Unchecked (record { op = op; left = x; right = y }) else verdict_of xs) (verdict_of ys)
     by_test true e = refl
     by_test false e = e
 verdict-append (comparison part number holds ∷ xs) ys = by_test holds (verdict-append xs ys)
@@ -50,7 +51,9 @@ numbers-next i n below = at (n - i) (n - (i + 1)) (omega arith) ∙ ap (λ s. (i
 pub numbers-end : (n : ℕ) → numbers_from (n + 1) (n - n) ≡ []
 numbers-end n = let none : n - n ≡ 0 = omega arith in ap (numbers_from (n + 1)) none
 
-pub each-next : (f : ℕ → List Step) (i n : ℕ) → i < n → verdict_of (flat_map f (numbers_from (i + 1) (n - i))) ≡ followed_by (verdict_of (f (i + 1))) (verdict_of (flat_map f (numbers_from (i + 1 + 1) (n - (i + 1)))))
+pub each-next : (f : ℕ → List Step) (i n : ℕ) → i < n →
+    verdict_of (flat_map f (numbers_from (i + 1) (n - i))) ≡ followed_by (verdict_of (f (i + 1)))
+    (verdict_of (flat_map f (numbers_from (i + 1 + 1) (n - (i + 1)))))
 each-next f i n below =
     ap (λ ks. verdict_of (flat_map f ks)) (numbers-next i n below)
     ∙ verdict-append (f (i + 1)) (flat_map f (numbers_from (i + 1 + 1) (n - (i + 1))))
@@ -59,7 +62,8 @@ pub each-end : (f : ℕ → List Step) (n : ℕ) → verdict_of (flat_map f (num
 each-end f n = ap (λ ks. verdict_of (flat_map f ks)) (numbers-end n)
 
 -- each number's steps are checked where all are
-pub each_checked : (f : ℕ → List Step) (first n k : ℕ) → verdict_of (flat_map f (numbers_from first n)) ≡ Checked → first ≤ k → k < first + n → verdict_of (f k) ≡ Checked
+pub each_checked : (f : ℕ → List Step) (first n k : ℕ) → verdict_of (flat_map f (numbers_from first n)) ≡ Checked → first ≤ k → k < first + n →
+    verdict_of (f k) ≡ Checked
 each_checked f first zero k e low high = absurd (omega arith)
 each_checked f first (suc n) k e low high =
     let both = checked-append (f first) (flat_map f (numbers_from (suc first) n)) e in

@@ -115,7 +115,8 @@ module _ (p : LinearProgram) where
 
   -- the multiplier of column j, and the multipliers of the rows times its numbers, add up to 0
   abbrev pub ray_column : Vector → ℕ → List Step
-  ray_column w j = sum_steps (w (p.rows + j)) (column_products w j) ++ comparison 1 (p.rows + j) (eq_ℚ (sum_of (w (p.rows + j)) (column_products w j)) zero_ℚ) ∷ []
+  ray_column w j =
+      sum_steps (w (p.rows + j)) (column_products w j) ++ comparison 1 (p.rows + j) (eq_ℚ (sum_of (w (p.rows + j)) (column_products w j)) zero_ℚ) ∷ []
 
   abbrev pub ray_columns : Vector → List Step
   ray_columns w = flat_map (ray_column w) (numbers_from 1 p.cols)

@@ -44,7 +44,8 @@ word_read word x n is made = let read = text_of_fraction word x (sym is) in ap S
 
 -- ---- a point and a direction
 
-pub pair_is : (p : LinearProgram) (value objective : ℚ) (made : FractionPair) (pair : Pair) → value ≡ objective → made.point.items ≡ pair.point.items → made.direction.items ≡ pair.direction.items →
+pub pair_is : (p : LinearProgram) (value objective : ℚ) (made : FractionPair) (pair : Pair) → value ≡ objective → made.point.items ≡ pair.point.items →
+    made.direction.items ≡ pair.direction.items →
     pair_verdict p value made ≡ pair_test checker_of_128_bits p objective pair
 pair_is p value objective made pair same point direction =
     λ i. in_turn (unbounded_check p (value_at (point i)) (value_at (direction i)) ∷ asked (eq_ℚ (same i) (value_at (point i) p.objective)) ∷ [])

@@ -34,17 +34,22 @@ as_stopped stops.NoMemory v w same h = tt
 
 module _ (p : LinearProgram) (w : Vector) (sum : ℚ) (k : ℕ) where
   pub adds_made : (m : ℚ) (limit : Option ℚ) → m ≡ w k → limit ≡ limit_against p w k → w k ≢ zero_ℚ → (result : Result ℚ Stop) →
-      Makes (λ next. next ≡ sum +ℚ m *ℚ unwrap_or limit zero_ℚ) (verdict_of (comparison 2 k (is_some limit) ∷ sum_steps sum (record { left = m; right = unwrap_or limit zero_ℚ } ∷ []))) result →
-      Makes (λ next. next ≡ sum_of sum (map (limit_product p w) (multiplied_among w (k ∷ [])))) (verdict_of (ray_limits p w sum (multiplied_among w (k ∷ [])))) result
+      Makes (λ next. next ≡ sum +ℚ m *ℚ unwrap_or limit zero_ℚ)
+      (verdict_of (comparison 2 k (is_some limit) ∷ sum_steps sum (record { left = m; right = unwrap_or limit zero_ℚ } ∷ []))) result →
+      Makes (λ next. next ≡ sum_of sum (map (limit_product p w) (multiplied_among w (k ∷ []))))
+      (verdict_of (ray_limits p w sum (multiplied_among w (k ∷ [])))) result
   adds_made m limit is_m is_limit apart (Ok x) h = adds_one p w (Ok x) sum k m limit is_m is_limit apart h
   adds_made m limit is_m is_limit apart (Err stop) h =
-      as_stopped stop (verdict_of (comparison 2 k (is_some limit) ∷ sum_steps sum (record { left = m; right = unwrap_or limit zero_ℚ } ∷ []))) (verdict_of (ray_limits p w sum (multiplied_among w (k ∷ []))))
+      as_stopped stop (verdict_of (comparison 2 k (is_some limit) ∷ sum_steps sum (record { left = m; right = unwrap_or limit zero_ℚ } ∷ [])))
+      (verdict_of (ray_limits p w sum (multiplied_among w (k ∷ []))))
       (λ s e. adds_one p w (Err s) sum k m limit is_m is_limit apart e) h
 
-pub limits_stop : (p : LinearProgram) (w : Vector) (k : ℕ) (sum : ℚ) → LimitsLeft p w k sum → k < size p.matrix → (stop : Stop) → Stops stop (verdict_of (ray_limits p w sum (multiplied_among w ((k + 1) ∷ [])))) →
+pub limits_stop : (p : LinearProgram) (w : Vector) (k : ℕ) (sum : ℚ) → LimitsLeft p w k sum → k < size p.matrix → (stop : Stop) →
+    Stops stop (verdict_of (ray_limits p w sum (multiplied_among w ((k + 1) ∷ [])))) →
     Stops stop (verdict_of (ray_limits p w zero_ℚ (multiplied p w)))
 limits_stop p w k sum left below stop h =
-    as_stopped stop (verdict_of (ray_limits p w sum (multiplied_among w ((k + 1) ∷ [])))) (verdict_of (ray_limits p w zero_ℚ (multiplied p w))) (λ s e. limits_stopped p w k sum left below s e) h
+    as_stopped stop (verdict_of (ray_limits p w sum (multiplied_among w ((k + 1) ∷ [])))) (verdict_of (ray_limits p w zero_ℚ (multiplied p w)))
+    (λ s e. limits_stopped p w k sum left below s e) h
 
 -- ---- shifts
 
@@ -64,7 +69,8 @@ module _ (w : Vector) (shift : List ℚ) (n : ℕ) where
   pub shifts_begin : (sum : ℚ) → sum ≡ zero_ℚ → n - 0 ≡ n → ShiftsLeft 0 sum
   unfolding ShiftsLeft
   shifts_begin sum is whole =
-      subst (λ (s : ℚ). IsLeft zero_ℚ all_products s (products_from 0)) (sym is) (subst (λ (m : ℕ). IsLeft zero_ℚ all_products zero_ℚ (map (shift_product w shift) (numbers_from 1 m))) (sym whole) (all_left zero_ℚ all_products))
+      subst (λ (s : ℚ). IsLeft zero_ℚ all_products s (products_from 0)) (sym is)
+      (subst (λ (m : ℕ). IsLeft zero_ℚ all_products zero_ℚ (map (shift_product w shift) (numbers_from 1 m))) (sym whole) (all_left zero_ℚ all_products))
 
   module _ (i : ℕ) (sum : ℚ) (left : ShiftsLeft i sum) (below : i < n) (x y : ℚ) (is_x : x ≡ w (i + 1)) (is_y : y ≡ value_at shift (i + 1)) where
     here : IsLeft zero_ℚ all_products sum (shift_product w shift (i + 1) ∷ products_from (i + 1))
@@ -80,12 +86,14 @@ module _ (w : Vector) (shift : List ℚ) (n : ℕ) where
         left_next zero_ℚ all_products sum next (shift_product w shift (i + 1)) (products_from (i + 1)) here
         (subst (λ (t : Product). verdict_of (sum_steps sum (t ∷ [])) ≡ Checked) same passed, is ∙ ap₂ (λ (a b : ℚ). sum +ℚ a *ℚ b) is_x is_y)
 
-    pub shifts_stop : (stop : Stop) → Stops stop (verdict_of (sum_steps sum (record { left = x; right = y } ∷ []))) → Stops stop (verdict_of (sum_steps zero_ℚ all_products))
+    pub shifts_stop : (stop : Stop) → Stops stop (verdict_of (sum_steps sum (record { left = x; right = y } ∷ []))) →
+        Stops stop (verdict_of (sum_steps zero_ℚ all_products))
     shifts_stop stop h =
         let t = shift_product w shift (i + 1) in
         let next = sum +ℚ product_of t in
         subst (λ (v : Verdict). Stops stop v) (sym (here.steps ∙ verdict-append (sum_steps sum (t ∷ [])) (sum_steps next (products_from (i + 1)))))
-        (stops_first stop (verdict_of (sum_steps sum (t ∷ []))) (verdict_of (sum_steps next (products_from (i + 1)))) (subst (λ (t : Product). Stops stop (verdict_of (sum_steps sum (t ∷ [])))) same h))
+        (stops_first stop (verdict_of (sum_steps sum (t ∷ []))) (verdict_of (sum_steps next (products_from (i + 1))))
+        (subst (λ (t : Product). Stops stop (verdict_of (sum_steps sum (t ∷ [])))) same h))
 
   pub shifts_end : (i : ℕ) (sum : ℚ) → i ≡ n → ShiftsLeft i sum → (verdict_of (sum_steps zero_ℚ all_products) ≡ Checked) × (sum ≡ sum_of zero_ℚ all_products)
   unfolding ShiftsLeft

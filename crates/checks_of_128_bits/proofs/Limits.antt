@@ -18,9 +18,11 @@ use Rattle.checks_of_128_bits.specs.Making.{moved, row_steps, low_at, high_at}
 use Rattle.checks_of_128_bits.proofs.Passing.{steps_first, steps_next, steps_pass}
 
 -- one more at the end of a list that a loop makes
-pub one_more : {A : Type 0} (f : ℕ → A) (items : List A) (k : ℕ) (v : A) → items ≡ map f (numbers_from 1 k) → v ≡ f (k + 1) → items ++ v ∷ [] ≡ map f (numbers_from 1 (k + 1))
+pub one_more : {A : Type 0} (f : ℕ → A) (items : List A) (k : ℕ) (v : A) → items ≡ map f (numbers_from 1 k) → v ≡ f (k + 1) →
+    items ++ v ∷ [] ≡ map f (numbers_from 1 (k + 1))
 one_more {A} f items k v so_far is =
-    ap₂ (λ (xs : List A) (x : A). xs ++ x ∷ []) so_far (is ∙ ap f (omega arith)) ∙ sym (map-append f (numbers_from 1 k) ((1 + k) ∷ [])) ∙ ap (map f) (sym (numbers_from-append 1 k 1))
+    ap₂ (λ (xs : List A) (x : A). xs ++ x ∷ []) so_far (is ∙ ap f (omega arith)) ∙ sym (map-append f (numbers_from 1 k) ((1 + k) ∷ []))
+    ∙ ap (map f) (sym (numbers_from-append 1 k 1))
 
 -- ---- shifts
 
@@ -49,7 +51,8 @@ module _ (p : LinearProgram) (shift : List ℚ) (theta : ℚ) (k : ℕ) where
 
 -- ---- the operations on the limits of a row
 
-module _ (sheet : Sheet) (shift : List ℚ) (theta : ℚ) (i : ℕ) (by : ℚ) (is_by : by ≡ value_at shift i) (low high : Option ℚ) (is_low : low ≡ lower_of sheet.lp i) (is_high : high ≡ upper_of sheet.lp i) where
+module _ (sheet : Sheet) (shift : List ℚ) (theta : ℚ) (i : ℕ) (by : ℚ) (is_by : by ≡ value_at shift i) (low high : Option ℚ)
+    (is_low : low ≡ lower_of sheet.lp i) (is_high : high ≡ upper_of sheet.lp i) where
   abbrev lows : Type 0
   lows = verdict_of (moving_steps sheet theta by low) ≡ Checked
 
@@ -71,7 +74,8 @@ module _ (sheet : Sheet) (shift : List ℚ) (theta : ℚ) (i : ℕ) (by : ℚ) (
 
   pub row_passes : lows → verdict_of (moving_steps sheet theta by high) ≡ Checked → verdict_of (row_steps sheet shift theta i) ≡ Checked
   row_passes passed also =
-      steps_pass (moving_steps sheet theta (value_at shift i) (lower_of sheet.lp i)) (moving_steps sheet theta (value_at shift i) (upper_of sheet.lp i)) (sym low_same ∙ passed) (sym high_same ∙ also)
+      steps_pass (moving_steps sheet theta (value_at shift i) (lower_of sheet.lp i)) (moving_steps sheet theta (value_at shift i) (upper_of sheet.lp i))
+      (sym low_same ∙ passed) (sym high_same ∙ also)
 
 -- ---- points
 
@@ -79,5 +83,6 @@ abbrev pub along_step : ℚ → List ℚ → List ℚ → ℕ → List Step
 along_step theta value rate k = sum_steps (value_at value k) (record { left = theta; right = value_at rate k } ∷ [])
 
 -- a value and a rate that were read are those of the variable
-pub along_same : (theta : ℚ) (value rate : List ℚ) (k : ℕ) (v r : ℚ) → v ≡ value_at value k → r ≡ value_at rate k → verdict_of (sum_steps v (record { left = theta; right = r } ∷ [])) ≡ verdict_of (along_step theta value rate k)
+pub along_same : (theta : ℚ) (value rate : List ℚ) (k : ℕ) (v r : ℚ) → v ≡ value_at value k → r ≡ value_at rate k →
+    verdict_of (sum_steps v (record { left = theta; right = r } ∷ [])) ≡ verdict_of (along_step theta value rate k)
 along_same theta value rate k v r is_v is_r = ap₂ (λ v r. verdict_of (sum_steps v (record { left = theta; right = r } ∷ []))) is_v is_r

@@ -15,7 +15,8 @@ use Rattle.listing_claims.proofs.Passing.{stops_first, stops_next, judges_exit, 
 use Rattle.checks_of_128_bits.specs.Making.{Makes}
 
 -- the same steps for each number up to n
-pub each_exit : (f : ℕ → List Step) (n i : ℕ) (result : Result (Unit {0}) Stop) (stop : Stop) → EachLeft f n i → i < n → Stops stop (verdict_of (f (i + 1))) → IsErrAnd result (λ y. y ≡ stop) →
+pub each_exit : (f : ℕ → List Step) (n i : ℕ) (result : Result (Unit {0}) Stop) (stop : Stop) → EachLeft f n i → i < n → Stops stop (verdict_of (f (i + 1))) →
+    IsErrAnd result (λ y. y ≡ stop) →
     Judges (verdict_of (flat_map f (numbers_from 1 n))) result
 each_exit f n i result stop left below h handed =
     subst (λ (v : Verdict). Judges v result) (sym (left.left ∙ each-next f i n below))
@@ -27,12 +28,15 @@ each_goes_on f n i left below passed = each_passed f n i left below (sym passed)
 pub each_ends : (f : ℕ → List Step) (n i : ℕ) → i ≡ n → EachLeft f n i → verdict_of (flat_map f (numbers_from 1 n)) ≡ Checked
 each_ends f n i all left = sym (each_done f n (subst (EachLeft f n) all left))
 
-pub each_stops : (f : ℕ → List Step) (n i : ℕ) (stop : Stop) → EachLeft f n i → i < n → Stops stop (verdict_of (f (i + 1))) → Stops stop (verdict_of (flat_map f (numbers_from 1 n)))
+pub each_stops : (f : ℕ → List Step) (n i : ℕ) (stop : Stop) → EachLeft f n i → i < n → Stops stop (verdict_of (f (i + 1))) →
+    Stops stop (verdict_of (flat_map f (numbers_from 1 n)))
 each_stops f n i stop left below h =
-    subst (λ (v : Verdict). Stops stop v) (sym (left.left ∙ each-next f i n below)) (stops_first stop (verdict_of (f (i + 1))) (verdict_of (flat_map f (numbers_from (i + 1 + 1) (n - (i + 1))))) h)
+    subst (λ (v : Verdict). Stops stop v) (sym (left.left ∙ each-next f i n below))
+    (stops_first stop (verdict_of (f (i + 1))) (verdict_of (flat_map f (numbers_from (i + 1 + 1) (n - (i + 1))))) h)
 
 -- what a `?` hands on where something is made
-pub made_handed : {X : Type 0} (Shows : X → Type 0) (v : Verdict) (result : Result X Stop) (stop : Stop) → Stops stop v → IsErrAnd result (λ y. y ≡ stop) → Makes Shows v result
+pub made_handed : {X : Type 0} (Shows : X → Type 0) (v : Verdict) (result : Result X Stop) (stop : Stop) → Stops stop v → IsErrAnd result (λ y. y ≡ stop) →
+    Makes Shows v result
 made_handed {X} Shows v result stop h handed =
     let p = err_from_is_err_and result handed in
     subst (λ (r : Result X Stop). Makes Shows v r) (sym p.1) (subst (λ (s : Stop). Stops s v) (sym p.2) h)

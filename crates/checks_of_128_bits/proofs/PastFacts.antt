@@ -36,5 +36,9 @@ module _ (sheet : Sheet) (changing : Changing) (shift : List ℚ) (t : ℚ) (w :
     abbrev pub past_at : Verdict
     past_at = in_turn (making ∷ combined ∷ met ∷ low ∷ falling ∷ fallen ∷ [])
 
-    pub past_is : (result : Result (Unit {0}) Stop) → q ≡ family_of sheet changing t → Judges past_at result → Judges (infeasible_past checker_of_128_bits sheet changing shift t w) result
-    past_is result is h = subst (λ (p : LinearProgram). Judges (in_turn (making ∷ verdict_of (ray_columns p w) ∷ verdict_of (ray_limits p w zero_ℚ (multiplied p w)) ∷ asked (le_ℚ (sum_of zero_ℚ (map (limit_product p w) (multiplied p w))) zero_ℚ) ∷ falling ∷ fallen ∷ [])) result) is h
+    pub past_is : (result : Result (Unit {0}) Stop) → q ≡ family_of sheet changing t → Judges past_at result →
+        Judges (infeasible_past checker_of_128_bits sheet changing shift t w) result
+    past_is result is h =
+        subst (λ (p : LinearProgram). Judges
+        (in_turn (making ∷ verdict_of (ray_columns p w) ∷ verdict_of (ray_limits p w zero_ℚ (multiplied p w)) ∷ asked
+        (le_ℚ (sum_of zero_ℚ (map (limit_product p w) (multiplied p w))) zero_ℚ) ∷ falling ∷ fallen ∷ [])) result) is h

@@ -21,7 +21,8 @@ HasPair p pair = (length pair.point.items ≡ size p.matrix) × (length pair.dir
 -- they show that there is no best point, and the point has this objective
 abbrev pub pair_verdict : LinearProgram → ℚ → FractionPair → Verdict
 pair_verdict p objective pair =
-    in_turn (unbounded_check p (value_at pair.point.items) (value_at pair.direction.items) ∷ asked (eq_ℚ objective (value_at pair.point.items p.objective)) ∷ [])
+    in_turn (unbounded_check p (value_at pair.point.items) (value_at pair.direction.items) ∷ asked
+    (eq_ℚ objective (value_at pair.point.items p.objective)) ∷ [])
 
 -- the same lines
 pub record AreFractions (columns : Columns) (made : FractionColumns) : Type 0 where

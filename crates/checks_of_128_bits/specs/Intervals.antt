@@ -20,7 +20,8 @@ use Rattle.checks_of_128_bits.specs.declared.interval_tests.Interval.{Interval}
 use Rattle.checks_of_128_bits.specs.declared.interval_tests.IntervalEnd.{IntervalEnd}
 
 abbrev pub end_verdict : Sheet → Changing → ℚ → FractionColumns → Verdict
-end_verdict sheet changing theta columns = end_test checker_of_128_bits sheet changing theta columns.value.items columns.value_rate.items columns.price.items columns.price_rate.items
+end_verdict sheet changing theta columns =
+    end_test checker_of_128_bits sheet changing theta columns.value.items columns.value_rate.items columns.price.items columns.price_rate.items
 
 abbrev pub interval_verdict : Sheet → Changing → Interval → Bool → ℚ → Verdict
 interval_verdict sheet changing interval =

@@ -75,7 +75,9 @@ fn check_claim_at(
 ) -> Result<(), Stop>
     requires asked { IsAskedOf sheet request.now }
     requires fits { Fits sheet.lp.now claim.now }
-    ensures { Judges (opening_test checker_of_128_bits (sheet_view sheet.entry) (changing_of request.now.name request.now.change)
+    ensures { Judges
+        (opening_test checker_of_128_bits (sheet_view sheet.entry)
+        (changing_of request.now.name request.now.change)
         theta claim.now) result }
 {
     let program = program_at(alloc, sheet, request, theta)?;
@@ -91,7 +93,9 @@ pub fn check_opening(
 ) -> Result<(), Stop>
     requires asked { IsAskedOf sheet request.now }
     requires fits { Fits sheet.lp.now claim.now }
-    ensures { Judges (opening_test checker_of_128_bits (sheet_view sheet.entry) (changing_of request.now.name request.now.change)
+    ensures { Judges
+        (opening_test checker_of_128_bits (sheet_view sheet.entry)
+        (changing_of request.now.name request.now.change)
         request.now.from claim.now) result }
 {
     let from = fraction(&request.from)?;

@@ -58,7 +58,9 @@ fn check_unbounded_past(
     requires row { IsRow sheet.lp.now.matrix row }
     requires point_places { length point.now ≡ size sheet.lp.now.matrix }
     requires direction_places { length direction.now ≡ size sheet.lp.now.matrix }
-    ensures { (changing : Changing) → Judges (unbounded_past checker_of_128_bits (sheet_view sheet.entry) changing row value (value_at point.now)
+    ensures { (changing : Changing) →
+        Judges (unbounded_past checker_of_128_bits
+        (sheet_view sheet.entry) changing row value (value_at point.now)
         (value_at direction.now)) result }
 {
     judge(check_point(sheet.lp, point))?;
@@ -72,7 +74,8 @@ fn check_unbounded_past(
 // A sum, and a multiplier times the limit that it meets.
 fn plus_met(sum: Frac, multiplier: Frac, limit: Option<Frac>, k: u32) -> Result<Frac, Stop>
     ensures { let met = unwrap_or limit zero_ℚ in
-        Makes (λ next. next ≡ sum +ℚ multiplier *ℚ met) (verdict_of (comparison 2 k (is_some limit) ∷ sum_steps sum
+        Makes (λ next. next ≡ sum +ℚ multiplier *ℚ met)
+        (verdict_of (comparison 2 k (is_some limit) ∷ sum_steps sum
         (record { left = multiplier; right = met } ∷ []))) result }
 {
     match limit {
@@ -86,7 +89,8 @@ fn plus_limit(lp: &Lp, ray: &[Frac], sum: Frac, k: u32) -> Result<Frac, Stop>
     requires variable { IsVariable lp.now.matrix k }
     requires places { length ray.now ≡ size lp.now.matrix }
     ensures { let w = value_at ray.now in let ks = multiplied_among w (k ∷ []) in
-        Makes (λ next. next ≡ sum_of sum (map (limit_product lp.now w) ks)) (verdict_of (ray_limits lp.now w sum ks)) result }
+        Makes (λ next. next ≡ sum_of sum (map (limit_product lp.now w) ks))
+        (verdict_of (ray_limits lp.now w sum ks)) result }
 {
     let multiplier = ray[k as usize - 1];
     if multiplier.is_zero() {
@@ -99,7 +103,8 @@ fn plus_limit(lp: &Lp, ray: &[Frac], sum: Frac, k: u32) -> Result<Frac, Stop>
 fn limit_sum(lp: &Lp, ray: &[Frac]) -> Result<Frac, Stop>
     requires { length ray.now ≡ size lp.now.matrix }
     ensures { let w = value_at ray.now in
-        Makes (λ sum. sum ≡ sum_of zero_ℚ (map (limit_product lp.now w) (multiplied lp.now w))) (verdict_of (ray_limits lp.now w zero_ℚ
+        Makes (λ sum. sum ≡ sum_of zero_ℚ (map (limit_product lp.now w) (multiplied lp.now w)))
+        (verdict_of (ray_limits lp.now w zero_ℚ
         (multiplied lp.now w))) result }
 {
     let mut sum = Frac::whole(0);
@@ -113,8 +118,11 @@ fn limit_sum(lp: &Lp, ray: &[Frac]) -> Result<Frac, Stop>
 fn shift_sum(sheet: Sheet<'_>, shift: &[Frac], ray: &[Frac]) -> Result<Frac, Stop>
     requires shifts { length shift.now ≡ sheet.lp.now.matrix.rows }
     requires places { length ray.now ≡ size sheet.lp.now.matrix }
-    ensures { (changing : Changing) → let products = shift_products (sheet_view sheet.entry) changing shift.now (value_at ray.now) in
-        Makes (λ sum. sum ≡ sum_of zero_ℚ products) (verdict_of (sum_steps zero_ℚ products)) result }
+    ensures { (changing : Changing) →
+        let products = shift_products
+        (sheet_view sheet.entry) changing shift.now (value_at ray.now) in
+        Makes (λ sum. sum ≡ sum_of zero_ℚ products)
+        (verdict_of (sum_steps zero_ℚ products)) result }
 {
     let mut sum = Frac::whole(0);
     for place in 0..shift.len() {
@@ -135,7 +143,9 @@ fn check_infeasible_past(
     requires asked { IsAskedOf sheet request.now }
     requires shifts { length shift.now ≡ sheet.lp.now.matrix.rows }
     requires places { length ray.now ≡ size sheet.lp.now.matrix }
-    ensures { Judges (infeasible_past checker_of_128_bits (sheet_view sheet.entry) (changing_of request.now.name request.now.change) shift.now value
+    ensures { Judges
+        (infeasible_past checker_of_128_bits (sheet_view sheet.entry)
+        (changing_of request.now.name request.now.change) shift.now value
         (value_at ray.now)) result }
 {
     let program = program_at(alloc, sheet, request, value)?;
@@ -167,7 +177,9 @@ fn check_past_unbounded(
 ) -> Result<(), Stop>
     requires row { IsRow sheet.lp.now.matrix row }
     requires pair { HasPair sheet.lp.now pair.now }
-    ensures { (changing : Changing) → Judges (past_test max last value (unbounded_past checker_of_128_bits (sheet_view sheet.entry) changing row value
+    ensures { (changing : Changing) →
+        Judges (past_test max last value
+        (unbounded_past checker_of_128_bits (sheet_view sheet.entry) changing row value
         (value_at pair.now.point.items) (value_at pair.now.direction.items))) result }
 {
     ask(is_equal(value, last))?;
@@ -213,8 +225,11 @@ fn check_past_infeasible(
     requires asked { IsAskedOf sheet request.now }
     requires shifts { length shift.now ≡ sheet.lp.now.matrix.rows }
     requires places { length past.now.ray.now ≡ size sheet.lp.now.matrix }
-    ensures { Judges (past_test request.now.to last past.now.value (infeasible_past checker_of_128_bits (sheet_view sheet.entry)
-        (changing_of request.now.name request.now.change) shift.now past.now.value (value_at past.now.ray.now))) result }
+    ensures { Judges
+        (past_test request.now.to last past.now.value
+        (infeasible_past checker_of_128_bits (sheet_view sheet.entry)
+        (changing_of request.now.name request.now.change) shift.now past.now.value
+        (value_at past.now.ray.now))) result }
 {
     let value = past.value;
     ask(is_equal(value, last))?;
@@ -285,7 +300,8 @@ fn close_infeasible(
 
 // It ends at its last value, in the numbers of the listing.
 fn close_at(value: &Number<'_>, last: Frac, max: Frac) -> Result<(), Stop>
-    ensures { Judges (in_turn (asked (eq_ℚ value.now last) ∷ asked (eq_ℚ value.now max) ∷ [])) result }
+    ensures { Judges
+        (in_turn (asked (eq_ℚ value.now last) ∷ asked (eq_ℚ value.now max) ∷ [])) result }
 {
     let value = fraction(value)?;
     check_end_at(value, last, max)
@@ -301,7 +317,9 @@ pub fn check_closing(
 ) -> Result<(), Stop>
     requires asked { IsAskedOf sheet request.now }
     requires fits { ClosingFits sheet.lp.now closing.now }
-    ensures { Judges (closing_test checker_of_128_bits (sheet_view sheet.entry) (changing_of request.now.name request.now.change)
+    ensures { Judges
+        (closing_test checker_of_128_bits (sheet_view sheet.entry)
+        (changing_of request.now.name request.now.change)
         request.now.to last.now closing.now) result }
 {
     let last = fraction(last)?;

@@ -31,7 +31,8 @@ pub struct Limits {
 
 /// `sum + x * y`
 pub fn plus_product(sum: Frac, x: Frac, y: Frac) -> Result<Frac, Stop>
-    ensures { Makes (λ made. made ≡ sum +ℚ x *ℚ y) (verdict_of (sum_steps sum (record { left = x; right = y } ∷ []))) result }
+    ensures { Makes (λ made. made ≡ sum +ℚ x *ℚ y)
+        (verdict_of (sum_steps sum (record { left = x; right = y } ∷ []))) result }
 {
     let product = x.mul(y)?;
     Ok(sum.add(product)?)
@@ -39,7 +40,9 @@ pub fn plus_product(sum: Frac, x: Frac, y: Frac) -> Result<Frac, Stop>
 
 // A limit with theta times its shift, if it is there.
 fn moved(limit: Option<Frac>, theta: Frac, by: Frac) -> Result<Option<Frac>, Stop>
-    ensures { (sheet : Views) → Makes (λ made. made ≡ moved theta by limit) (verdict_of (moving_steps sheet theta by limit)) result }
+    ensures { (sheet : Views) →
+        Makes (λ made. made ≡ moved theta by limit)
+        (verdict_of (moving_steps sheet theta by limit)) result }
 {
     match limit {
         Some(limit) => {
@@ -59,7 +62,8 @@ fn limits_of_row(
 ) -> Result<(Option<Frac>, Option<Frac>), Stop>
     requires row { IsRow sheet.lp.now.matrix i }
     requires shifts { length shift.now ≡ sheet.lp.now.matrix.rows }
-    ensures { let by = value_at shift.now i in Makes (λ made. (made.0 ≡ moved theta by (lower_of sheet.entry.lp.now i)) ×
+    ensures { let by = value_at shift.now i in Makes
+        (λ made. (made.0 ≡ moved theta by (lower_of sheet.entry.lp.now i)) ×
         (made.1 ≡ moved theta by (upper_of sheet.entry.lp.now i)))
         (verdict_of (row_steps (sheet_view sheet.entry) shift.now theta i)) result }
 {
@@ -93,7 +97,8 @@ fn limits_of_rows(
 
 // With the limits of the columns, which don't move.
 fn with_columns(lp: &Lp, limits: Limits) -> Result<Limits, NoMemory>
-    ensures { (shift : List ℚ) → (theta : ℚ) → AreLimits lp.now shift theta (row_numbers lp.now) limits →
+    ensures { (shift : List ℚ) → (theta : ℚ) →
+        AreLimits lp.now shift theta (row_numbers lp.now) limits →
         IfOk result (AreLimits lp.now shift theta (variables lp.now.matrix)) }
 {
     let Limits {
@@ -113,7 +118,8 @@ fn shifted(alloc: Global, sheet: Sheet<'_>, shift: &[Frac], theta: Frac) -> Resu
     requires lawful { IsLinearProgram sheet.lp.now }
     requires no_change { sheet.lp.now.change ≡ None }
     requires shifts { length shift.now ≡ sheet.lp.now.matrix.rows }
-    ensures { Makes (λ p. p ≡ rhs_family sheet.entry.lp.now shift.now theta) (verdict_of (shift_steps
+    ensures { Makes (λ p. p ≡ rhs_family sheet.entry.lp.now shift.now theta)
+        (verdict_of (shift_steps
         (sheet_view sheet.entry) shift.now theta)) result }
 {
     let rows = limits_of_rows(alloc, sheet, shift, theta)?;
@@ -160,7 +166,8 @@ pub fn along(
 ) -> Result<Vec<Frac>, Stop>
     requires value_places { length value.now ≡ size sheet.lp.now.matrix }
     requires rate_places { length rate.now ≡ size sheet.lp.now.matrix }
-    ensures { Makes (λ made. IsAlong sheet.entry.lp.now theta value.now rate.now made.items) (verdict_of (along_steps
+    ensures { Makes (λ made. IsAlong sheet.entry.lp.now theta value.now rate.now made.items)
+        (verdict_of (along_steps
         (sheet_view sheet.entry) theta value.now rate.now)) result }
 {
     let mut made = Vec::new(alloc);

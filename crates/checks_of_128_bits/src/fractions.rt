@@ -49,7 +49,9 @@ pub fn fractions(alloc: Global, numbers: &[Number<'_>]) -> Result<Vec<Frac>, NoM
 
 /// The fractions of a point and of a direction.
 pub fn pair_of(alloc: Global, pair: &Pair<'_>) -> Result<FractionPair, NoMemory>
-    ensures { IfOk result (λ made. (made.point.items ≡ pair.now.point.items) × (made.direction.items ≡ pair.now.direction.items)) }
+    ensures { IfOk result
+        (λ made. (made.point.items ≡ pair.now.point.items) ×
+        (made.direction.items ≡ pair.now.direction.items)) }
 {
     let point = fractions(alloc, &pair.point)?;
     let direction = fractions(alloc, &pair.direction)?;

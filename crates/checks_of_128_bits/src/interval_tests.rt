@@ -71,7 +71,9 @@ fn check_end(
 // Whether each point stands at its upper limit.
 fn are_at_upper(start: &IntervalEnd, end: &IntervalEnd, k: u32) -> bool
     requires { AreEnds start.now end.now k }
-    ensures { result ≡ (is_at (upper_of start.now.program k) (value_at start.now.point.items k) && is_at (upper_of end.now.program k)
+    ensures { result ≡
+        (is_at (upper_of start.now.program k) (value_at start.now.point.items k) &&
+        is_at (upper_of end.now.program k)
         (value_at end.now.point.items k)) }
 {
     let place = k as usize - 1;
@@ -83,7 +85,9 @@ fn are_at_upper(start: &IntervalEnd, end: &IntervalEnd, k: u32) -> bool
 // Whether each point stands at its lower limit.
 fn are_at_lower(start: &IntervalEnd, end: &IntervalEnd, k: u32) -> bool
     requires { AreEnds start.now end.now k }
-    ensures { result ≡ (is_at (lower_of start.now.program k) (value_at start.now.point.items k) && is_at (lower_of end.now.program k)
+    ensures { result ≡
+        (is_at (lower_of start.now.program k) (value_at start.now.point.items k) &&
+        is_at (lower_of end.now.program k)
         (value_at end.now.point.items k)) }
 {
     let place = k as usize - 1;
@@ -95,7 +99,8 @@ fn are_at_lower(start: &IntervalEnd, end: &IntervalEnd, k: u32) -> bool
 // The price asks for one limit at both ends.
 fn check_price(start: &IntervalEnd, end: &IntervalEnd, price: Frac, k: u32) -> Result<(), Stop>
     requires { AreEnds start.now end.now k }
-    ensures { Judges (verdict_of (keeps_limit start.now.program end.now.program (value_at start.now.point.items)
+    ensures { Judges
+        (verdict_of (keeps_limit start.now.program end.now.program (value_at start.now.point.items)
         (value_at end.now.point.items) price k)) result }
 {
     let program = &start.program;
@@ -120,7 +125,9 @@ fn check_prices_of(start: &IntervalEnd, end: &IntervalEnd, k: u32) -> Result<(),
 // So do the prices of all variables.
 fn check_kept(start: &IntervalEnd, end: &IntervalEnd) -> Result<(), Stop>
     requires { (k : ℕ) → IsVariable start.now.program.matrix k → AreEnds start.now end.now k }
-    ensures { Judges (verdict_of (flat_map (kept_steps start.now end.now) (variables start.now.program.matrix))) result }
+    ensures { Judges
+        (verdict_of
+        (flat_map (kept_steps start.now end.now) (variables start.now.program.matrix))) result }
 {
     for i in 0..start.program.number_of_variables() {
         check_prices_of(start, end, i + 1)?;
@@ -145,7 +152,9 @@ fn check_interval(
 ) -> Result<(), Stop>
     requires asked { IsAskedOf sheet request.now }
     requires counted { HasColumns sheet.lp.now interval.now.columns }
-    ensures { Judges (interval_verdict (sheet_view sheet.entry) (changing_of request.now.name request.now.change) interval.now is_first
+    ensures { Judges
+        (interval_verdict (sheet_view sheet.entry)
+        (changing_of request.now.name request.now.change) interval.now is_first
         request.now.to) result }
 {
     let from = interval.from;
@@ -178,7 +187,9 @@ pub fn check_part(
 ) -> Result<(), Stop>
     requires asked { IsAskedOf sheet request.now }
     requires counted { AreCounted sheet.lp.now part.now.columns }
-    ensures { Judges (part_verdict checker_of_128_bits (sheet_view sheet.entry) (changing_of request.now.name request.now.change) from.now
+    ensures { Judges
+        (part_verdict checker_of_128_bits (sheet_view sheet.entry)
+        (changing_of request.now.name request.now.change) from.now
         part.now.to part.now.columns is_first request.now.to) result }
 {
     let interval = interval_of(alloc, from, part)?;

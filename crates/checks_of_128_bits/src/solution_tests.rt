@@ -25,7 +25,10 @@ fn check_slack(sheet: Sheet<'_>, point: &[Frac], slacks: &[Frac], i: u32) -> Res
     requires row { IsRow sheet.lp.now.matrix i }
     requires point_places { length point.now ≡ size sheet.lp.now.matrix }
     requires slack_places { length slacks.now ≡ sheet.lp.now.matrix.rows }
-    ensures { Judges (verdict_of (slack_steps (sheet_view sheet.entry) (value_at point.now) (value_at slacks.now) i)) result }
+    ensures { Judges
+        (verdict_of
+        (slack_steps (sheet_view sheet.entry) (value_at point.now)
+        (value_at slacks.now) i)) result }
 {
     let lp = sheet.lp;
     let place = i as usize - 1;
@@ -38,7 +41,9 @@ fn check_slacks(sheet: Sheet<'_>, point: &[Frac], slacks: &[Frac]) -> Result<(),
     requires lawful { IsLinearProgram sheet.lp.now }
     requires point_places { length point.now ≡ size sheet.lp.now.matrix }
     requires slack_places { length slacks.now ≡ sheet.lp.now.matrix.rows }
-    ensures { Judges (verdict_of (flat_map (slack_steps (sheet_view sheet.entry) (value_at point.now) (value_at slacks.now))
+    ensures { Judges
+        (verdict_of
+        (flat_map (slack_steps (sheet_view sheet.entry) (value_at point.now) (value_at slacks.now))
         (row_numbers sheet.entry.lp.now))) result }
 {
     let lp = sheet.lp;
@@ -52,7 +57,8 @@ fn check_slacks(sheet: Sheet<'_>, point: &[Frac], slacks: &[Frac]) -> Result<(),
 fn check_best(sheet: Sheet<'_>, mark: Mark, point: &[Frac], prices: &[Frac]) -> Verdict
     requires point_places { length point.now ≡ size sheet.lp.now.matrix }
     requires price_places { length prices.now ≡ size sheet.lp.now.matrix }
-    ensures { result ≡ best_test checker_of_128_bits (sheet_view sheet.entry) mark (value_at point.now) (value_at prices.now) }
+    ensures { result ≡ best_test checker_of_128_bits (sheet_view sheet.entry) mark
+        (value_at point.now) (value_at prices.now) }
 {
     match mark {
         Mark::Optimal => check_optimal(sheet.lp, point, prices),
@@ -72,7 +78,9 @@ fn check_values(
     requires point_places { length point.now ≡ size sheet.lp.now.matrix }
     requires price_places { length prices.now ≡ size sheet.lp.now.matrix }
     requires slack_places { length slacks.now ≡ sheet.lp.now.matrix.rows }
-    ensures { Judges (printed_test checker_of_128_bits (sheet_view sheet.entry) mark (value_at point.now) (value_at prices.now) (value_at slacks.now)) result }
+    ensures { Judges
+        (printed_test checker_of_128_bits (sheet_view sheet.entry) mark (value_at point.now)
+        (value_at prices.now) (value_at slacks.now)) result }
 {
     judge(check_equations(sheet.lp, point))?;
     judge(check_prices(sheet.lp, prices))?;
@@ -89,7 +97,9 @@ pub fn check_printed(
 ) -> Result<(), Stop>
     requires lawful { IsLinearProgram sheet.lp.now }
     requires counted { Counted sheet.lp.now printed.now }
-    ensures { Judges (printed_test checker_of_128_bits (sheet_view sheet.entry) mark (value_at printed.now.point.items)
+    ensures { Judges
+        (printed_test checker_of_128_bits (sheet_view sheet.entry) mark
+        (value_at printed.now.point.items)
         (value_at printed.now.prices.items) (value_at printed.now.slacks.items)) result }
 {
     let point = fractions(alloc, &printed.point)?;

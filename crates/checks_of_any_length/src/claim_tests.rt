@@ -35,7 +35,10 @@ fn claim_holds(
     requires plain { IsPlain at.now.lp.now at.now.change }
     requires number { IsNumber theta.now }
     requires fits { Fits at.now.lp.now claim.now }
-    ensures { IfOk result (λ holds. (x : ℚ) → IsValue x theta.now → Answers holds (claim_test checker_of_any_length (program_of at.now.lp.now at.now.change x) claim.now)) }
+    ensures { IfOk result
+        (λ holds. (x : ℚ) → IsValue x theta.now →
+        Answers holds
+        (claim_test checker_of_any_length (program_of at.now.lp.now at.now.change x) claim.now)) }
 {
     match claim {
         Claim::Optimal(_) => Ok(true),
@@ -57,7 +60,8 @@ fn claim_holds(
 // Whether a claim of a linear program passes.
 fn own_claim_holds(alloc: Global, lp: &Lp, claim: &Claim<'_>) -> Result<bool, AllocError>
     requires { Fits lp.now claim.now }
-    ensures { IfOk result (λ holds. Answers holds (claim_test checker_of_any_length lp.now claim.now)) }
+    ensures { IfOk result
+        (λ holds. Answers holds (claim_test checker_of_any_length lp.now claim.now)) }
 {
     let at = as_it_is(lp);
     let theta = own_theta(alloc, lp)?;
@@ -85,7 +89,10 @@ fn opening_holds(
 ) -> Result<bool, AllocError>
     requires asked { IsAskedOf sheet request.now }
     requires fits { Fits sheet.lp.now claim.now }
-    ensures { IfOk result (λ holds. Answers holds (opening_test checker_of_any_length (sheet_view sheet.entry) (changing_of request.now.name request.now.change)
+    ensures { IfOk result
+        (λ holds. Answers holds
+        (opening_test checker_of_any_length (sheet_view sheet.entry)
+        (changing_of request.now.name request.now.change)
         request.now.from claim.now)) }
 {
     let at = ProgramAt {
@@ -106,7 +113,9 @@ pub fn test_opening(
 ) -> Result<(), Stop>
     requires asked { IsAskedOf sheet request.now }
     requires fits { Fits sheet.lp.now claim.now }
-    ensures { Judges (opening_test checker_of_any_length (sheet_view sheet.entry) (changing_of request.now.name request.now.change)
+    ensures { Judges
+        (opening_test checker_of_any_length (sheet_view sheet.entry)
+        (changing_of request.now.name request.now.change)
         request.now.from claim.now) result }
 {
     match opening_holds(alloc, sheet, request, claim) {

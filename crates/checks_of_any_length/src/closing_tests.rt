@@ -29,7 +29,9 @@ use std::alloc::{AllocError, Global};
 
 // Whether a number is the last end, and the last value.
 fn ends_at(alloc: Global, value: &Value, last: &Value, most: Frac) -> Result<bool, AllocError>
-    ensures { IfOk result (λ holds. (t l : ℚ) → IsValue t value.now → IsValue l last.now → holds ≡ (eq_ℚ t l && eq_ℚ t most)) }
+    ensures { IfOk result
+        (λ holds. (t l : ℚ) → IsValue t value.now → IsValue l last.now →
+        holds ≡ (eq_ℚ t l && eq_ℚ t most)) }
 {
     let order = compare_values(alloc, value, last)?;
     let most_order = compare_with_fraction(alloc, value, most)?;
@@ -40,7 +42,9 @@ fn ends_at(alloc: Global, value: &Value, last: &Value, most: Frac) -> Result<boo
 
 // Whether a number is the last end, before the last value.
 fn goes_past(alloc: Global, value: &Value, last: &Value, most: Frac) -> Result<bool, AllocError>
-    ensures { IfOk result (λ holds. (t l : ℚ) → IsValue t value.now → IsValue l last.now → holds ≡ (eq_ℚ t l && lt_ℚ t most)) }
+    ensures { IfOk result
+        (λ holds. (t l : ℚ) → IsValue t value.now → IsValue l last.now →
+        holds ≡ (eq_ℚ t l && lt_ℚ t most)) }
 {
     let order = compare_values(alloc, value, last)?;
     let most_order = compare_with_fraction(alloc, value, most)?;
@@ -56,7 +60,9 @@ fn end_holds(
     last: &Value,
     most: Frac,
 ) -> Result<bool, AllocError>
-    ensures { IfOk result (λ holds. (l : ℚ) → IsValue l last.now → Answers holds (in_turn (asked (eq_ℚ value.now l) ∷ asked (eq_ℚ value.now most) ∷ []))) }
+    ensures { IfOk result
+        (λ holds. (l : ℚ) → IsValue l last.now →
+        Answers holds (in_turn (asked (eq_ℚ value.now l) ∷ asked (eq_ℚ value.now most) ∷ []))) }
 {
     let own = value_of(alloc, value)?;
     let holds = ends_at(alloc, &own, last, most)?;
@@ -74,7 +80,9 @@ fn unbounded_holds(
 ) -> Result<bool, AllocError>
     requires serves { ServesChange sheet.problem.now sheet.lp.now request.now.name request.now.change }
     requires pair { IsPairOf sheet.lp.now pair.now }
-    ensures { IfOk result (λ holds. (l : ℚ) → IsValue l last.now → Answers holds (unbounded_test checker_of_any_length (sheet_view sheet.entry)
+    ensures { IfOk result
+        (λ holds. (l : ℚ) → IsValue l last.now →
+        Answers holds (unbounded_test checker_of_any_length (sheet_view sheet.entry)
         (changing_of request.now.name request.now.change) request.now.to l value.now pair.now.point.items pair.now.direction.items)) }
 {
     match &request.change {
@@ -99,7 +107,9 @@ fn infeasible_holds(
 ) -> Result<bool, AllocError>
     requires serves { ServesChange sheet.problem.now sheet.lp.now request.now.name request.now.change }
     requires places { length ray.now ≡ size sheet.lp.now.matrix }
-    ensures { IfOk result (λ holds. (l : ℚ) → IsValue l last.now → Answers holds (infeasible_test checker_of_any_length (sheet_view sheet.entry)
+    ensures { IfOk result
+        (λ holds. (l : ℚ) → IsValue l last.now →
+        Answers holds (infeasible_test checker_of_any_length (sheet_view sheet.entry)
         (changing_of request.now.name request.now.change) request.now.to l value.now ray.now)) }
 {
     match &request.change {
@@ -123,7 +133,10 @@ fn closing_holds(
 ) -> Result<bool, AllocError>
     requires serves { ServesChange sheet.problem.now sheet.lp.now request.now.name request.now.change }
     requires fits { ClosingFits sheet.lp.now closing.now }
-    ensures { IfOk result (λ holds. Answers holds (closing_test checker_of_any_length (sheet_view sheet.entry) (changing_of request.now.name request.now.change)
+    ensures { IfOk result
+        (λ holds. Answers holds
+        (closing_test checker_of_any_length (sheet_view sheet.entry)
+        (changing_of request.now.name request.now.change)
         request.now.to last.now closing.now)) }
 {
     let end = value_of(alloc, last)?;
@@ -153,7 +166,9 @@ pub fn test_close(
 ) -> Result<(), Stop>
     requires asked { IsAskedOf sheet request.now }
     requires fits { ClosingFits sheet.lp.now closing.now }
-    ensures { Judges (closing_test checker_of_any_length (sheet_view sheet.entry) (changing_of request.now.name request.now.change)
+    ensures { Judges
+        (closing_test checker_of_any_length (sheet_view sheet.entry)
+        (changing_of request.now.name request.now.change)
         request.now.to last.now closing.now) result }
 {
     match closing_holds(alloc, sheet, request, last, closing) {

@@ -35,8 +35,11 @@ fn direction_holds(
     requires change { IsChangeIn at.now.lp.now at.now.change }
     requires plain { IsPlain at.now.lp.now at.now.change }
     requires places { length direction.now.tops.items ≡ size at.now.lp.now.matrix }
-    ensures { IfOk result (λ holds. (x : ℚ) → (d : List ℚ) → IsValue x theta.now → IsOver d direction.now →
-        IsTrue holds ↔ AllHold (equations (program_of at.now.lp.now at.now.change x) 3 (value_at d) ++ (free_direction (program_of at.now.lp.now at.now.change x) (value_at d)
+    ensures { IfOk result
+        (λ holds. (x : ℚ) → (d : List ℚ) → IsValue x theta.now → IsOver d direction.now →
+        IsTrue holds ↔ AllHold
+        (equations (program_of at.now.lp.now at.now.change x) 3 (value_at d) ++
+        (free_direction (program_of at.now.lp.now at.now.change x) (value_at d)
         ++ improving (program_of at.now.lp.now at.now.change x) (value_at d)))) }
 {
     let keeps = equations_hold(alloc, at.lp, direction)?;
@@ -57,8 +60,10 @@ fn point_holds(
     requires change { IsChangeIn at.now.lp.now at.now.change }
     requires number { IsNumber theta.now }
     requires point { (z : List ℚ) × IsOver z column.now × (length z ≡ size at.now.lp.now.matrix) }
-    ensures { IfOk result (λ holds. (x : ℚ) → (z : List ℚ) → IsValue x theta.now → IsOver z column.now →
-        IsTrue holds ↔ AllHold (feasible_point (program_of at.now.lp.now at.now.change x) (value_at z))) }
+    ensures { IfOk result
+        (λ holds. (x : ℚ) → (z : List ℚ) → IsValue x theta.now → IsOver z column.now →
+        IsTrue holds ↔ AllHold
+        (feasible_point (program_of at.now.lp.now at.now.change x) (value_at z))) }
 {
     let point = spread_by(alloc, theta, column)?;
     let holds = feasible(alloc, at, &point)?;
@@ -78,7 +83,9 @@ pub fn pair_holds(
     requires number { IsNumber theta.now }
     requires pair { IsPairOf at.now.lp.now pair.now }
     ensures { IfOk result (λ holds. (x : ℚ) → IsValue x theta.now →
-        Answers holds (pair_test checker_of_any_length (program_of at.now.lp.now at.now.change x) objective.now pair.now)) }
+        Answers holds
+        (pair_test checker_of_any_length
+        (program_of at.now.lp.now at.now.change x) objective.now pair.now)) }
 {
     let lp = at.lp;
     let _size = lp.number_of_variables();
@@ -102,7 +109,9 @@ fn past_improves(
 ) -> Result<bool, AllocError>
     requires row { IsRow lp.now.matrix row }
     requires places { length direction.now.tops.items ≡ size lp.now.matrix }
-    ensures { IfOk result (λ holds. (x : ℚ) → (d : List ℚ) → IsValue x theta.now → IsOver d direction.now → holds ≡ improves_past lp.now row x (value_at d)) }
+    ensures { IfOk result
+        (λ holds. (x : ℚ) → (d : List ℚ) → IsValue x theta.now → IsOver d direction.now →
+        holds ≡ improves_past lp.now row x (value_at d)) }
 {
     let _size = lp.number_of_variables();
     let at = ProgramAt {
@@ -127,8 +136,12 @@ pub fn past_pair_holds(
     requires row { IsRow lp.now.matrix row }
     requires number { IsNumber theta.now }
     requires pair { IsPairOf lp.now pair.now }
-    ensures { IfOk result (λ holds. (x : ℚ) → (problem : Problem ℕ) → (changing : Changing) → IsValue x theta.now →
-        Answers holds (unbounded_past checker_of_any_length (record { problem = problem; lp = lp.now }) changing row x (value_at pair.now.point.items) (value_at pair.now.direction.items))) }
+    ensures { IfOk result
+        (λ holds. (x : ℚ) → (problem : Problem ℕ) → (changing : Changing) → IsValue x theta.now →
+        Answers holds
+        (unbounded_past checker_of_any_length
+        (record { problem = problem; lp = lp.now }) changing row x (value_at pair.now.point.items)
+        (value_at pair.now.direction.items))) }
 {
     let at = ProgramAt {
         lp,

@@ -55,7 +55,10 @@ pub fn ray_holds(
 ) -> Result<bool, AllocError>
     requires change { IsChangeIn at.now.lp.now at.now.change }
     requires places { length ray.now ≡ size at.now.lp.now.matrix }
-    ensures { IfOk result (λ holds. (x : ℚ) → IsValue x theta.now → IsTrue holds ↔ AllHold (infeasible_steps (program_of at.now.lp.now at.now.change x) (value_at ray.now))) }
+    ensures { IfOk result
+        (λ holds. (x : ℚ) → IsValue x theta.now →
+        IsTrue holds ↔ AllHold
+        (infeasible_steps (program_of at.now.lp.now at.now.change x) (value_at ray.now))) }
 {
     let column = column_of(alloc, ray)?;
     let vanishes = ray_vanishes(alloc, at.lp, &column)?;
@@ -74,8 +77,13 @@ pub fn past_ray_holds(
 ) -> Result<bool, AllocError>
     requires shifts { length shift.now ≡ lp.now.matrix.rows }
     requires places { length ray.now ≡ size lp.now.matrix }
-    ensures { IfOk result (λ holds. (x : ℚ) → (problem : Problem ℕ) → (changing : Changing) → IsValue x theta.now → rhs_family lp.now shift.now x ≡ family_of (record { problem = problem; lp = lp.now }) changing x →
-        Answers holds (infeasible_past checker_of_any_length (record { problem = problem; lp = lp.now }) changing shift.now x (value_at ray.now))) }
+    ensures { IfOk result
+        (λ holds. (x : ℚ) → (problem : Problem ℕ) → (changing : Changing) → IsValue x theta.now →
+        rhs_family lp.now shift.now x ≡
+        family_of (record { problem = problem; lp = lp.now }) changing x →
+        Answers holds
+        (infeasible_past checker_of_any_length
+        (record { problem = problem; lp = lp.now }) changing shift.now x (value_at ray.now))) }
 {
     let at = ProgramAt {
         lp,

@@ -15,11 +15,13 @@ accepted : by [] ∷ by ("--" ∷ []) ∷ by ("--make" ∷ "2" ∷ []) ∷ by ("
 unfolding digits
 accepted = refl
 
-refused : by ("stray" ∷ []) ∷ by ("--make" ∷ []) ∷ by ("--make" ∷ "--" ∷ []) ∷ by ("--mak" ∷ "2" ∷ []) ∷ by ("--make" ∷ "2" ∷ "3" ∷ []) ∷ by ("--make=2" ∷ "--make=2" ∷ []) ∷ by ("--help" ∷ []) ∷ []
+refused : by ("stray" ∷ []) ∷ by ("--make" ∷ []) ∷ by ("--make" ∷ "--" ∷ []) ∷ by ("--mak" ∷ "2" ∷ []) ∷ by ("--make" ∷ "2" ∷ "3" ∷ []) ∷ by
+    ("--make=2" ∷ "--make=2" ∷ []) ∷ by ("--help" ∷ []) ∷ []
     ≡ None ∷ None ∷ None ∷ None ∷ None ∷ None ∷ None ∷ []
 unfolding digits
 refused = refl
 
-no_sizes : map (λ word. size_written (codes word)) ("0" ∷ "61" ∷ "02" ∷ "+2" ∷ "-2" ∷ "" ∷ "2 " ∷ "1e1" ∷ []) ≡ None ∷ None ∷ None ∷ None ∷ None ∷ None ∷ None ∷ None ∷ []
+no_sizes : map (λ word. size_written (codes word))
+    ("0" ∷ "61" ∷ "02" ∷ "+2" ∷ "-2" ∷ "" ∷ "2 " ∷ "1e1" ∷ []) ≡ None ∷ None ∷ None ∷ None ∷ None ∷ None ∷ None ∷ None ∷ []
 unfolding digits
 no_sizes = refl

@@ -78,11 +78,13 @@ Reads w words expected = Verdict (faults w words) (value w words) expected
 stops : (w : Walk) (word : Text) (rest : List Text) (expected : Option Request) → (turn w word ≡ [] → ⊥) → expected ≡ None → Reads w (word ∷ rest) expected
 stops w word rest expected fails none = refused (λ e. fails (first_none (turn w word) _ (sym (step w word rest) ∙ e))) none
 
-moves : (w after : Walk) (word : Text) (rest : List Text) (expected : Option Request) → turn w word ≡ [] → walked top.rules [] w word ≡ after → Reads after rest expected → Reads w (word ∷ rest) expected
+moves : (w after : Walk) (word : Text) (rest : List Text) (expected : Option Request) → turn w word ≡ [] → walked top.rules [] w word ≡ after →
+    Reads after rest expected → Reads w (word ∷ rest) expected
 unfolding value
 moves w after word rest expected passes goes reads =
     let same = step w word rest ∙ (λ i. or_else (passes i) (faults (goes i) rest)) in
-    subst (λ k. Verdict k (value w (word ∷ rest)) expected) (sym same) (subst (λ g. Verdict (faults after rest) g expected) (λ i. value (sym goes i) rest) reads)
+    subst (λ k. Verdict k (value w (word ∷ rest)) expected) (sym same)
+    (subst (λ g. Verdict (faults after rest) g expected) (λ i. value (sym goes i) rest) reads)
 
 -- ---- the states of the walk
 
@@ -107,7 +109,8 @@ trailing_stray h waiting word = refl
 -- ---- a word where nothing is waited for
 
 module _ (rows : List Row) (pending : Option (Text × List Text)) where
-  idle_unknown : (x : ℕ) (xs : Text) → bytes_eq (codes "make") (name_and_value (x ∷ xs)).0 ≡ false → turn (at (held rows pending) idle false) (45 ∷ 45 ∷ x ∷ xs) ≡ stray
+  idle_unknown : (x : ℕ) (xs : Text) → bytes_eq (codes "make") (name_and_value (x ∷ xs)).0 ≡ false →
+      turn (at (held rows pending) idle false) (45 ∷ 45 ∷ x ∷ xs) ≡ stray
   unfolding clap_on_literals turn faults value
   idle_unknown x xs no_name = rw no_name refl
 
@@ -148,7 +151,8 @@ module _ (rows : List Row) where
   unfolding clap_on_literals turn faults value
   waits_end = refl
 
-  waits_mark : (turn (waits rows) (codes "--") ≡ []) × (walked top.rules [] (waits rows) (codes "--") ≡ at (held rows (option_with [])) (option (codes "make")) true)
+  waits_mark : (turn (waits rows) (codes "--") ≡ []) ×
+      (walked top.rules [] (waits rows) (codes "--") ≡ at (held rows (option_with [])) (option (codes "make")) true)
   unfolding clap_on_literals turn faults value
   waits_mark = (refl, refl)
 
@@ -181,12 +185,14 @@ module _ (rows : List Row) where
   waits_dash = (refl, refl)
 
   waits_short : (x : ℕ) (xs : Text) → (x == 45) ≡ false →
-      (turn (waits rows) (45 ∷ x ∷ xs) ≡ stray) ⊎ ((turn (waits rows) (45 ∷ x ∷ xs) ≡ []) × (walked top.rules [] (waits rows) (45 ∷ x ∷ xs) ≡ has rows (45 ∷ x ∷ xs)))
+      (turn (waits rows) (45 ∷ x ∷ xs) ≡ stray) ⊎
+      ((turn (waits rows) (45 ∷ x ∷ xs) ≡ []) × (walked top.rules [] (waits rows) (45 ∷ x ∷ xs) ≡ has rows (45 ∷ x ∷ xs)))
   unfolding walked bundle_met flags_fault turn
   waits_short x xs no_dash = go (slice_get (chars (x ∷ xs)) 0) refl
     where
       go : (first : Option ℕ) → slice_get (chars (x ∷ xs)) 0 ≡ first →
-          (turn (waits rows) (45 ∷ x ∷ xs) ≡ stray) ⊎ ((turn (waits rows) (45 ∷ x ∷ xs) ≡ []) × (walked top.rules [] (waits rows) (45 ∷ x ∷ xs) ≡ has rows (45 ∷ x ∷ xs)))
+          (turn (waits rows) (45 ∷ x ∷ xs) ≡ stray) ⊎
+          ((turn (waits rows) (45 ∷ x ∷ xs) ≡ []) × (walked top.rules [] (waits rows) (45 ∷ x ∷ xs) ≡ has rows (45 ∷ x ∷ xs)))
       go None e = inr (rw (no_dash, short_of, no_dash, e) refl, rw (no_dash, short_of, no_dash, e) refl)
       go (Some c) e = inl (rw (no_dash, short_of, no_dash, e) refl)
 
@@ -246,7 +252,8 @@ module _ (v : Text) where
     unfolding clap_on_literals turn faults value
     twice_end = refl
 
-    twice_mark : (turn (has (used_with v) u) (codes "--") ≡ []) × (walked top.rules [] (has (used_with v) u) (codes "--") ≡ at (held (used_with v) (option_with (u ∷ []))) idle true)
+    twice_mark : (turn (has (used_with v) u) (codes "--") ≡ []) ×
+        (walked top.rules [] (has (used_with v) u) (codes "--") ≡ at (held (used_with v) (option_with (u ∷ []))) idle true)
     unfolding clap_on_literals turn faults value
     twice_mark = (refl, refl)
 
@@ -299,12 +306,15 @@ as_none : (w : Walk) (words : List Text) {expected : Option Request} → expecte
 as_none w words none reads = subst (λ o. Reads w words o) (sym none) reads
 
 -- after the mark there is no further word
-after_mark : (h : Held) (waiting : Waiting) (expected : List Text → Option Request) → Reads (at h waiting true) [] (expected []) → ((word : Text) (rest : List Text) → expected (word ∷ rest) ≡ None) →
+after_mark : (h : Held) (waiting : Waiting) (expected : List Text → Option Request) → Reads (at h waiting true) [] (expected []) →
+    ((word : Text) (rest : List Text) → expected (word ∷ rest) ≡ None) →
     (rest : List Text) → Reads (at h waiting true) rest (expected rest)
 after_mark h waiting expected alone none [] = alone
-after_mark h waiting expected alone none (word ∷ rest) = stops (at h waiting true) word rest (expected (word ∷ rest)) (fails _ word (trailing_stray h waiting word)) (none word rest)
+after_mark h waiting expected alone none (word ∷ rest) =
+    stops (at h waiting true) word rest (expected (word ∷ rest)) (fails _ word (trailing_stray h waiting word)) (none word rest)
 
-refuses_after_mark : (h : Held) (waiting : Waiting) {k : kind.the_data} {ks : Kinds} → faults (at h waiting true) [] ≡ k ∷ ks → (rest : List Text) → Reads (at h waiting true) rest None
+refuses_after_mark : (h : Held) (waiting : Waiting) {k : kind.the_data} {ks : Kinds} → faults (at h waiting true) [] ≡ k ∷ ks → (rest : List Text) →
+    Reads (at h waiting true) rest None
 refuses_after_mark h waiting is = after_mark h waiting (λ rest. None) (ends_failing (at h waiting true) None is refl) (λ word rest. refl)
 
 -- a word that is no option, where nothing is waited for
@@ -343,18 +353,23 @@ twice v u (word ∷ rest) = by word (word_kind word)
     by _ (plain x xs e) = stops_plain (used_with v) (option_with (u ∷ [])) rest None refl x xs e
 
 -- the option waits for its value
-module _ (rows : List Row) (expected : List Text → Option Request) (none_at_end : expected [] ≡ None) (none_dashed : (xs : Text) (rest : List Text) → expected ((45 ∷ xs) ∷ rest) ≡ None)
+module _ (rows : List Row) (expected : List Text → Option Request) (none_at_end : expected [] ≡ None)
+    (none_dashed : (xs : Text) (rest : List Text) → expected ((45 ∷ xs) ∷ rest) ≡ None)
     (after : (u : Text) (rest : List Text) → Reads (has rows u) rest (expected (u ∷ rest))) where
   waits_reads : (words : List Text) → Reads (waits rows) words (expected words)
   waits_reads [] = ends_failing (waits rows) (expected []) (waits_end rows) none_at_end
   waits_reads (word ∷ rest) = by word (word_kind word)
     where
-      short_word : (word : Text) → expected (word ∷ rest) ≡ None → (turn (waits rows) word ≡ stray) ⊎ ((turn (waits rows) word ≡ []) × (walked top.rules [] (waits rows) word ≡ has rows word)) → Reads (waits rows) (word ∷ rest) (expected (word ∷ rest))
+      short_word : (word : Text) → expected (word ∷ rest) ≡ None →
+          (turn (waits rows) word ≡ stray) ⊎ ((turn (waits rows) word ≡ []) × (walked top.rules [] (waits rows) word ≡ has rows word)) →
+          Reads (waits rows) (word ∷ rest) (expected (word ∷ rest))
       short_word word none (inl is) = stops (waits rows) word rest (expected (word ∷ rest)) (fails (waits rows) word is) none
       short_word word none (inr p) = moves (waits rows) (has rows word) word rest (expected (word ∷ rest)) p.0 p.1 (after word rest)
 
       by : (word : Text) → Word word → Reads (waits rows) (word ∷ rest) (expected (word ∷ rest))
-      by _ mark = moves _ _ (codes "--") rest _ (waits_mark rows).0 (waits_mark rows).1 (as_none _ rest (none_dashed (codes "-") rest) (refuses_after_mark _ _ (waits_marked_end rows _) rest))
+      by _ mark =
+          moves _ _ (codes "--") rest _ (waits_mark rows).0 (waits_mark rows).1
+          (as_none _ rest (none_dashed (codes "-") rest) (refuses_after_mark _ _ (waits_marked_end rows _) rest))
       by _ named = stops _ (codes "--make") rest _ (fails _ _ (waits_named rows)) (none_dashed (codes "-make") rest)
       by _ (with_value t) = stops _ (codes "--make=" ++ t) rest _ (fails _ _ (waits_with_value rows t)) (none_dashed (codes "-make=" ++ t) rest)
       by _ (unknown x xs e) = stops _ (45 ∷ 45 ∷ x ∷ xs) rest _ (fails _ _ (waits_unknown rows x xs e)) (none_dashed (45 ∷ x ∷ xs) rest)
@@ -372,16 +387,20 @@ no_more v word rest e = ap (λ b. if b then asked_with (Some v) else None) (ends
 -- the option has its value
 module _ (v : Text) (rows : List Row) (pending : Option (Text × List Text))
     (end : (faults (at (held rows pending) idle false) [] ≡ []) × (value (at (held rows pending) idle false) [] ≡ Some v))
-    (marked : (turn (at (held rows pending) idle false) (codes "--") ≡ []) × (walked top.rules [] (at (held rows pending) idle false) (codes "--") ≡ at (held rows pending) idle true))
+    (marked : (turn (at (held rows pending) idle false) (codes "--") ≡ []) ×
+    (walked top.rules [] (at (held rows pending) idle false) (codes "--") ≡ at (held rows pending) idle true))
     (marked_end : (faults (at (held rows pending) idle true) [] ≡ []) × (value (at (held rows pending) idle true) [] ≡ Some v))
-    (renamed : (turn (at (held rows pending) idle false) (codes "--make") ≡ []) × (walked top.rules [] (at (held rows pending) idle false) (codes "--make") ≡ waits (used_with v)))
+    (renamed : (turn (at (held rows pending) idle false) (codes "--make") ≡ []) ×
+    (walked top.rules [] (at (held rows pending) idle false) (codes "--make") ≡ waits (used_with v)))
     (revalued : (u : Text) → turn (at (held rows pending) idle false) (codes "--make=" ++ u) ≡ kind.ArgumentConflict ∷ []) where
   valued_reads : (words : List Text) → Reads (at (held rows pending) idle false) words (valued (Some v) words)
   valued_reads [] = taken end.0 (ap asked_with (sym end.1))
   valued_reads (word ∷ rest) = by word (word_kind word)
     where
       by : (word : Text) → Word word → Reads (at (held rows pending) idle false) (word ∷ rest) (valued (Some v) (word ∷ rest))
-      by _ mark = moves _ _ (codes "--") rest _ marked.0 marked.1 (after_mark _ idle (λ rest. valued (Some v) (codes "--" ∷ rest)) (taken marked_end.0 (ap asked_with (sym marked_end.1))) (λ word rest. refl) rest)
+      by _ mark =
+          moves _ _ (codes "--") rest _ marked.0 marked.1
+          (after_mark _ idle (λ rest. valued (Some v) (codes "--" ∷ rest)) (taken marked_end.0 (ap asked_with (sym marked_end.1))) (λ word rest. refl) rest)
       by _ named = moves _ _ (codes "--make") rest _ renamed.0 renamed.1 (as_none _ rest (no_more v (codes "--make") rest refl) (again v rest))
       by _ (with_value u) = stops _ (codes "--make=" ++ u) rest _ (fails _ _ (revalued u)) (no_more v (codes "--make=" ++ u) rest refl)
       by _ (unknown x xs e) = stops_unknown rows pending rest _ (no_more v (45 ∷ 45 ∷ x ∷ xs) rest refl) x xs e
@@ -403,7 +422,8 @@ by_first word rest e = ap (λ b. if b then Some Read else asked_first word rest)
 
 no_option : (word : Text) (rest : List Text) → IsNoOption word → bytes_eq word (codes "--") ≡ false → asked (word ∷ rest) ≡ None
 no_option word rest h e =
-    by_first word rest e ∙ ap (λ b. if b then valued_by_next rest else valued (rest_after (codes "--make=") word) rest) h.alone ∙ ap (λ o. valued o rest) h.joined
+    by_first word rest e ∙ ap (λ b. if b then valued_by_next rest else valued (rest_after (codes "--make=") word) rest) h.alone
+    ∙ ap (λ o. valued o rest) h.joined
 
 abbrev nothing : Option Request
 nothing = None
@@ -420,9 +440,16 @@ reads_all [] = taken begins_end.0 (ap asked_with (sym begins_end.1))
 reads_all (word ∷ rest) = by word (word_kind word)
   where
     by : (word : Text) → Word word → Reads begins (word ∷ rest) (asked (word ∷ rest))
-    by _ mark = moves _ _ (codes "--") rest _ begins_mark.0 begins_mark.1 (after_mark nothing_held idle (λ rest. asked (codes "--" ∷ rest)) (taken begins_marked_end.0 (ap asked_with (sym begins_marked_end.1))) (λ word rest. refl) rest)
-    by _ named = moves _ _ (codes "--make") rest _ begins_named.0 begins_named.1 (subst (λ o. Reads (waits []) rest o) (sym (by_first (codes "--make") rest refl)) (waits_reads [] valued_by_next refl not_valued has_reads rest))
-    by _ (with_value v) = moves _ _ (codes "--make=" ++ v) rest _ (begins_with_value v).0 (begins_with_value v).1 (subst (λ o. Reads (used_up v) rest o) (sym (by_first (codes "--make=" ++ v) rest refl)) (used_reads v rest))
+    by _ mark =
+        moves _ _ (codes "--") rest _ begins_mark.0 begins_mark.1
+        (after_mark nothing_held idle (λ rest. asked (codes "--" ∷ rest)) (taken begins_marked_end.0 (ap asked_with (sym begins_marked_end.1)))
+        (λ word rest. refl) rest)
+    by _ named =
+        moves _ _ (codes "--make") rest _ begins_named.0 begins_named.1
+        (subst (λ o. Reads (waits []) rest o) (sym (by_first (codes "--make") rest refl)) (waits_reads [] valued_by_next refl not_valued has_reads rest))
+    by _ (with_value v) =
+        moves _ _ (codes "--make=" ++ v) rest _ (begins_with_value v).0 (begins_with_value v).1
+        (subst (λ o. Reads (used_up v) rest o) (sym (by_first (codes "--make=" ++ v) rest refl)) (used_reads v rest))
     by _ (unknown x xs e) = stops_unknown [] None rest _ (no_option _ rest (unknown_is_none x xs e) refl) x xs e
     by _ (short x xs e) = stops_short [] None rest _ (no_option _ rest (short_is_none x xs e) (rw e refl)) x xs e
     by _ empty = stops_empty [] None rest _ (no_option _ rest empty_is_none refl)
@@ -459,7 +486,8 @@ reads_words words = subst (λ k. Verdict k (value begins words) (asked words)) (
 
 -- ---- a parse that succeeds, and one that fails
 
-pub taken_by : (words : List Text) (given : Option Text) → fault_of command words ≡ [] → first_of (codes "make") (matches_of command words) ≡ given → asked words ≡ asked_with given
+pub taken_by : (words : List Text) (given : Option Text) → fault_of command words ≡ [] → first_of (codes "make") (matches_of command words) ≡ given →
+    asked words ≡ asked_with given
 taken_by words given none is = by (reads_words words)
   where
     by : Verdict (fault_of command words) (first_of (codes "make") (matches_of command words)) (asked words) → asked words ≡ asked_with given
@@ -475,11 +503,13 @@ refused_by words some = by (reads_words words)
 
 -- ---- the answer
 
-pub accepts : {E : Type 0} (words : List Text) (o : Option Request) (r : Result Request E) → asked words ≡ o → o ≡ result_ok r → IfOk r (λ request. asked words ≡ Some request)
+pub accepts : {E : Type 0} (words : List Text) (o : Option Request) (r : Result Request E) → asked words ≡ o → o ≡ result_ok r →
+    IfOk r (λ request. asked words ≡ Some request)
 accepts words o (Ok request) is same = is ∙ same
 accepts words o (Err stop) is same = tt
 
-pub refuses : {E : Type 0} (words : List Text) (o : Option Request) (r : Result Request E) (e : E) → asked words ≡ o → o ≡ result_ok r → IsErrOf r e → asked words ≡ None
+pub refuses : {E : Type 0} (words : List Text) (o : Option Request) (r : Result Request E) (e : E) → asked words ≡ o → o ≡ result_ok r → IsErrOf r e →
+    asked words ≡ None
 refuses words o (Ok request) e is same err = absurd (cc)
 refuses words o (Err stop) e is same err = is ∙ same
 
@@ -487,6 +517,7 @@ among_some : (k : kind.the_data) (kinds : Kinds) → IsAmong k kinds → kinds �
 among_some k [] is none = is
 among_some k (x ∷ xs) is none = cc
 
-pub refuses_error : (words : List Text) (k : kind.the_data) → (k ≡ kind.OutOfMemory → ⊥) → (k ≡ kind.OutOfMemory) ⊎ IsAmong k (fault_of command words) → asked words ≡ None
+pub refuses_error : (words : List Text) (k : kind.the_data) → (k ≡ kind.OutOfMemory → ⊥) → (k ≡ kind.OutOfMemory) ⊎ IsAmong k (fault_of command words) →
+    asked words ≡ None
 refuses_error words k other (inl memory) = absurd (other memory)
 refuses_error words k other (inr among) = refused_by words (among_some k (fault_of command words) among)

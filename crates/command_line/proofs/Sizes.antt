@@ -59,8 +59,10 @@ pub not_parsed : {E : Type 0} (word : List ℕ) (r : Result ℕ E) → ParsesUns
 not_parsed word r parses none = unwritten word (λ size h. let e = parsed word size r parses h in absurd (cc))
 
 -- another size than the one that is parsed isn't written
-pub other_size : {E : Type 0} (word : List ℕ) (size : ℕ) (r : Result ℕ E) → ParsesUnsigned 32 10 word r → Some size ≡ result_ok r → (IsSize word size → ⊥) → size_written word ≡ None
-other_size word size r parses some wrong = unwritten word (λ n h. let e = parsed word n r parses h in let same : n ≡ size = cc in wrong (subst (IsSize word) same h))
+pub other_size : {E : Type 0} (word : List ℕ) (size : ℕ) (r : Result ℕ E) → ParsesUnsigned 32 10 word r → Some size ≡ result_ok r → (IsSize word size → ⊥) →
+    size_written word ≡ None
+other_size word size r parses some wrong =
+    unwritten word (λ n h. let e = parsed word n r parses h in let same : n ≡ size = cc in wrong (subst (IsSize word) same h))
 
 -- a size has no sign
 pub no_dash : (xs : List ℕ) → size_written (45 ∷ xs) ≡ None

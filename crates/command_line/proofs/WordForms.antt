@@ -77,7 +77,8 @@ after_is [] text v e = cc
 after_is (c ∷ prefix) [] v e = absurd (cc)
 after_is (c ∷ prefix) (x ∷ text) v e = at (x == c) refl e (after_is prefix text v)
   where
-    at : (b : Bool) → (x == c) ≡ b → (if b then rest_after prefix text else None) ≡ Some v → (rest_after prefix text ≡ Some v → text ≡ prefix ++ v) → x ∷ text ≡ c ∷ (prefix ++ v)
+    at : (b : Bool) → (x == c) ≡ b → (if b then rest_after prefix text else None) ≡ Some v → (rest_after prefix text ≡ Some v → text ≡ prefix ++ v) →
+        x ∷ text ≡ c ∷ (prefix ++ v)
     at true test rest tail = let head = eqb-true x c test in let same = tail rest in cc
     at false test rest tail = absurd (cc)
 
@@ -105,7 +106,9 @@ names_make word = bytes_eq (codes "make") (before_first is_equals (drop 2 word))
 
 pub unknown_is_none : (x : ℕ) (xs : Text) → bytes_eq (codes "make") (name_and_value (x ∷ xs)).0 ≡ false → IsNoOption (45 ∷ 45 ∷ x ∷ xs)
 unknown_is_none x xs e = record {
-  alone = false_from_ne_true _ (λ same. apart names_make (codes "--make") (45 ∷ 45 ∷ x ∷ xs) refl e (sym ((bytes_eq-Decides (45 ∷ 45 ∷ x ∷ xs) (codes "--make")).0 same)));
+  alone =
+      false_from_ne_true _
+      (λ same. apart names_make (codes "--make") (45 ∷ 45 ∷ x ∷ xs) refl e (sym ((bytes_eq-Decides (45 ∷ 45 ∷ x ∷ xs) (codes "--make")).0 same)));
   joined = none_of _ (λ v same. apart names_make (codes "--make=" ++ v) (45 ∷ 45 ∷ x ∷ xs) refl e (sym (after_is (codes "--make=") (45 ∷ 45 ∷ x ∷ xs) v same)));
 }
 

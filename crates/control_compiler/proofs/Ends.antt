@@ -24,20 +24,27 @@ use Rattle.control_compiler.proofs.Named.{HoldsLaw, HoldsPosition, HoldsLimit, l
 
 -- the first statement that passes, among the views of statements
 find_view : (p : Verb (List ℕ) → Bool) (statements : List (read.Statement (List ℕ)))
-    → option_map (λ (statement : read.Statement (List ℕ)). statement.card) (find (λ (statement : read.Statement (List ℕ)). p (viewed statement.verb)) statements)
-    ≡ option_map (λ (statement : Statement (List ℕ)). statement.card) (find (λ (statement : Statement (List ℕ)). p statement.verb) (map statement_view statements))
+    → option_map (λ (statement : read.Statement (List ℕ)). statement.card)
+    (find (λ (statement : read.Statement (List ℕ)). p (viewed statement.verb)) statements)
+    ≡ option_map (λ (statement : Statement (List ℕ)). statement.card)
+    (find (λ (statement : Statement (List ℕ)). p statement.verb) (map statement_view statements))
 find_view p [] = refl
 find_view p (statement ∷ statements) = by (p (viewed statement.verb)) (find_view p statements)
   where
     by : (t : Bool)
-        → option_map (λ (statement : read.Statement (List ℕ)). statement.card) (find (λ (statement : read.Statement (List ℕ)). p (viewed statement.verb)) statements)
-        ≡ option_map (λ (statement : Statement (List ℕ)). statement.card) (find (λ (statement : Statement (List ℕ)). p statement.verb) (map statement_view statements))
-        → option_map (λ (statement : read.Statement (List ℕ)). statement.card) (cond t (Some statement) (find (λ (statement : read.Statement (List ℕ)). p (viewed statement.verb)) statements))
-        ≡ option_map (λ (statement : Statement (List ℕ)). statement.card) (cond t (Some (statement_view statement)) (find (λ (statement : Statement (List ℕ)). p statement.verb) (map statement_view statements)))
+        → option_map (λ (statement : read.Statement (List ℕ)). statement.card)
+        (find (λ (statement : read.Statement (List ℕ)). p (viewed statement.verb)) statements)
+        ≡ option_map (λ (statement : Statement (List ℕ)). statement.card)
+        (find (λ (statement : Statement (List ℕ)). p statement.verb) (map statement_view statements))
+        → option_map (λ (statement : read.Statement (List ℕ)). statement.card)
+        (cond t (Some statement) (find (λ (statement : read.Statement (List ℕ)). p (viewed statement.verb)) statements))
+        ≡ option_map (λ (statement : Statement (List ℕ)). statement.card)
+        (cond t (Some (statement_view statement)) (find (λ (statement : Statement (List ℕ)). p statement.verb) (map statement_view statements)))
     by true rest = refl
     by false rest = rest
 
-map_view : (f : Statement (List ℕ) → Statement ℕ) (statements : List (read.Statement (List ℕ))) → map (λ (statement : read.Statement (List ℕ)). f (statement_view statement)) statements ≡ map f (map statement_view statements)
+map_view : (f : Statement (List ℕ) → Statement ℕ) (statements : List (read.Statement (List ℕ))) →
+    map (λ (statement : read.Statement (List ℕ)). f (statement_view statement)) statements ≡ map f (map statement_view statements)
 map_view f [] = refl
 map_view f (statement ∷ statements) = ap (λ (others : List (Statement ℕ)). f (statement_view statement) ∷ others) (map_view f statements)
 
@@ -73,24 +80,29 @@ module _ (job : List (List ℕ)) (reading : Reading) (is : IsRead job reading) w
       ∙ statements_reported reading.draft.labels (cards_to_pend (live_cards job)) is.after.labels (cards_to_pend (live_cards job)) lawful
 
   -- the first statement that names a label without a position
-  missing_is : option_map (λ (statement : read.Statement (List ℕ)). statement.card) (find (λ (statement : read.Statement (List ℕ)). lacks_label reading.draft.labels (viewed statement.verb)) reading.draft.statements.items)
+  missing_is : option_map (λ (statement : read.Statement (List ℕ)). statement.card)
+      (find (λ (statement : read.Statement (List ℕ)). lacks_label reading.draft.labels (viewed statement.verb)) reading.draft.statements.items)
       ≡ option_map (λ (card : Card). card.number) (first_missing job)
   missing_is = find_view (lacks_label reading.draft.labels) reading.draft.statements.items ∙ ap (lacking reading.draft.labels) is.after.statements
       ∙ missing_reported reading.draft.labels (cards_to_pend (live_cards job)) is.after.labels (cards_to_pend (live_cards job)) lawful
 
   -- what decides, by the job's last card and the first statement that misses its label
   pub ends_at : (last : ℕ) (missing : Option ℕ) (outcome : Result ℕ ControlFault) → last ≡ length job
-      → missing ≡ option_map (λ (statement : read.Statement (List ℕ)). statement.card) (find (λ (statement : read.Statement (List ℕ)). lacks_label reading.draft.labels (viewed statement.verb)) reading.draft.statements.items)
-      → ((card : Option Card) → missing ≡ option_map (λ (card : Card). card.number) card → EndsAt outcome reading.end (end_fault last (is_some reading.end) card))
+      → missing ≡ option_map (λ (statement : read.Statement (List ℕ)). statement.card)
+      (find (λ (statement : read.Statement (List ℕ)). lacks_label reading.draft.labels (viewed statement.verb)) reading.draft.statements.items)
+      → ((card : Option Card) → missing ≡ option_map (λ (card : Card). card.number) card
+      → EndsAt outcome reading.end (end_fault last (is_some reading.end) card))
       → EndsAt outcome reading.end (end_fault (length job) (is_some reading.end) (first_missing job))
   ends_at last missing outcome len first reported =
-      subst (λ (n : ℕ). EndsAt outcome reading.end (end_fault n (is_some reading.end) (first_missing job))) len (reported (first_missing job) (first ∙ missing_is))
+      subst (λ (n : ℕ). EndsAt outcome reading.end (end_fault n (is_some reading.end) (first_missing job))) len
+      (reported (first_missing job) (first ∙ missing_is))
 
   decides : control_fault job ≡ end_fault (length job) (is_some reading.end) (first_missing job)
   decides = is.fault ∙ ap (λ (ends : Bool). end_fault (length job) ends (first_missing job)) (sym is.ends)
 
   -- a fault of the program as a whole
-  pub refused : (fault : ControlFault) → EndsAt (Err fault) reading.end (end_fault (length job) (is_some reading.end) (first_missing job)) → compiled job ≡ Err fault
+  pub refused : (fault : ControlFault) → EndsAt (Err fault) reading.end (end_fault (length job) (is_some reading.end) (first_missing job)) →
+      compiled job ≡ Err fault
   unfolding compiled
   refused fault some = ap (λ (fault : Option ControlFault). unless fault (program_of (cards_to_pend (live_cards job)))) (decides ∙ some)
 
@@ -101,12 +113,15 @@ module _ (job : List (List ℕ)) (reading : Reading) (is : IsRead job reading) w
     -- or its program, which is one
     pub whole_program : IsProgram (settled_program reading.draft (pend + 1))
     whole_program =
-        let same : length reading.draft.statements.items ≡ length (map (λ (statement : read.Statement (List ℕ)). settled reading.draft.labels (statement_view statement)) reading.draft.statements.items) =
+        let same : length reading.draft.statements.items ≡ length
+        (map (λ (statement : read.Statement (List ℕ)). settled reading.draft.labels (statement_view statement)) reading.draft.statements.items) =
         sym (length-map reading.draft.statements.items (λ (statement : read.Statement (List ℕ)). settled reading.draft.labels (statement_view statement))) in
         let len = counted reading.end (length reading.draft.statements.items) (length (cards_to_pend (live_cards job))) pend ends.0 is.count in
         record {
           few = subst (λ (n : ℕ). n ≤ MAX_STATEMENTS) same is.few;
-          positions = subst (λ (n : ℕ). All (HoldsPosition n) (map (λ (statement : read.Statement (List ℕ)). settled reading.draft.labels (statement_view statement)) reading.draft.statements.items)) same
+          positions =
+              subst (λ (n : ℕ). All (HoldsPosition n)
+              (map (λ (statement : read.Statement (List ℕ)). settled reading.draft.labels (statement_view statement)) reading.draft.statements.items)) same
               (subst (All (HoldsPosition (length reading.draft.statements.items))) (sym statements_are)
               (positions_within (cards_to_pend (live_cards job)) (length reading.draft.statements.items) len (cards_to_pend (live_cards job)) none));
           limits = subst (All HoldsLimit) (sym statements_are) (limits_within (cards_to_pend (live_cards job)) (cards_to_pend (live_cards job)) lawful);
@@ -115,7 +130,9 @@ module _ (job : List (List ℕ)) (reading : Reading) (is : IsRead job reading) w
     pub compiled_is : compiled job ≡ Ok (settled_program reading.draft (pend + 1))
     unfolding compiled
     compiled_is =
-        let next : last_number (cards_to_pend (live_cards job)) + 1 ≡ pend + 1 = ap (λ (n : ℕ). n + 1) (sym (numbered reading.end pend (last_number (cards_to_pend (live_cards job))) ends.0 is.last)) in
+        let next : last_number (cards_to_pend (live_cards job)) + 1 ≡ pend + 1 =
+        ap (λ (n : ℕ). n + 1) (sym (numbered reading.end pend (last_number (cards_to_pend (live_cards job))) ends.0 is.last)) in
         ap (λ (fault : Option ControlFault). unless fault (program_of (cards_to_pend (live_cards job)))) (decides ∙ ends.1)
-        ∙ ap (λ (n : ℕ). Ok (record { statements = filter_map (statement_on (cards_to_pend (live_cards job))) (cards_to_pend (live_cards job)); decks_from = n })) next
+        ∙ ap (λ (n : ℕ). Ok
+        (record { statements = filter_map (statement_on (cards_to_pend (live_cards job))) (cards_to_pend (live_cards job)); decks_from = n })) next
         ∙ ap (λ (statements : List (Statement ℕ)). Ok (record { statements = statements; decks_from = pend + 1 })) (sym statements_are)

@@ -22,7 +22,8 @@ drop_at (y ∷ xs) (suc n) x e = drop_at xs n x e
 
 module _ (job : List (List ℕ)) (number : ℕ) where
   next_cards : (card : List ℕ) → slice_get job number ≡ Some card
-      → live_after number job ≡ filter (λ (other : Card). not (is_skipped other.bytes)) ((record { number = number + 1; bytes = card }) ∷ numbered_from (number + 1 + 1) (drop (number + 1) job))
+      → live_after number job ≡ filter (λ (other : Card). not (is_skipped other.bytes))
+      ((record { number = number + 1; bytes = card }) ∷ numbered_from (number + 1 + 1) (drop (number + 1) job))
   next_cards card e =
       let next : number + 1 ≡ suc number = omega arith in
       ap (λ cards. live (numbered_from (number + 1) cards)) (drop_at job number card e ∙ ap (λ n. card ∷ drop n job) (sym next))
@@ -59,7 +60,8 @@ module _ (job : List (List ℕ)) (before : List Card) (card : Card) (rest : List
   }
 
   -- one with a fault
-  pub reached_fault : (fault : ControlFault) → option_map (fault_at card.number) (control_card_fault before card.bytes) ≡ Some fault → control_fault job ≡ Some fault
+  pub reached_fault : (fault : ControlFault) → option_map (fault_at card.number) (control_card_fault before card.bytes) ≡ Some fault →
+      control_fault job ≡ Some fault
   reached_fault fault some = reached.fault ∙ by (is_pend card.bytes) refl
     where
       by : (t : Bool) → is_pend card.bytes ≡ t → option_or (first_control_fault before (program_cards (card ∷ rest))) (late_fault job) ≡ Some fault
@@ -84,28 +86,36 @@ reached_nothing job before (card ∷ rest) reached e = cc e
 -- ---- the first card
 
 -- PROGRAM names no label.
-names_no_label : (whole : List Card) (head : Card) (rest : List Card) → verb_of head.bytes ≡ None → find (misses_label whole) rest ≡ find (misses_label whole) (head ∷ rest)
+names_no_label : (whole : List Card) (head : Card) (rest : List Card) → verb_of head.bytes ≡ None →
+    find (misses_label whole) rest ≡ find (misses_label whole) (head ∷ rest)
 names_no_label whole head rest none = rw none refl
 
 -- PROGRAM stands first, and the others come.
-pub reached_first : (job : List (List ℕ)) (head : Card) (rest : List Card) → live_cards job ≡ head ∷ rest → head_fault head.bytes ≡ None → IsReached job (head ∷ []) rest
+pub reached_first : (job : List (List ℕ)) (head : Card) (rest : List Card) → live_cards job ≡ head ∷ rest → head_fault head.bytes ≡ None →
+    IsReached job (head ∷ []) rest
 unfolding control_fault
 reached_first job head rest e lawful =
     let whole : List Card = head ∷ program_cards rest in
     let ends : Bool = list_any (λ (card : Card). is_pend card.bytes) rest in
-    let after : live_fault (length job) (head ∷ rest) ≡ option_or (first_control_fault (head ∷ []) (program_cards rest)) (end_fault (length job) ends (find (misses_label whole) (program_cards rest))) =
-    rw lawful (ap (option_or (first_control_fault (head ∷ []) (program_cards rest))) (or_none (end_fault (length job) ends (find (misses_label whole) (program_cards rest))))) in
-    let missing : find (misses_label whole) (program_cards rest) ≡ find (misses_label whole) whole = names_no_label whole head (program_cards rest) (program_is_no_statement head.bytes lawful).1 in
+    let after : live_fault (length job) (head ∷ rest) ≡ option_or (first_control_fault (head ∷ []) (program_cards rest))
+    (end_fault (length job) ends (find (misses_label whole) (program_cards rest))) =
+    rw lawful (ap (option_or (first_control_fault (head ∷ []) (program_cards rest)))
+    (or_none (end_fault (length job) ends (find (misses_label whole) (program_cards rest))))) in
+    let missing : find (misses_label whole) (program_cards rest) ≡ find (misses_label whole) whole =
+    names_no_label whole head (program_cards rest) (program_is_no_statement head.bytes lawful).1 in
     record {
       whole = ap cards_to_pend e;
       ends = ap (λ cards. list_any (λ (card : Card). is_pend card.bytes) (after_head cards)) e;
       fault = subst (λ (cards : List Card). live_fault (length job) cards ≡ option_or (first_control_fault (head ∷ []) (program_cards rest))
-          (end_fault (length job) (list_any (λ (card : Card). is_pend card.bytes) (after_head cards)) (find (misses_label (cards_to_pend cards)) (cards_to_pend cards))))
-          (sym e) (after ∙ ap (λ (card : Option Card). option_or (first_control_fault (head ∷ []) (program_cards rest)) (end_fault (length job) ends card)) missing);
+          (end_fault (length job) (list_any (λ (card : Card). is_pend card.bytes) (after_head cards))
+          (find (misses_label (cards_to_pend cards)) (cards_to_pend cards))))
+          (sym e) (after
+          ∙ ap (λ (card : Option Card). option_or (first_control_fault (head ∷ []) (program_cards rest)) (end_fault (length job) ends card)) missing);
     }
 
 -- The first card isn't PROGRAM in its lawful form, or there is none.
-pub head_is_faulty : (job : List (List ℕ)) (head : Card) (rest : List Card) (fault : ControlFault) → live_cards job ≡ head ∷ rest → option_map (fault_at head.number) (head_fault head.bytes) ≡ Some fault → control_fault job ≡ Some fault
+pub head_is_faulty : (job : List (List ℕ)) (head : Card) (rest : List Card) (fault : ControlFault) → live_cards job ≡ head ∷ rest →
+    option_map (fault_at head.number) (head_fault head.bytes) ≡ Some fault → control_fault job ≡ Some fault
 unfolding control_fault
 head_is_faulty job head rest fault e some = ap (live_fault (length job)) e ∙ rw some refl
 

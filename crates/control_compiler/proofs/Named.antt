@@ -39,7 +39,8 @@ misses_by whole verb = option_map_or (λ label. is_none (position_of whole label
 
 -- the card of the first statement that names a label without a position, by the table and by the cards
 abbrev pub lacking : List (List ℕ × ℕ) → List (Statement (List ℕ)) → Option ℕ
-lacking labels statements = option_map (λ (statement : Statement (List ℕ)). statement.card) (find (λ (statement : Statement (List ℕ)). lacks_label labels statement.verb) statements)
+lacking labels statements =
+    option_map (λ (statement : Statement (List ℕ)). statement.card) (find (λ (statement : Statement (List ℕ)). lacks_label labels statement.verb) statements)
 
 abbrev pub missing_on : List Card → List Card → Option ℕ
 missing_on whole cards = option_map (λ (card : Card). card.number) (find (misses_label whole) cards)
@@ -58,7 +59,8 @@ module _ (labels : List (List ℕ × ℕ)) (whole : List Card) (holds : HasPosit
   verb_reported _ some = refl
 
   -- the first statement without a position for its label
-  pub missing_reported : (cards : List Card) → All HoldsLaw (filter_map statement_said cards) → lacking labels (filter_map statement_said cards) ≡ missing_on whole cards
+  pub missing_reported : (cards : List Card) → All HoldsLaw (filter_map statement_said cards) →
+      lacking labels (filter_map statement_said cards) ≡ missing_on whole cards
   missing_reported [] lawful = refl
   missing_reported (card ∷ cards) lawful = by (verb_of card.bytes) lawful (missing_reported cards)
     where
@@ -68,41 +70,50 @@ module _ (labels : List (List ℕ × ℕ)) (whole : List Card) (holds : HasPosit
           ≡ option_map (λ (card : Card). card.number) (cond (misses_by whole verb) (Some card) (find (misses_label whole) cards))
       by None lawful rest = rest lawful
       by (Some verb) lawful rest =
-          ap (λ (t : Bool). option_map (λ (statement : Statement (List ℕ)). statement.card) (cond t (Some (said_on card.number verb)) (find (λ (statement : Statement (List ℕ)). lacks_label labels statement.verb) (filter_map statement_said cards))))
+          ap (λ (t : Bool). option_map (λ (statement : Statement (List ℕ)). statement.card)
+          (cond t (Some (said_on card.number verb))
+          (find (λ (statement : Statement (List ℕ)). lacks_label labels statement.verb) (filter_map statement_said cards))))
           (lacks_reported verb (All-head HoldsLaw (said_on card.number verb) (filter_map statement_said cards) lawful))
           ∙ each (misses whole verb) (rest (All-tail HoldsLaw (said_on card.number verb) (filter_map statement_said cards) lawful))
         where
           each : (t : Bool) → lacking labels (filter_map statement_said cards) ≡ missing_on whole cards
-              → option_map (λ (statement : Statement (List ℕ)). statement.card) (cond t (Some (said_on card.number verb)) (find (λ (statement : Statement (List ℕ)). lacks_label labels statement.verb) (filter_map statement_said cards)))
+              → option_map (λ (statement : Statement (List ℕ)). statement.card)
+              (cond t (Some (said_on card.number verb))
+              (find (λ (statement : Statement (List ℕ)). lacks_label labels statement.verb) (filter_map statement_said cards)))
               ≡ option_map (λ (card : Card). card.number) (cond t (Some card) (find (misses_label whole) cards))
           each true others = refl
           each false others = others
 
   -- the statements with positions
-  pub statements_reported : (cards : List Card) → All HoldsLaw (filter_map statement_said cards) → map (settled labels) (filter_map statement_said cards) ≡ filter_map (statement_on whole) cards
+  pub statements_reported : (cards : List Card) → All HoldsLaw (filter_map statement_said cards) →
+      map (settled labels) (filter_map statement_said cards) ≡ filter_map (statement_on whole) cards
   statements_reported [] lawful = refl
   statements_reported (card ∷ cards) lawful = by (verb_of card.bytes) lawful (statements_reported cards)
     where
       by : (verb : Option (Verb (List ℕ))) → All HoldsLaw (cons_option (option_map (said_on card.number) verb) (filter_map statement_said cards))
           → (All HoldsLaw (filter_map statement_said cards) → map (settled labels) (filter_map statement_said cards) ≡ filter_map (statement_on whole) cards)
-          → map (settled labels) (cons_option (option_map (said_on card.number) verb) (filter_map statement_said cards)) ≡ cons_option (option_map (positioned_on whole card.number) verb) (filter_map (statement_on whole) cards)
+          → map (settled labels) (cons_option (option_map (said_on card.number) verb) (filter_map statement_said cards)) ≡ cons_option
+          (option_map (positioned_on whole card.number) verb) (filter_map (statement_on whole) cards)
       by None lawful rest = rest lawful
       by (Some verb) lawful rest =
           ap (λ (verb : Verb ℕ). (record { card = card.number; verb = verb }) ∷ map (settled labels) (filter_map statement_said cards))
           (verb_reported verb (All-head HoldsLaw (said_on card.number verb) (filter_map statement_said cards) lawful))
-          ∙ ap (λ (statements : List (Statement ℕ)). positioned_on whole card.number verb ∷ statements) (rest (All-tail HoldsLaw (said_on card.number verb) (filter_map statement_said cards) lawful))
+          ∙ ap (λ (statements : List (Statement ℕ)). positioned_on whole card.number verb ∷ statements)
+          (rest (All-tail HoldsLaw (said_on card.number verb) (filter_map statement_said cards) lawful))
 
 -- ---- positions and limits
 
 -- a position is that of a statement or of the end
-pub position_within : (cards : List Card) (label : List ℕ) (count : ℕ) → length cards ≡ count + 2 → is_none (position_of cards label) ≡ false → IsPosition count (unwrap_or (position_of cards label) 0)
+pub position_within : (cards : List Card) (label : List ℕ) (count : ℕ) → length cards ≡ count + 2 → is_none (position_of cards label) ≡ false →
+    IsPosition count (unwrap_or (position_of cards label) 0)
 position_within cards label count len there = by (position_or_len (λ (card : Card). bytes_eq (label_of card.bytes) label) cards) (length cards) len there
   where
     by : (place n : ℕ) → n ≡ count + 2 → is_none (option_map (max 1) (cond (ltb place n) (Some place) None)) ≡ false
         → IsPosition count (unwrap_or (option_map (max 1) (cond (ltb place n) (Some place) None)) 0)
     by place n len there = reported (ltb place n) refl there
       where
-        reported : (t : Bool) → ltb place n ≡ t → is_none (option_map (max 1) (cond t (Some place) None)) ≡ false → IsPosition count (unwrap_or (option_map (max 1) (cond t (Some place) None)) 0)
+        reported : (t : Bool) → ltb place n ≡ t → is_none (option_map (max 1) (cond t (Some place) None)) ≡ false →
+            IsPosition count (unwrap_or (option_map (max 1) (cond t (Some place) None)) 0)
         reported true e there =
             let before : place < n = grind (arith, nat_tests) in
             record { first = omega arith; last = omega arith }
@@ -125,7 +136,8 @@ module _ (whole : List Card) (count : ℕ) (len : length whole ≡ count + 2) wh
       by None none rest = rest none
       by (Some verb) none rest =
           let both = not_missing (misses whole verb) none in
-          All-cons (HoldsPosition count) (positioned_on whole card.number verb) (filter_map (statement_on whole) cards) (position_reported verb both.0) (rest both.1)
+          All-cons (HoldsPosition count) (positioned_on whole card.number verb) (filter_map (statement_on whole) cards) (position_reported verb both.0)
+          (rest both.1)
         where
           not_missing : (t : Bool) → cond t (Some card) (find (misses_label whole) cards) ≡ None → (t ≡ false) × (find (misses_label whole) cards ≡ None)
           not_missing true none = cc none

@@ -16,30 +16,38 @@ use Rattle.control_definitions.specs.Compiled.{position_of, has_bad_label, has_l
 use Rattle.control_compiler.specs.Cards.{HasPositions, placed}
 
 place_by_one_more : (n len : ℕ) (t : Bool) → n ≤ len
-    → cond (ltb (cond (eqb n len) (len + cond t 0 1) n) (len + 1)) (Some (cond (eqb n len) (len + cond t 0 1) n)) None ≡ option_or (cond (ltb n len) (Some n) None) (if t then Some len else None)
+    → cond (ltb (cond (eqb n len) (len + cond t 0 1) n) (len + 1)) (Some (cond (eqb n len) (len + cond t 0 1) n)) None ≡ option_or
+    (cond (ltb n len) (Some n) None) (if t then Some len else None)
 place_by_one_more n len true le = grind (arith, nat_tests)
 place_by_one_more n len false le = grind (arith, nat_tests)
 
 -- the place in a list with one more element
-position-push : {X : Type 0} (p : X → Bool) (xs : List X) (y : X) → position p (xs ++ y ∷ []) ≡ option_or (position p xs) (if p y then Some (length xs) else None)
+position-push : {X : Type 0} (p : X → Bool) (xs : List X) (y : X) →
+    position p (xs ++ y ∷ []) ≡ option_or (position p xs) (if p y then Some (length xs) else None)
 position-push p xs y =
-    rw (position_or_len_push p xs y, length-append xs (y ∷ [])) (place_by_one_more (position_or_len p xs) (length xs) (p y) (prefix_len-le-length (λ x. not (p x)) xs))
+    rw (position_or_len_push p xs y, length-append xs (y ∷ []))
+    (place_by_one_more (position_or_len p xs) (length xs) (p y) (prefix_len-le-length (λ x. not (p x)) xs))
 
 -- the position of a label among cards and one more
 pub position_of-push : (cards : List Card) (card : Card) (label : List ℕ)
-    → position_of (cards ++ card ∷ []) label ≡ option_or (position_of cards label) (if bytes_eq (label_of card.bytes) label then Some (max 1 (length cards)) else None)
+    → position_of (cards ++ card ∷ []) label ≡ option_or (position_of cards label)
+    (if bytes_eq (label_of card.bytes) label then Some (max 1 (length cards)) else None)
 position_of-push cards card label =
     ap (option_map (max 1)) (position-push (λ (other : Card). bytes_eq (label_of other.bytes) label) cards card)
     ∙ by (position (λ (other : Card). bytes_eq (label_of other.bytes) label) cards) (bytes_eq (label_of card.bytes) label)
   where
-    by : (place : Option ℕ) (t : Bool) → option_map (max 1) (option_or place (if t then Some (length cards) else None)) ≡ option_or (option_map (max 1) place) (if t then Some (max 1 (length cards)) else None)
+    by : (place : Option ℕ) (t : Bool) →
+        option_map (max 1) (option_or place (if t then Some (length cards) else None)) ≡ option_or (option_map (max 1) place)
+        (if t then Some (max 1 (length cards)) else None)
     by (Some place) t = refl
     by None true = refl
     by None false = refl
 
 -- a label stands on a card where it has a position
-pub stands_where_placed : (cards : List Card) (label : List ℕ) → list_any (λ (card : Card). bytes_eq (label_of card.bytes) label) cards ≡ is_some (position_of cards label)
-stands_where_placed cards label = found (λ (card : Card). bytes_eq (label_of card.bytes) label) cards ∙ by (position (λ (card : Card). bytes_eq (label_of card.bytes) label) cards)
+pub stands_where_placed : (cards : List Card) (label : List ℕ) →
+    list_any (λ (card : Card). bytes_eq (label_of card.bytes) label) cards ≡ is_some (position_of cards label)
+stands_where_placed cards label =
+    found (λ (card : Card). bytes_eq (label_of card.bytes) label) cards ∙ by (position (λ (card : Card). bytes_eq (label_of card.bytes) label) cards)
   where
     by : (place : Option ℕ) → is_some place ≡ is_some (option_map (max 1) place)
     by (Some place) = refl
@@ -61,10 +69,14 @@ stands_where_placed cards label = found (λ (card : Card). bytes_eq (label_of ca
         some false n = refl
 
 -- A card without a label changes no position.
-pub unlabelled : (labels : List (List ℕ × ℕ)) (cards : List Card) (card : Card) → is_empty (label_of card.bytes) ≡ true → HasPositions labels cards → HasPositions labels (cards ++ card ∷ [])
-unlabelled labels cards card none holds = λ label some. holds label some ∙ sym (position_of-push cards card label ∙ by label (position_of cards label) (bytes_eq (label_of card.bytes) label) refl some)
+pub unlabelled : (labels : List (List ℕ × ℕ)) (cards : List Card) (card : Card) → is_empty (label_of card.bytes) ≡ true → HasPositions labels cards →
+    HasPositions labels (cards ++ card ∷ [])
+unlabelled labels cards card none holds =
+    λ label some. holds label some
+    ∙ sym (position_of-push cards card label ∙ by label (position_of cards label) (bytes_eq (label_of card.bytes) label) refl some)
   where
-    by : (label : List ℕ) (place : Option ℕ) (t : Bool) → bytes_eq (label_of card.bytes) label ≡ t → is_empty label ≡ false → option_or place (if t then Some (max 1 (length cards)) else None) ≡ place
+    by : (label : List ℕ) (place : Option ℕ) (t : Bool) → bytes_eq (label_of card.bytes) label ≡ t → is_empty label ≡ false →
+        option_or place (if t then Some (max 1 (length cards)) else None) ≡ place
     by label (Some place) t e some = refl
     by label None false e some = refl
     by label None true e some = let same : label_of card.bytes ≡ label = (bytes_eq-Decides (label_of card.bytes) label).0 e in cc (ap is_empty same)
@@ -95,12 +107,15 @@ pub twice_reported : (labels : List (List ℕ × ℕ)) (cards : List Card) (card
 twice_reported labels cards card holds good = by (label_of card) (list_any (λ (other : Card). bytes_eq (label_of other.bytes) (label_of card)) cards) good
     (λ some. ap is_some (holds (label_of card) some) ∙ sym (stands_where_placed cards (label_of card)))
   where
-    by : (label : List ℕ) (any : Bool) → (not (is_empty label) && not (is_label label)) ≡ false → (is_empty label ≡ false → is_some (lookup (bytes_eq label) labels) ≡ any)
-        → option_map_or (λ (name : List ℕ). is_some (lookup (bytes_eq name) labels)) (if is_label label then Some label else None) false ≡ (not (is_empty label) && any)
+    by : (label : List ℕ) (any : Bool) → (not (is_empty label) && not (is_label label)) ≡ false
+        → (is_empty label ≡ false → is_some (lookup (bytes_eq label) labels) ≡ any)
+        → option_map_or (λ (name : List ℕ). is_some (lookup (bytes_eq name) labels)) (if is_label label then Some label else None) false ≡
+        (not (is_empty label) && any)
     by [] any good same = refl
     by (byte ∷ label) any good same = reported (is_label (byte ∷ label)) good
       where
-        reported : (t : Bool) → not t ≡ false → option_map_or (λ (name : List ℕ). is_some (lookup (bytes_eq name) labels)) (if t then Some (byte ∷ label) else None) false ≡ any
+        reported : (t : Bool) → not t ≡ false →
+            option_map_or (λ (name : List ℕ). is_some (lookup (bytes_eq name) labels)) (if t then Some (byte ∷ label) else None) false ≡ any
         reported true good = same refl
         reported false good = cc good
 
@@ -133,7 +148,9 @@ next_positions labels more cards card (Some label) position is good once place a
     by text false e some = cc some
 
     seen : is_some (lookup (bytes_eq label) labels) ≡ false
-    seen = ap (λ (known : Option (List ℕ)). option_map_or (λ (name : List ℕ). is_some (lookup (bytes_eq name) labels)) known false) is ∙ twice_reported labels cards card.bytes holds good ∙ once
+    seen =
+        ap (λ (known : Option (List ℕ)). option_map_or (λ (name : List ℕ). is_some (lookup (bytes_eq name) labels)) known false) is
+        ∙ twice_reported labels cards card.bytes holds good ∙ once
 
     absent : (found : Option ℕ) → is_some found ≡ false → found ≡ None
     absent None e = refl

@@ -20,7 +20,9 @@ use Rattle.control_compiler.specs.declared.draft.Draft.{Draft}
 
 -- where no test finds a fault, each fails
 no_fault : (a b c d e f g h : Bool)
-    → first_fault ((a ⟹ BadLabel) ∷ (b ⟹ LabelTwice) ∷ (c ⟹ Unclosed) ∷ (d ⟹ UnknownVerb) ∷ (e ⟹ UnknownCell) ∷ (f ⟹ UnknownDemand) ∷ (g ⟹ BadArgument) ∷ (h ⟹ TooManyStatements) ∷ []) ≡ None
+    → first_fault
+    ((a ⟹ BadLabel) ∷ (b ⟹ LabelTwice) ∷ (c ⟹ Unclosed) ∷ (d ⟹ UnknownVerb) ∷ (e ⟹ UnknownCell) ∷ (f ⟹ UnknownDemand) ∷ (g ⟹ BadArgument) ∷
+    (h ⟹ TooManyStatements) ∷ []) ≡ None
     → (a ≡ false) × (b ≡ false) × (g ≡ false) × (h ≡ false)
 no_fault true b c d e f g h none = cc none
 no_fault false true c d e f g h none = cc none
@@ -42,7 +44,8 @@ pub record IsFaultless (cards : List Card) (card : List ℕ) : Type 0 where
 pub faultless : (cards : List Card) (card : List ℕ) → control_card_fault cards card ≡ None → IsFaultless cards card
 unfolding control_card_fault
 faultless cards card e =
-    let each = no_fault (has_bad_label card) (has_label_twice cards card) (is_unclosed (statement_of card)) (is_none (named verb_words (verb_word (statement_of card))))
+    let each =
+    no_fault (has_bad_label card) (has_label_twice cards card) (is_unclosed (statement_of card)) (is_none (named verb_words (verb_word (statement_of card))))
     (lacks_word (codes "MOVE") cell_words card) (lacks_word (codes "MVADR") demand_words card) (not (is_lawful_pend card) && is_none (verb_of card))
     (not (is_pend card) && ltb MAX_STATEMENTS (length cards)) e in
     record { label = each.0; once = each.1; argument = each.2; few = each.3 }
@@ -82,10 +85,14 @@ said_on number verb = record { card = number; verb = verb }
 pub statements_more : (cards : List Card) (card : Card) (old new : Draft) → IsAfter cards old → IsAfter (cards ++ card ∷ []) new
     → length new.statements.items ≡ length old.statements.items + length (option_to_list (verb_of card.bytes))
 statements_more cards card old new after more =
-    let now : length (map statement_view new.statements.items) ≡ length (filter_map statement_said (cards ++ card ∷ [])) = ap (λ (list : List (Statement (List ℕ))). length list) more.statements in
-    let then : length (map statement_view old.statements.items) ≡ length (filter_map statement_said cards) = ap (λ (list : List (Statement (List ℕ))). length list) after.statements in
-    let split : length (filter_map statement_said (cards ++ card ∷ [])) ≡ length (filter_map statement_said cards) + length (filter_map statement_said (card ∷ [])) =
-    ap (λ (list : List (Statement (List ℕ))). length list) (filter_map-append statement_said cards (card ∷ [])) ∙ length-append (filter_map statement_said cards) (filter_map statement_said (card ∷ [])) in
+    let now : length (map statement_view new.statements.items) ≡ length (filter_map statement_said (cards ++ card ∷ [])) =
+    ap (λ (list : List (Statement (List ℕ))). length list) more.statements in
+    let then : length (map statement_view old.statements.items) ≡ length (filter_map statement_said cards) =
+    ap (λ (list : List (Statement (List ℕ))). length list) after.statements in
+    let split : length (filter_map statement_said (cards ++ card ∷ [])) ≡ length (filter_map statement_said cards) + length
+    (filter_map statement_said (card ∷ [])) =
+    ap (λ (list : List (Statement (List ℕ))). length list) (filter_map-append statement_said cards (card ∷ []))
+    ∙ length-append (filter_map statement_said cards) (filter_map statement_said (card ∷ [])) in
     let last : length (filter_map statement_said (card ∷ [])) ≡ length (option_to_list (verb_of card.bytes)) = by (verb_of card.bytes) in
     let kept_new : length (map statement_view new.statements.items) ≡ length new.statements.items = length-map new.statements.items statement_view in
     let kept_old : length (map statement_view old.statements.items) ≡ length old.statements.items = length-map old.statements.items statement_view in

@@ -19,4 +19,5 @@ settled labels statement = record { card = statement.card; verb = verb_by (place
 
 -- the program of a draft, with the first card after it
 abbrev pub settled_program : Draft → ℕ → Program
-settled_program draft decks_from = record { statements = map (λ statement. settled draft.labels (statement_view statement)) draft.statements.items; decks_from = decks_from }
+settled_program draft decks_from =
+    record { statements = map (λ statement. settled draft.labels (statement_view statement)) draft.statements.items; decks_from = decks_from }

@@ -24,7 +24,8 @@ impl Model for Program {
 
     ghost view = { λ p. record { statements = map statement_view p.statements.items; decks_from = p.decks_from } };
 
-    ghost invariant = { λ p. IsProgram (record { statements = map statement_view p.statements.items; decks_from = p.decks_from }) };
+    ghost invariant = { λ p. IsProgram
+        (record { statements = map statement_view p.statements.items; decks_from = p.decks_from }) };
 }
 
 impl Program {

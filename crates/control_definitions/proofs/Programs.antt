@@ -87,11 +87,13 @@ all_name_cells = refl
 -- ---- single statements
 
 -- columns 73 to 80 aren't read: the text ends in column 72 with the parenthesis
-to_column_72 : verb_of (codes "              TITLE('2345678901234567890123456789012345678901234567890')UNREAD") ≡ Some (Title (codes "2345678901234567890123456789012345678901234567890"))
+to_column_72 : verb_of (codes "              TITLE('2345678901234567890123456789012345678901234567890')UNREAD") ≡ Some
+    (Title (codes "2345678901234567890123456789012345678901234567890"))
 unfolding verb_of label_of statement_of
 to_column_72 = refl
 
-sixty_bytes : verb_of (codes "A TITLE('123234567890123456789012345678901234567890123456789034567890')") ≡ Some (Title (codes "123234567890123456789012345678901234567890123456789034567890"))
+sixty_bytes : verb_of (codes "A TITLE('123234567890123456789012345678901234567890123456789034567890')") ≡ Some
+    (Title (codes "123234567890123456789012345678901234567890123456789034567890"))
 unfolding verb_of label_of statement_of
 sixty_bytes = refl
 

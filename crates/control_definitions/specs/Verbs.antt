@@ -41,9 +41,11 @@ pub data VerbWord : Type 0 where
 
 abbrev pub verb_words : List (List ℕ × VerbWord)
 verb_words =
-    (codes "INITIALZ", Alone Initialz) ∷ (codes "CONVERT", Alone Convert) ∷ (codes "PRIMAL", Alone Primal) ∷ (codes "DUAL", Alone Dual) ∷ (codes "REVISE", Alone Revise) ∷
+    (codes "INITIALZ", Alone Initialz) ∷ (codes "CONVERT", Alone Convert) ∷ (codes "PRIMAL", Alone Primal) ∷ (codes "DUAL", Alone Dual) ∷
+    (codes "REVISE", Alone Revise) ∷
     (codes "RANGE", Alone Ranging) ∷ (codes "PARAOBJ", Alone Paraobj) ∷ (codes "PARARHS", Alone Pararhs) ∷ (codes "SOLUTION", Alone Solution) ∷
-    (codes "BCDOUT", Alone Bcdout) ∷ (codes "PUNCH", Alone Punch) ∷ (codes "INSERT", Alone Insert) ∷ (codes "EXIT", Alone Exit) ∷ (codes "TITLE", TakesTitle) ∷ (codes "MOVE", TakesCell) ∷
+    (codes "BCDOUT", Alone Bcdout) ∷ (codes "PUNCH", Alone Punch) ∷ (codes "INSERT", Alone Insert) ∷ (codes "EXIT", Alone Exit) ∷ (codes "TITLE", TakesTitle) ∷
+    (codes "MOVE", TakesCell) ∷
     (codes "MVADR", TakesDemand) ∷ (codes "GOTO", TakesLabel) ∷ (codes "SETUP", TakesOptions) ∷ (codes "PEND", EndsProgram) ∷ []
 
 -- the verb of a word with its arguments, where these have its form; PEND is no statement

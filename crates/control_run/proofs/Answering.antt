@@ -41,19 +41,23 @@ module _ (S : Solving) (program : Program) (cards : List (List ℕ)) where
   -- the answer to a run, by what print and punch count and gain
   abbrev IsAnswerNow : SinkState → SinkState → SinkState → SinkState → RunStatus → Type 0
   IsAnswerNow old new punch_old punch_new status =
-      IsRunAnswer S program cards (Rose old.faults new.faults) (Rose old.refusals new.refusals) (Rose punch_old.faults punch_new.faults) (Rose punch_old.refusals punch_new.refusals)
+      IsRunAnswer S program cards (Rose old.faults new.faults) (Rose old.refusals new.refusals) (Rose punch_old.faults punch_new.faults)
+      (Rose punch_old.refusals punch_new.refusals)
       (code_of status) old.written new.written punch_old.written punch_new.written
 
   -- the print has stopped in the lines of the end
-  ended_in : {old now later punch_old punch_now : SinkState} {result : Result (Unit {0}) WriteStop} {ending : Ending} {stop : WriteStop} → RunsTo S program cards old now punch_old punch_now result ending →
+  ended_in : {old now later punch_old punch_now : SinkState} {result : Result (Unit {0}) WriteStop} {ending : Ending} {stop : WriteStop} →
+      RunsTo S program cards old now punch_old punch_now result ending →
       Writes {T = Unit {0}} now later (Err stop) (ending_text ending) →
-      IsCut S program cards (Rose punch_old.faults punch_now.faults) (Rose punch_old.refusals punch_now.refusals) old.written later.written punch_old.written punch_now.written
+      IsCut S program cards (Rose punch_old.faults punch_now.faults)
+      (Rose punch_old.refusals punch_now.refusals) old.written later.written punch_old.written punch_now.written
   ended_in {old = old} {now = now} {later = later} r w =
       let part = w.bytes in
       in_end part.0 r.can_end part.1 (Appends-then old.written now.written later.written (reports_text r.reports) part.0 r.prints.bytes part.2) r.gains
 
   -- the end is printed after the reports
-  finished : {old now later punch_old punch_now : SinkState} {result : Result (Unit {0}) WriteStop} {ending : Ending} {status : RunStatus} → RunsTo S program cards old now punch_old punch_now result ending →
+  finished : {old now later punch_old punch_now : SinkState} {result : Result (Unit {0}) WriteStop} {ending : Ending} {status : RunStatus} →
+      RunsTo S program cards old now punch_old punch_now result ending →
       Finishes now later ending status → IsAnswerNow old later punch_old punch_now status
   finished r (printed e w) = whole r.can_end e (writes_then r.prints w).bytes r.gains
   finished r (cut_off Failed e w) = print_fails ((writes_then r.prints w).cause.failed refl) (ap code_of e) (ended_in r w)
@@ -82,7 +86,8 @@ module _ (S : Solving) (program : Program) (cards : List (List ℕ)) where
   no_fault Memory code low high e = omega (arith, low, high, e)
 
   -- the print stops in a report with 25 where it fails, and never with 26
-  print_cut_rose : {old now punch_old punch_now : SinkState} (stop : WriteStop) → IsRunCut S program cards old now punch_old punch_now stop → cut_status stop ≡ PrintFault → Rose old.faults now.faults
+  print_cut_rose : {old now punch_old punch_now : SinkState} (stop : WriteStop) → IsRunCut S program cards old now punch_old punch_now stop →
+      cut_status stop ≡ PrintFault → Rose old.faults now.faults
   print_cut_rose Failed r is = r.leaves.cause.failed refl
   print_cut_rose NoMemory r is = absurd (apart 28 28 25 refl (ap code_of is) (λ n. omega (arith, n)))
 
@@ -91,17 +96,20 @@ module _ (S : Solving) (program : Program) (cards : List (List ℕ)) where
   no_punch_cut NoMemory is = apart 28 28 26 refl (ap code_of is) (λ n. omega (arith, n))
 
   -- the code of an end that the punch brings
-  code_at : (result : Result (Unit {0}) WriteStop) (ending : Ending) (status : RunStatus) → IfErr result (λ stop. ending ≡ punch_end stop) → code_of status ≡ status_of ending → IfErr result (λ stop. code_of status ≡ status_of (punch_end stop))
+  code_at : (result : Result (Unit {0}) WriteStop) (ending : Ending) (status : RunStatus) → IfErr result (λ stop. ending ≡ punch_end stop) →
+      code_of status ≡ status_of ending → IfErr result (λ stop. code_of status ≡ status_of (punch_end stop))
   code_at (Ok done) ending status ends e = tt
   code_at (Err stop) ending status ends e = e ∙ ap status_of ends
 
-  print_rose : {old now later punch_old punch_now : SinkState} {result : Result (Unit {0}) WriteStop} {ending : Ending} {status : RunStatus} → RunsTo S program cards old now punch_old punch_now result ending →
+  print_rose : {old now later punch_old punch_now : SinkState} {result : Result (Unit {0}) WriteStop} {ending : Ending} {status : RunStatus} →
+      RunsTo S program cards old now punch_old punch_now result ending →
       Finishes now later ending status → (status_of ending ≡ 25 → ⊥) → status ≡ PrintFault → Rose old.faults later.faults
   print_rose r (printed e w) other is = absurd (other (sym e ∙ ap code_of is))
   print_rose r (cut_off Failed e w) other is = (writes_then r.prints w).cause.failed refl
   print_rose {status = status} r (cut_off NoMemory e w) other is = absurd (apart (code_of status) 28 25 (ap code_of e) (ap code_of is) (λ n. omega (arith, n)))
 
-  no_punch_fault : {now later : SinkState} {ending : Ending} {status : RunStatus} → Finishes now later ending status → (status_of ending ≡ 26 → ⊥) → status ≡ PunchFault → ⊥
+  no_punch_fault : {now later : SinkState} {ending : Ending} {status : RunStatus} → Finishes now later ending status → (status_of ending ≡ 26 → ⊥) →
+      status ≡ PunchFault → ⊥
   no_punch_fault (printed e w) other is = other (sym e ∙ ap code_of is)
   no_punch_fault {status = status} (cut_off Failed e w) other is = apart (code_of status) 25 26 (ap code_of e) (ap code_of is) (λ n. omega (arith, n))
   no_punch_fault {status = status} (cut_off NoMemory e w) other is = apart (code_of status) 28 26 (ap code_of e) (ap code_of is) (λ n. omega (arith, n))
@@ -118,12 +126,15 @@ module _ (S : Solving) (program : Program) (cards : List (List ℕ)) where
     pub print_still : IsStill old later
     pub punch_still : IsStill punch_old punch_now
 
-  noted_by_end : {old now later punch_old punch_now : SinkState} (result : Result (Unit {0}) WriteStop) {ending : Ending} {status : RunStatus} → IfErr result (λ stop. ending ≡ punch_end stop) →
+  noted_by_end : {old now later punch_old punch_now : SinkState} (result : Result (Unit {0}) WriteStop) {ending : Ending} {status : RunStatus} →
+      IfErr result (λ stop. ending ≡ punch_end stop) →
       RunsTo S program cards old now punch_old punch_now result ending → Finishes now later ending status → IsNoted old later punch_old punch_now status
   noted_by_end {old = old} {later = later} {punch_old = punch_old} {punch_now = punch_now} result {ending = ending} {status = status} ends r (printed e w) =
       let l = left (writes_then r.prints w) in
       record {
-        reported = reported_punch 0 0 old later punch_old punch_now result (code_of status) (code_at result ending status ends e) l.cause r.leaves.cause (λ more. none_more 0 0 refl more);
+        reported =
+            reported_punch 0 0 old later punch_old punch_now result (code_of status) (code_at result ending status ends e) l.cause r.leaves.cause
+            (λ more. none_more 0 0 refl more);
         print_still = stands_still (Ok tt) l;
         punch_still = stands_still result r.leaves;
       }
@@ -135,7 +146,8 @@ module _ (S : Solving) (program : Program) (cards : List (List ℕ)) where
         punch_still = stands_still result r.leaves;
       }
 
-  noted_by_cut : {old now : SinkState} (later : SinkState) {punch_old punch_now : SinkState} (stop : WriteStop) {status : RunStatus} → IsRunCut S program cards old now punch_old punch_now stop →
+  noted_by_cut : {old now : SinkState} (later : SinkState) {punch_old punch_now : SinkState} (stop : WriteStop) {status : RunStatus} →
+      IsRunCut S program cards old now punch_old punch_now stop →
       status ≡ cut_status stop → later ≡ now → IsNoted old later punch_old punch_now status
   noted_by_cut {old = old} {now = now} later {punch_old = punch_old} {punch_now = punch_now} stop {status = status} r e same =
       subst (λ (p : SinkState). IsNoted old p punch_old punch_now status) (sym same)
@@ -151,7 +163,8 @@ module _ (S : Solving) (program : Program) (cards : List (List ℕ)) where
     pub punch_fault : status ≡ PunchFault → Rose punch_old.faults punch_now.faults
     pub noted : IsNoted old later punch_old punch_now status
 
-  pub finished_by_end : {old now later punch_old punch_now : SinkState} (end : End) {status : RunStatus} → RunsTo S program cards old now punch_old punch_now (Ok tt) (end_view end) →
+  pub finished_by_end : {old now later punch_old punch_now : SinkState} (end : End) {status : RunStatus} →
+      RunsTo S program cards old now punch_old punch_now (Ok tt) (end_view end) →
       Finishes now later (end_view end) status → IsFinished old later punch_old punch_now status
   finished_by_end end r f = record {
     answer = finished r f;
@@ -160,10 +173,13 @@ module _ (S : Solving) (program : Program) (cards : List (List ℕ)) where
     noted = noted_by_end (Ok tt) tt r f;
   }
 
-  pub finished_by_halt : {old : SinkState} (now : SinkState) {later punch_old punch_now : SinkState} (h : Halt) {status : RunStatus} → Runs S program cards old now punch_old punch_now (Err h) →
+  pub finished_by_halt : {old : SinkState} (now : SinkState) {later punch_old punch_now : SinkState} (h : Halt) {status : RunStatus} →
+      Runs S program cards old now punch_old punch_now (Err h) →
       FinishesHalted now later h status → IsFinished old later punch_old punch_now status
   finished_by_halt {old = old} now {later = later} {punch_old = punch_old} {punch_now = punch_now} (halt.Print stop) {status = status} r f = record {
-    answer = subst (λ (s : RunStatus). IsAnswerNow old later punch_old punch_now s) (sym f.0) (subst (λ (p : SinkState). IsAnswerNow old p punch_old punch_now (cut_status stop)) (sym f.1) (cut_short stop r));
+    answer =
+        subst (λ (s : RunStatus). IsAnswerNow old later punch_old punch_now s) (sym f.0)
+        (subst (λ (p : SinkState). IsAnswerNow old p punch_old punch_now (cut_status stop)) (sym f.1) (cut_short stop r));
     print_fault = λ is. rw f.1 (print_cut_rose stop r (sym f.0 ∙ is));
     punch_fault = λ is. absurd (no_punch_cut stop (sym f.0 ∙ is));
     noted = noted_by_cut later stop r f.0 f.1;
@@ -189,17 +205,23 @@ module _ (S : Solving) (program : Program) (cards : List (List ℕ)) where
 
 -- ---- the job
 
-module _ (S : Solving) (program : Program) (job : Job) (failures : Failures) (bytes : List ℕ) (of_job : bytes_of job ≡ Some bytes) (is_program : IsProgramOf bytes program) (punch_failed punch_wanted : Type 0) (punch_fails_too : punch_failed → failures.punch) where
-  may_end : {reports : List Report} {punched deck : List (List ℕ)} {ending : Ending} → CanEnd S program (cards_of bytes) punch_failed punch_wanted reports punched deck ending → MayEnd S job failures reports punched deck ending
+module _ (S : Solving) (program : Program) (job : Job) (failures : Failures) (bytes : List ℕ) (of_job : bytes_of job ≡ Some bytes)
+    (is_program : IsProgramOf bytes program) (punch_failed punch_wanted : Type 0) (punch_fails_too : punch_failed → failures.punch) where
+  may_end : {reports : List Report} {punched deck : List (List ℕ)} {ending : Ending} →
+      CanEnd S program (cards_of bytes) punch_failed punch_wanted reports punched deck ending → MayEnd S job failures reports punched deck ending
   may_end (by_itself is_run) = ends_by_itself bytes of_job (run program is_program is_run)
   may_end (for_memory {state = state} reaches) = memory_in_run bytes program state of_job (record { is_program = is_program; reaches = reaches })
-  may_end (for_memory_of_punch {state = state} deck wanted reaches punching) = memory_at_punch bytes program state deck of_job (record { is_program = is_program; reaches = reaches }) punching
-  may_end (for_punch_fault {state = state} deck failed reaches punching) = punch_fails bytes program state deck (punch_fails_too failed) of_job (record { is_program = is_program; reaches = reaches }) punching
+  may_end (for_memory_of_punch {state = state} deck wanted reaches punching) =
+      memory_at_punch bytes program state deck of_job (record { is_program = is_program; reaches = reaches }) punching
+  may_end (for_punch_fault {state = state} deck failed reaches punching) =
+      punch_fails bytes program state deck (punch_fails_too failed) of_job (record { is_program = is_program; reaches = reaches }) punching
 
   module _ (old new punch_old punch_new : Option (List ℕ)) where
     -- what a listing is in which the print has stopped
     abbrev IsCutTo : ℕ → Type 0
-    IsCutTo status = (printed : List ℕ) × (punched : List ℕ) × Appends old new printed × Appends punch_old punch_new punched × IsCutShort S job failures (record { status = status; printed = printed; punched = punched })
+    IsCutTo status =
+        (printed : List ℕ) × (punched : List ℕ) × Appends old new printed × Appends punch_old punch_new punched × IsCutShort S job failures
+        (record { status = status; printed = printed; punched = punched })
 
     cut : (status : ℕ) → IsCut S program (cards_of bytes) punch_failed punch_wanted old new punch_old punch_new → IsCutTo status
     cut status (in_report {reports} {punched} {state} outcome part reaches step is_part gains punch_gains) = (
@@ -213,7 +235,8 @@ module _ (S : Solving) (program : Program) (job : Job) (failures : Failures) (by
         (reports_text reports ++ part, punch_gains.0, gains, punch_gains.1, answers.in_end ending part (may_end can) is_part refl punch_gains.2)
 
     answer_of : {failed wanted : Type 0} {status : ℕ} → (failed → failures.print) → (wanted → failures.memory) →
-        IsRunAnswer S program (cards_of bytes) failed wanted punch_failed punch_wanted status old new punch_old punch_new → IsAnswered S job failures status (Appends old new) (Appends punch_old punch_new)
+        IsRunAnswer S program (cards_of bytes) failed wanted punch_failed punch_wanted status old new punch_old punch_new →
+        IsAnswered S job failures status (Appends old new) (Appends punch_old punch_new)
     answer_of fails wants (whole {reports = reports} {ending = ending} can e text gains) =
         (listing reports ending, gains.0, text, gains.1, answers.whole ending (may_end can) e refl gains.2)
     answer_of {status = status} fails wants (print_fails failed e is) =
@@ -224,8 +247,10 @@ module _ (S : Solving) (program : Program) (job : Job) (failures : Failures) (by
         (c.0, c.1, c.2, c.3, answers.print_wants_memory (wants wanted) e c.4)
 
 -- What the run of a job's program is answered, the job is answered, in view of any failures among which are those of the run.
-pub job_answered : (S : Solving) (program : Program) (cards : List (List ℕ)) (failures : Failures) {failed wanted punch_failed punch_wanted : Type 0} {status : ℕ} {old new punch_old punch_new : Option (List ℕ)} →
-    (failed → failures.print) → (wanted → failures.memory) → (punch_failed → failures.punch) → IsRunAnswer S program cards failed wanted punch_failed punch_wanted status old new punch_old punch_new →
+pub job_answered : (S : Solving) (program : Program) (cards : List (List ℕ))
+    (failures : Failures) {failed wanted punch_failed punch_wanted : Type 0} {status : ℕ} {old new punch_old punch_new : Option (List ℕ)} →
+    (failed → failures.print) → (wanted → failures.memory) → (punch_failed → failures.punch) →
+    IsRunAnswer S program cards failed wanted punch_failed punch_wanted status old new punch_old punch_new →
     (job : Job) (bytes : List ℕ) → bytes_of job ≡ Some bytes → IsProgramOf bytes program → cards ≡ cards_of bytes →
     IsAnswered S job failures status (Appends old new) (Appends punch_old punch_new)
 job_answered S program cards failures {failed = failed} {wanted = wanted} {punch_failed = punch_failed} {punch_wanted = punch_wanted} {status = status} {old = old} {new = new} {punch_old = punch_old} {punch_new = punch_new} fails wants punch_fails_too answer job bytes of_job is_program same =
@@ -239,7 +264,9 @@ module _ (S : Solving) (program : Program) (cards : List (List ℕ)) where
       IsStatusOfRun status → IsEndOfRun S program cards old later punch_old punch_now status
   ended {old = old} {later = later} {punch_old = punch_old} {punch_now = punch_now} f own = record {
     run = f.answer;
-    answer = job_answered S program cards (failures_in_run (Rose old.faults later.faults) (Rose punch_old.faults punch_now.faults) (Rose old.refusals later.refusals))
+    answer =
+        job_answered S program cards
+        (failures_in_run (Rose old.faults later.faults) (Rose punch_old.faults punch_now.faults) (Rose old.refusals later.refusals))
         (λ h. h) (λ h. h) (λ h. h) f.answer;
     print_fault = f.print_fault;
     punch_fault = f.punch_fault;
@@ -248,12 +275,14 @@ module _ (S : Solving) (program : Program) (cards : List (List ℕ)) where
     own = own;
   }
 
-  pub ended_by_end : {old now later punch_old punch_now : SinkState} (end : End) {status : RunStatus} → RunsTo S program cards old now punch_old punch_now (Ok tt) (end_view end) →
+  pub ended_by_end : {old now later punch_old punch_now : SinkState} (end : End) {status : RunStatus} →
+      RunsTo S program cards old now punch_old punch_now (Ok tt) (end_view end) →
       Finishes now later (end_view end) status → IsStatusOfRun status →
       IsEndOfRun S program cards old later punch_old punch_now status
   ended_by_end end r f own = ended (finished_by_end S program cards end r f) own
 
-  pub ended_by_halt : {old : SinkState} (now : SinkState) {later punch_old punch_now : SinkState} (h : Halt) {status : RunStatus} → Runs S program cards old now punch_old punch_now (Err h) →
+  pub ended_by_halt : {old : SinkState} (now : SinkState) {later punch_old punch_now : SinkState} (h : Halt) {status : RunStatus} →
+      Runs S program cards old now punch_old punch_now (Err h) →
       FinishesHalted now later h status → IsStatusOfRun status →
       IsEndOfRun S program cards old later punch_old punch_now status
   ended_by_halt now h r f own = ended (finished_by_halt S program cards now h r f) own

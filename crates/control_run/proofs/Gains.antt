@@ -58,8 +58,10 @@ punched_to old now new cards deck before prefix = (
   record { part = prefix.0; is_prefix = prefix.1; is_gained = refl },
 )
 
-pub gains_part_at_fault : (old now new : Option (List ℕ)) (cards deck : List (List ℕ)) → Appends old now (card_text cards) → AppendsPrefix now new (card_text deck) → GainsBy PunchFault cards deck old new
+pub gains_part_at_fault : (old now new : Option (List ℕ)) (cards deck : List (List ℕ)) → Appends old now (card_text cards) →
+    AppendsPrefix now new (card_text deck) → GainsBy PunchFault cards deck old new
 gains_part_at_fault old now new cards deck before prefix = punched_to old now new cards deck before prefix
 
-pub gains_part_for_memory : (old now new : Option (List ℕ)) (cards deck : List (List ℕ)) → Appends old now (card_text cards) → AppendsPrefix now new (card_text deck) → GainsBy Memory cards deck old new
+pub gains_part_for_memory : (old now new : Option (List ℕ)) (cards deck : List (List ℕ)) → Appends old now (card_text cards) →
+    AppendsPrefix now new (card_text deck) → GainsBy Memory cards deck old new
 gains_part_for_memory old now new cards deck before prefix = punched_to old now new cards deck before prefix

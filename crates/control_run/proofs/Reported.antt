@@ -49,19 +49,23 @@ module _ (read_before read_now : ℕ) (print_old print_new punch_old punch_new :
   now = counts read_now print_new punch_new
 
   -- the print has stopped
-  stops_at_print : (stop : WriteStop) (code : ℕ) → code ≡ code_of (cut_status stop) → HasWriteCause {T = Unit {0}} print_old print_new (Err stop) → StopsAtPrint before now code
+  stops_at_print : (stop : WriteStop) (code : ℕ) → code ≡ code_of (cut_status stop) → HasWriteCause {T = Unit {0}} print_old print_new (Err stop) →
+      StopsAtPrint before now code
   stops_at_print Failed code is cause = print_failed is (cause.failed refl)
   stops_at_print NoMemory code is cause = print_wants_memory is (cause.no_memory refl)
 
-  fault_only : (stop : WriteStop) (code : ℕ) → code ≡ code_of (cut_status stop) → HasWriteCause {T = Unit {0}} print_old print_new (Err stop) → print_old.faults < print_new.faults → code ≡ 25
+  fault_only : (stop : WriteStop) (code : ℕ) → code ≡ code_of (cut_status stop) → HasWriteCause {T = Unit {0}} print_old print_new (Err stop) →
+      print_old.faults < print_new.faults → code ≡ 25
   fault_only Failed code is cause more = is
   fault_only NoMemory code is cause more = none_more print_old.faults print_new.faults (cause.wanted_alone refl) more
 
-  memory_only : (stop : WriteStop) (code : ℕ) → code ≡ code_of (cut_status stop) → HasWriteCause {T = Unit {0}} print_old print_new (Err stop) → print_old.refusals < print_new.refusals → code ≡ 28
+  memory_only : (stop : WriteStop) (code : ℕ) → code ≡ code_of (cut_status stop) → HasWriteCause {T = Unit {0}} print_old print_new (Err stop) →
+      print_old.refusals < print_new.refusals → code ≡ 28
   memory_only Failed code is cause more = none_more print_old.refusals print_new.refusals (cause.failed_alone refl) more
   memory_only NoMemory code is cause more = is
 
-  pub reported_print : (stop : WriteStop) (code : ℕ) → code ≡ code_of (cut_status stop) → HasWriteCause {T = Unit {0}} print_old print_new (Err stop) → IsReported before now code
+  pub reported_print : (stop : WriteStop) (code : ℕ) → code ≡ code_of (cut_status stop) → HasWriteCause {T = Unit {0}} print_old print_new (Err stop) →
+      IsReported before now code
   reported_print stop code is cause = record {
     print_fault = λ more. fault_only stop code is cause more;
     print_memory = λ more. memory_only stop code is cause more;
@@ -83,9 +87,11 @@ module _ (read_before read_now : ℕ) (print_old print_new punch_old punch_new :
 
   -- so where the last write to the punch came to this result, and the status is then that of its stop
   pub reported_punch : (result : Result (Unit {0}) WriteStop) (code : ℕ) → IfErr result (λ stop. code ≡ status_of (punch_end stop)) →
-      HasWriteCause {T = Unit {0}} print_old print_new (Ok tt) → HasWriteCause punch_old punch_new result → (read_before < read_now → code ≡ 24) → IsReported before now code
+      HasWriteCause {T = Unit {0}} print_old print_new (Ok tt) → HasWriteCause punch_old punch_new result → (read_before < read_now → code ≡ 24) →
+      IsReported before now code
   reported_punch (Ok done) code is cause punch read =
-      reported_other code cause read (λ more. none_more punch_old.faults punch_new.faults punch.no_fault more) (λ more. none_more punch_old.refusals punch_new.refusals punch.no_refusal more)
+      reported_other code cause read (λ more. none_more punch_old.faults punch_new.faults punch.no_fault more)
+      (λ more. none_more punch_old.refusals punch_new.refusals punch.no_refusal more)
   reported_punch (Err Failed) code is cause punch read =
       reported_other code cause read (λ more. is) (λ more. none_more punch_old.refusals punch_new.refusals (punch.failed_alone refl) more)
   reported_punch (Err NoMemory) code is cause punch read =

@@ -20,7 +20,8 @@ use Rattle.control_run.specs.Running.{Leads, Steps}
 use Rattle.run_machine.specs.Turning.{turn_of}
 
 -- the state with one more statement counted
-counted_stands : {cards : List (List ℕ)} {machine : Machine} {position executed : ℕ} {state : State} → Represents cards machine position executed state → Represents cards machine position (executed + 1) (counted state)
+counted_stands : {cards : List (List ℕ)} {machine : Machine} {position executed : ℕ} {state : State} → Represents cards machine position executed state →
+    Represents cards machine position (executed + 1) (counted state)
 counted_stands s = record {
   is_position = s.is_position;
   is_executed = ap (λ n. n + 1) s.is_executed;
@@ -32,7 +33,8 @@ counted_stands s = record {
 }
 
 -- the state at another position
-placed_stands : {cards : List (List ℕ)} {machine : Machine} {position executed : ℕ} {state : State} (to by : ℕ) → Represents cards machine position executed state → by ≡ to → Represents cards machine to executed (record state { position = by })
+placed_stands : {cards : List (List ℕ)} {machine : Machine} {position executed : ℕ} {state : State} (to by : ℕ) →
+    Represents cards machine position executed state → by ≡ to → Represents cards machine to executed (record state { position = by })
 placed_stands to by s e = record {
   is_position = e;
   is_executed = s.is_executed;
@@ -43,8 +45,10 @@ placed_stands to by s e = record {
   mark = s.mark;
 }
 
-module _ (S : Solving) (program : Program) (cards : List (List ℕ)) (position : ℕ) (statement : Statement ℕ) (there : slice_get program.statements (position - 1) ≡ Some statement) where
-  step_of : {machine : Machine} {executed : ℕ} {state : State} → Represents cards machine position executed state → executed < 100000 → (outcome : StatementOutcome) →
+module _ (S : Solving) (program : Program) (cards : List (List ℕ)) (position : ℕ) (statement : Statement ℕ)
+    (there : slice_get program.statements (position - 1) ≡ Some statement) where
+  step_of : {machine : Machine} {executed : ℕ} {state : State} → Represents cards machine position executed state → executed < 100000 →
+      (outcome : StatementOutcome) →
       Gives S statement.card (verb_move statement.verb statement.card (counted state)) outcome → Step S program state outcome
   step_of {state = state} s within outcome gives = record {
     statement = statement;
@@ -54,9 +58,15 @@ module _ (S : Solving) (program : Program) (cards : List (List ℕ)) (position :
   }
 
   leads_by : (old new : Machine) {executed : ℕ} {state : State} → Represents cards old position executed state → executed < 100000 → (gain : Gain) (act : Act) →
-      LeadsTo S statement.verb statement.card cards position (executed + 1) (counted state) new gain act → Leads S program cards executed state new gain (turn_of position act)
-  leads_by old new s within gain act.Next c =
-      (record (c.0) { position = c.0.position + 1 }, step_of s within _ c.1, placed_stands (position + 1) (c.0.position + 1) c.2 (ap (λ n. n + 1) c.2.is_position), omega arith)
+      LeadsTo S statement.verb statement.card cards position (executed + 1) (counted state) new gain act →
+      Leads S program cards executed state new gain (turn_of position act)
+  leads_by old new s within gain act.Next c = (
+    record (c.0) { position = c.0.position + 1 },
+    step_of s within _ c.1,
+    placed_stands (position + 1) (c.0.position + 1) c.2
+        (ap (λ n. n + 1) c.2.is_position),
+    omega arith,
+  )
   leads_by old new s within gain (act.Jump to) c = (record (c.0) { position = to }, step_of s within _ c.1, placed_stands to to c.2 refl, c.3)
   leads_by old new s within gain (act.Ends end) c = step_of s within _ c
 
@@ -73,7 +83,8 @@ module _ (S : Solving) (program : Program) (cards : List (List ℕ)) (position :
           punches = a.punches;
         }
 
-    pub steps_err : (from to punch_from punch_to : SinkState) (h : Halt) → Performs S statement.verb statement.card from to punch_from punch_to cards old new (Err h) →
+    pub steps_err : (from to punch_from punch_to : SinkState) (h : Halt) →
+        Performs S statement.verb statement.card from to punch_from punch_to cards old new (Err h) →
         Steps S program cards from to punch_from punch_to position old new (Err h)
     steps_err from to punch_from punch_to (halt.Print stop) performs = λ executed state within s.
         let a = performs position (executed + 1) (counted state) (counted_stands s) in

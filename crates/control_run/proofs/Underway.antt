@@ -43,7 +43,8 @@ module _ (S : Solving) (program : Program) (cards : List (List ℕ)) where
     pub punches : Writes {T = Unit {0}} punch_old punch_now (Ok tt) (card_text punched)
 
   -- a machine at the start of the run
-  pub underway_first : (print punch : SinkState) (machine : Machine) → IsSound cards machine → Represents cards machine 1 0 (start (decks_after program cards)) →
+  pub underway_first : (print punch : SinkState) (machine : Machine) → IsSound cards machine →
+      Represents cards machine 1 0 (start (decks_after program cards)) →
       IsUnderway print print punch punch machine 1 0
   underway_first print punch machine sound stands = record {
     sound = sound;
@@ -58,7 +59,8 @@ module _ (S : Solving) (program : Program) (cards : List (List ℕ)) where
     punches = writes_nothing punch tt;
   }
 
-  module _ {old now punch_old punch_now : SinkState} {machine : Machine} {position executed : ℕ} (u : IsUnderway old now punch_old punch_now machine position executed) where
+  module _ {old now punch_old punch_now : SinkState} {machine : Machine} {position executed : ℕ}
+      (u : IsUnderway old now punch_old punch_now machine position executed) where
     -- the run with one more statement, which goes on
     reaches_more : {after : State} (gain : Gain) → Step S program u.state (GoesOn gain after) →
         Reaches S program (decks_after program cards) (u.reports ++ printed_by gain) (u.punched ++ punched_by gain) after
@@ -75,7 +77,8 @@ module _ (S : Solving) (program : Program) (cards : List (List ℕ)) where
     punches_same : (later : SinkState) → later ≡ punch_now → Writes {T = Unit {0}} punch_old later (Ok tt) (card_text u.punched)
     punches_same later same = subst (λ (q : SinkState). Writes {T = Unit {0}} punch_old q (Ok tt) (card_text u.punched)) (sym same) u.punches
 
-  module _ {old now : SinkState} (later : SinkState) {punch_old punch_now : SinkState} (punch_later : SinkState) {machine : Machine} {position executed : ℕ} (u : IsUnderway old now punch_old punch_now machine position executed) where
+  module _ {old now : SinkState} (later : SinkState) {punch_old punch_now : SinkState} (punch_later : SinkState) {machine : Machine} {position executed : ℕ}
+      (u : IsUnderway old now punch_old punch_now machine position executed) where
     -- one more statement leads to another
     underway_more : {new : Machine} {to : ℕ} → executed < 100000 → IsSound cards new →
         Turns S program cards now later punch_now punch_later executed u.state new (Goes to) →
@@ -166,7 +169,8 @@ module _ (S : Solving) (program : Program) (cards : List (List ℕ)) where
 
   -- ---- the run is over
 
-  module _ {old now punch_old punch_now : SinkState} {machine : Machine} {position executed : ℕ} (u : IsUnderway old now punch_old punch_now machine position executed) where
+  module _ {old now punch_old punch_now : SinkState} {machine : Machine} {position executed : ℕ}
+      (u : IsUnderway old now punch_old punch_now machine position executed) where
     -- the program's end
     pub underway_over : length program.statements < position → RunsTo S program cards old now punch_old punch_now (Ok tt) (Ended 0)
     underway_over over = record {
@@ -194,7 +198,8 @@ module _ (S : Solving) (program : Program) (cards : List (List ℕ)) where
 
   -- ---- by what a statement's result is
 
-  pub underway_goes : {old now later punch_old punch_now punch_later : SinkState} {machine new : Machine} {position executed to : ℕ} (turn : AfterStatement) → turn ≡ Goes to →
+  pub underway_goes : {old now later punch_old punch_now punch_later : SinkState} {machine new : Machine} {position executed to : ℕ} (turn : AfterStatement) →
+      turn ≡ Goes to →
       (u : IsUnderway old now punch_old punch_now machine position executed) → executed < 100000 → IsSound cards new →
       Steps S program cards now later punch_now punch_later position machine new (Ok turn) →
       IsUnderway old later punch_old punch_later new to (executed + 1)
@@ -202,7 +207,8 @@ module _ (S : Solving) (program : Program) (cards : List (List ℕ)) where
       underway_more later punch_later u within sound
       (subst (λ (t : AfterStatement). Turns S program cards now later punch_now punch_later executed u.state new t) is (steps executed u.state within u.stands))
 
-  pub underway_ends : {old now later punch_old punch_now punch_later : SinkState} {machine : Machine} (new : Machine) {position executed : ℕ} (turn : AfterStatement) (end : End) → turn ≡ Ends end →
+  pub underway_ends : {old now later punch_old punch_now punch_later : SinkState} {machine : Machine} (new : Machine) {position executed : ℕ}
+      (turn : AfterStatement) (end : End) → turn ≡ Ends end →
       (u : IsUnderway old now punch_old punch_now machine position executed) → executed < 100000 →
       Steps S program cards now later punch_now punch_later position machine new (Ok turn) →
       RunsTo S program cards old later punch_old punch_later (Ok tt) (end_view end)
@@ -211,10 +217,13 @@ module _ (S : Solving) (program : Program) (cards : List (List ℕ)) where
       (subst (λ (t : AfterStatement). Turns S program cards now later punch_now punch_later executed u.state new t) is (steps executed u.state within u.stands))
 
   -- a statement comes to nothing
-  pub underway_halted : {old now : SinkState} (later : SinkState) {punch_old punch_now : SinkState} (punch_later : SinkState) {machine : Machine} (new : Machine) {position executed : ℕ} (h : Halt) →
+  pub underway_halted : {old now : SinkState} (later : SinkState) {punch_old punch_now : SinkState} (punch_later : SinkState) {machine : Machine}
+      (new : Machine) {position executed : ℕ} (h : Halt) →
       (u : IsUnderway old now punch_old punch_now machine position executed) → executed < 100000 →
       Steps S program cards now later punch_now punch_later position machine new (Err h) →
       Runs S program cards old later punch_old punch_later (Err h)
   underway_halted later punch_later new halt.NoMemory u within steps = underway_without_memory later punch_later u steps.0 steps.1
-  underway_halted later punch_later new {executed = executed} (halt.Print stop) u within steps = underway_cut later punch_later u stop (steps executed u.state within u.stands)
-  underway_halted later punch_later new {executed = executed} (halt.Punch stop) u within steps = underway_deck_cut later punch_later u stop (steps executed u.state within u.stands)
+  underway_halted later punch_later new {executed = executed} (halt.Print stop) u within steps =
+      underway_cut later punch_later u stop (steps executed u.state within u.stands)
+  underway_halted later punch_later new {executed = executed} (halt.Punch stop) u within steps =
+      underway_deck_cut later punch_later u stop (steps executed u.state within u.stands)

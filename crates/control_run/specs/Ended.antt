@@ -25,7 +25,8 @@ module _ (S : Solving) (program : Program) (cards : List (List ℕ)) (print_old 
         (Rose punch_old.faults punch_new.faults) (Rose punch_old.refusals punch_new.refusals)
         (code_of status) print_old.written print_new.written punch_old.written punch_new.written
     pub answer : (job : Job) (bytes : List ℕ) → bytes_of job ≡ Some bytes → IsProgramOf bytes program → cards ≡ cards_of bytes →
-        IsAnswered S job (failures_in_run (Rose print_old.faults print_new.faults) (Rose punch_old.faults punch_new.faults) (Rose print_old.refusals print_new.refusals))
+        IsAnswered S job
+        (failures_in_run (Rose print_old.faults print_new.faults) (Rose punch_old.faults punch_new.faults) (Rose print_old.refusals print_new.refusals))
         (code_of status) (Appends print_old.written print_new.written) (Appends punch_old.written punch_new.written)
     pub print_fault : status ≡ PrintFault → Rose print_old.faults print_new.faults
     pub punch_fault : status ≡ PunchFault → Rose punch_old.faults punch_new.faults

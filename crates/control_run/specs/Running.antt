@@ -83,7 +83,8 @@ module _ (S : Solving) (program : Program) (cards : List (List ℕ)) where
 
   -- What a run may be answered: the status of an end, with the whole listing, and with what the punch has gained by this end; or the
   -- print has failed, or run out of memory itself, and has stopped in a report or in the lines of an end.
-  pub data IsRunAnswer (print_failed print_wanted punch_failed punch_wanted : Type 0) (status : ℕ) (old new punch_old punch_new : Option (List ℕ)) : Type 0 where
+  pub data IsRunAnswer (print_failed print_wanted punch_failed punch_wanted : Type 0) (status : ℕ)
+      (old new punch_old punch_new : Option (List ℕ)) : Type 0 where
     whole : {reports : List Report} {punched deck : List (List ℕ)} {ending : Ending} → CanEnd punch_failed punch_wanted reports punched deck ending →
         status ≡ status_of ending → Appends old new (listing reports ending) → GainsBy ending punched deck punch_old punch_new →
         IsRunAnswer print_failed print_wanted punch_failed punch_wanted status old new punch_old punch_new
@@ -117,9 +118,12 @@ module _ (S : Solving) (program : Program) (cards : List (List ℕ)) where
     -- What executing the statement at a position does from each state that the machine showed. Where there is no memory, nothing is
     -- printed and nothing is punched.
     abbrev pub Steps : ℕ → Machine → Machine → Result AfterStatement Halt → Type 0
-    Steps position old new (Ok turn) = (executed : ℕ) (state : State) → executed < max_executed → Represents cards old position executed state → Turns executed state new turn
-    Steps position old new (Err (halt.Print stop)) = (executed : ℕ) (state : State) → executed < max_executed → Represents cards old position executed state → IsStepCut state stop
-    Steps position old new (Err (halt.Punch stop)) = (executed : ℕ) (state : State) → executed < max_executed → Represents cards old position executed state → IsDeckCut state stop
+    Steps position old new (Ok turn) =
+        (executed : ℕ) (state : State) → executed < max_executed → Represents cards old position executed state → Turns executed state new turn
+    Steps position old new (Err (halt.Print stop)) =
+        (executed : ℕ) (state : State) → executed < max_executed → Represents cards old position executed state → IsStepCut state stop
+    Steps position old new (Err (halt.Punch stop)) =
+        (executed : ℕ) (state : State) → executed < max_executed → Represents cards old position executed state → IsDeckCut state stop
     Steps position old new (Err halt.NoMemory) = (print_new ≡ print_old) × (punch_new ≡ punch_old)
 
     -- how the run can end, where the punch has failed or run out of memory only as its counts say

@@ -37,7 +37,8 @@ fn execute<E: Engine, P: Sink, U: Sink>(
 ) -> Result<Act, Halt>
     requires sound { IsSound cards.now machine.old }
     requires verb { IsSoundVerb (viewed statement.now.verb) }
-    ensures acts { Performs linear_programming_of_128_bits (viewed statement.now.verb) statement.now.card
+    ensures acts { Performs linear_programming_of_128_bits
+        (viewed statement.now.verb) statement.now.card
         (P.taken print.old) (P.taken print.new) (U.taken punch.old) (U.taken punch.new)
         cards.now machine.old machine.new result }
     ensures sound { IsSound cards.now machine.new }

@@ -53,20 +53,27 @@ module _ (p : ℕ → Bool) where
   split_at_place apart (byte ∷ text) false lt = by (p byte) refl lt (split_at_place apart text (next_inside false byte))
     where
       by : (t : Bool) → p byte ≡ t → cond (not t) (1 + place_from (next_inside false byte) text) 0 < suc (length text)
-          → (place_from (next_inside false byte) text < length text → split_from (next_inside false byte) text ≡ take (place_from (next_inside false byte) text) text ∷ split_from false (drop (place_from (next_inside false byte) text + 1) text))
-          → map (λ part. map (λ entry. entry.1) part) (cond t ([] ∷ slice_split (outside p) (marked_from (next_inside false byte) text)) (onto_first (false, byte) (slice_split (outside p) (marked_from (next_inside false byte) text))))
-          ≡ take (cond (not t) (1 + place_from (next_inside false byte) text) 0) (byte ∷ text) ∷ split_from false (drop (cond (not t) (1 + place_from (next_inside false byte) text) 0 + 1) (byte ∷ text))
+          → (place_from (next_inside false byte) text < length text
+          → split_from (next_inside false byte) text ≡ take (place_from (next_inside false byte) text) text ∷ split_from false
+          (drop (place_from (next_inside false byte) text + 1) text))
+          → map (λ part. map (λ entry. entry.1) part)
+          (cond t ([] ∷ slice_split (outside p) (marked_from (next_inside false byte) text))
+          (onto_first (false, byte) (slice_split (outside p) (marked_from (next_inside false byte) text))))
+          ≡ take (cond (not t) (1 + place_from (next_inside false byte) text) 0) (byte ∷ text) ∷ split_from false
+          (drop (cond (not t) (1 + place_from (next_inside false byte) text) 0 + 1) (byte ∷ text))
       by true e lt rest = rw (apart byte e) refl
       by false e lt rest =
           let n = place_from (next_inside false byte) text in
           let next : 1 + n ≡ suc n = omega arith in
           let after : suc n + 1 ≡ suc (n + 1) = omega arith in
-          onto_first_part (false, byte) (slice_split (outside p) (marked_from (next_inside false byte) text)) ∙ ap (onto_first byte) (rest (omega arith)) ∙ rw (next, after) refl
+          onto_first_part (false, byte) (slice_split (outside p) (marked_from (next_inside false byte) text)) ∙ ap (onto_first byte) (rest (omega arith))
+          ∙ rw (next, after) refl
   split_at_place apart (byte ∷ text) true lt =
       let n = place_from (next_inside true byte) text in
       let next : 1 + n ≡ suc n = omega arith in
       let after : suc n + 1 ≡ suc (n + 1) = omega arith in
-      onto_first_part (true, byte) (slice_split (outside p) (marked_from (next_inside true byte) text)) ∙ ap (onto_first byte) (split_at_place apart text (next_inside true byte) (omega arith)) ∙ rw (next, after) refl
+      onto_first_part (true, byte) (slice_split (outside p) (marked_from (next_inside true byte) text))
+      ∙ ap (onto_first byte) (split_at_place apart text (next_inside true byte) (omega arith)) ∙ rw (next, after) refl
 
   -- where none is found, the text is the one part
   split_nowhere : (text : List ℕ) (inside : Bool) → length text ≤ place_from inside text → split_from inside text ≡ text ∷ []
@@ -75,9 +82,12 @@ module _ (p : ℕ → Bool) where
     where
       by : (t : Bool) → suc (length text) ≤ cond (not t) (1 + place_from (next_inside inside byte) text) 0
           → (length text ≤ place_from (next_inside inside byte) text → split_from (next_inside inside byte) text ≡ text ∷ [])
-          → map (λ part. map (λ entry. entry.1) part) (cond t ([] ∷ slice_split (outside p) (marked_from (next_inside inside byte) text)) (onto_first (inside, byte) (slice_split (outside p) (marked_from (next_inside inside byte) text)))) ≡ (byte ∷ text) ∷ []
+          → map (λ part. map (λ entry. entry.1) part)
+          (cond t ([] ∷ slice_split (outside p) (marked_from (next_inside inside byte) text))
+          (onto_first (inside, byte) (slice_split (outside p) (marked_from (next_inside inside byte) text)))) ≡ (byte ∷ text) ∷ []
       by true le rest = absurd (omega arith)
-      by false le rest = onto_first_part (inside, byte) (slice_split (outside p) (marked_from (next_inside inside byte) text)) ∙ ap (onto_first byte) (rest (omega arith))
+      by false le rest =
+          onto_first_part (inside, byte) (slice_split (outside p) (marked_from (next_inside inside byte) text)) ∙ ap (onto_first byte) (rest (omega arith))
 
 -- a comma is no quote
 comma_is_no_quote : (byte : ℕ) → is_comma byte ≡ true → is_quote byte ≡ false
@@ -92,7 +102,9 @@ first_part n text place lt = rw place (split_at_place is_comma comma_is_no_quote
 pub first_part_cut : (n : ℕ) (text : List ℕ) → n ≡ position_or_len (outside is_comma) (marked text) → n < length text
     → split_outside is_comma text ≡ take n text ∷ split_outside is_comma (take (length text - (n + 1)) (drop (n + 1) text))
 first_part_cut n text place lt =
-    first_part n text place lt ∙ ap (λ rest. take n text ∷ split_outside is_comma rest) (sym (take_all (length text - (n + 1)) (drop (n + 1) text) (omega (arith, length-drop (n + 1) text))))
+    first_part n text place lt
+    ∙ ap (λ rest. take n text ∷ split_outside is_comma rest)
+    (sym (take_all (length text - (n + 1)) (drop (n + 1) text) (omega (arith, length-drop (n + 1) text))))
 
 -- A text has an argument, so that with one before it there are two.
 two_at_least : (first : List ℕ) (parts : List (List ℕ)) → 0 < length parts → only_part (first ∷ parts) ≡ None

@@ -26,11 +26,13 @@ quotation_is (byte ∷ text) = by (is_quote byte)
   where
     decided : (inner : List ℕ) (ends : Bool)
         → (if ends && not (list_any is_quote inner) then Some inner else None) ≡ option_and_then without_quotes (if ends then Some inner else None)
-    decided inner true = elim (list_any is_quote inner) as (λ any. (if not any then Some inner else None) ≡ (if any then None else Some inner)) [ true ↦ refl | false ↦ refl ]
+    decided inner true =
+        elim (list_any is_quote inner) as (λ any. (if not any then Some inner else None) ≡ (if any then None else Some inner)) [ true ↦ refl | false ↦ refl ]
     decided inner false = refl
 
     by : (t : Bool)
-        → (if (t && bytes_eq text (take (suc (length text) - 2) text ++ 39 ∷ [])) && not (list_any is_quote (take (suc (length text) - 2) text)) then Some (take (suc (length text) - 2) text) else None)
+        → (if (t && bytes_eq text (take (suc (length text) - 2) text ++ 39 ∷ [])) && not (list_any is_quote (take (suc (length text) - 2) text)) then Some
+        (take (suc (length text) - 2) text) else None)
         ≡ option_and_then without_quotes (option_and_then before_quote (if t then Some text else None))
     by true =
         let less : suc (length text) - 2 ≡ length text - 1 = omega arith in

@@ -38,11 +38,15 @@ no_value_fault column field h = by (number_fault field) h
 
 module _ (seen : Problem Name) (section : Section) where
   -- an entry at the end, on a row that is there and that has none yet
-  entry-added : (taken : List (Entry Name)) (entry : Entry Name) → AreLawfulEntries seen.rows taken → has_row seen.rows entry.row ≡ true → has_entry taken entry.row ≡ false → IsDecimal entry.value
+  entry-added : (taken : List (Entry Name)) (entry : Entry Name) → AreLawfulEntries seen.rows taken → has_row seen.rows entry.row ≡ true
+      → has_entry taken entry.row ≡ false → IsDecimal entry.value
       → AreLawfulEntries seen.rows (taken ++ entry ∷ [])
   entry-added taken entry lawful there new value = record {
     on_rows = each-push (λ e. has_row seen.rows e.row ≡ true) taken entry lawful.on_rows there;
-    distinct = subst (IsDistinct same) (sym (map-append (λ e. e.row) taken (entry ∷ []))) (distinct-push same (map (λ e. e.row) taken) entry.row lawful.distinct (absent-apart (map (λ e. e.row) taken) entry.row (sym (rows_of taken) ∙ new)));
+    distinct =
+        subst (IsDistinct same) (sym (map-append (λ e. e.row) taken (entry ∷ [])))
+        (distinct-push same (map (λ e. e.row) taken) entry.row lawful.distinct
+        (absent-apart (map (λ e. e.row) taken) entry.row (sym (rows_of taken) ∙ new)));
     values = each-push (λ e. IsDecimal e.value) taken entry lawful.values value;
   }
     where
@@ -85,15 +89,20 @@ module _ (seen : Problem Name) (section : Section) where
     first : PairPasses taken count pair
     others : pairs_fault seen section (taken ++ entry_of pair ∷ []) (count + 1) pairs ≡ None
 
-  pairs-pass : (taken : List (Entry Name)) (count : ℕ) (pair : Pair) (pairs : List Pair) → pairs_fault seen section taken count (pair ∷ pairs) ≡ None → PairsPass taken count pair pairs
+  pairs-pass : (taken : List (Entry Name)) (count : ℕ) (pair : Pair) (pairs : List Pair) → pairs_fault seen section taken count (pair ∷ pairs) ≡ None →
+      PairsPass taken count pair pairs
   pairs-pass taken count pair pairs fine =
-      let both : option_or (pair_fault seen section taken count pair) (pairs_fault seen section (taken ++ entry_of pair ∷ []) (count + 1) pairs) ≡ None = sym (pairs_fault-cons seen section taken count pair pairs) ∙ fine in
+      let both : option_or (pair_fault seen section taken count pair) (pairs_fault seen section (taken ++ entry_of pair ∷ []) (count + 1) pairs) ≡ None =
+      sym (pairs_fault-cons seen section taken count pair pairs) ∙ fine in
       record {
-        first = pair-passes taken count pair (no_first (pair_fault seen section taken count pair) (pairs_fault seen section (taken ++ entry_of pair ∷ []) (count + 1) pairs) both);
+        first =
+            pair-passes taken count pair
+            (no_first (pair_fault seen section taken count pair) (pairs_fault seen section (taken ++ entry_of pair ∷ []) (count + 1) pairs) both);
         others = no_second (pair_fault seen section taken count pair) (pairs_fault seen section (taken ++ entry_of pair ∷ []) (count + 1) pairs) both;
       }
 
-  pub pairs-lawful : (taken : List (Entry Name)) (count : ℕ) (pairs : List Pair) → AllByRecursion (λ (pair : Pair). length pair.value ≤ 12) pairs → AreLawfulEntries seen.rows taken
+  pub pairs-lawful : (taken : List (Entry Name)) (count : ℕ) (pairs : List Pair) → AllByRecursion (λ (pair : Pair). length pair.value ≤ 12) pairs
+      → AreLawfulEntries seen.rows taken
       → pairs_fault seen section taken count pairs ≡ None → AreLawfulEntries seen.rows (taken ++ map entry_of pairs)
   pairs-lawful taken count [] short lawful fine = subst (AreLawfulEntries seen.rows) (sym (append-nil taken)) lawful
   pairs-lawful taken count (pair ∷ pairs) short lawful fine =
@@ -104,23 +113,32 @@ module _ (seen : Problem Name) (section : Section) where
       pass.others)
 
   -- no range stands on a free row
-  pub pairs-limited : (taken : List (Entry Name)) (count : ℕ) (pairs : List Pair) → is_section Ranges section ≡ true → pairs_fault seen section taken count pairs ≡ None
+  pub pairs-limited : (taken : List (Entry Name)) (count : ℕ) (pairs : List Pair) → is_section Ranges section ≡ true
+      → pairs_fault seen section taken count pairs ≡ None
       → AllByRecursion (λ (entry : Entry Name). has_free_row seen.rows entry.row ≡ false) (map entry_of pairs)
   pairs-limited taken count [] ranges fine = tt
   pairs-limited taken count (pair ∷ pairs) ranges fine =
-      let pass = pairs-pass taken count pair pairs fine in
-      (subst (λ b. (b && has_free_row seen.rows pair.row) ≡ false) ranges pass.first.unfree, pairs-limited (taken ++ entry_of pair ∷ []) (count + 1) pairs ranges pass.others)
+      let pass = pairs-pass taken count pair pairs fine in (
+        subst (λ b. (b && has_free_row seen.rows pair.row) ≡ false) ranges pass.first.unfree,
+        pairs-limited (taken ++ entry_of pair ∷ [])
+            (count + 1) pairs ranges pass.others,
+      )
 
   -- no entry of a column stands on a combination
-  pub pairs-plain : (taken : List (Entry Name)) (count : ℕ) (pairs : List Pair) → is_section Columns section ≡ true → pairs_fault seen section taken count pairs ≡ None
+  pub pairs-plain : (taken : List (Entry Name)) (count : ℕ) (pairs : List Pair) → is_section Columns section ≡ true
+      → pairs_fault seen section taken count pairs ≡ None
       → AllByRecursion (λ (entry : Entry Name). has_combination seen.rows entry.row ≡ false) (map entry_of pairs)
   pairs-plain taken count [] columns fine = tt
   pairs-plain taken count (pair ∷ pairs) columns fine =
-      let pass = pairs-pass taken count pair pairs fine in
-      (subst (λ b. (b && has_combination seen.rows pair.row) ≡ false) columns pass.first.uncombined, pairs-plain (taken ++ entry_of pair ∷ []) (count + 1) pairs columns pass.others)
+      let pass = pairs-pass taken count pair pairs fine in (
+        subst (λ b. (b && has_combination seen.rows pair.row) ≡ false) columns pass.first.uncombined,
+        pairs-plain (taken ++ entry_of pair ∷ [])
+            (count + 1) pairs columns pass.others,
+      )
 
   -- the entries of all columns are no more than the limit allows
-  pub pairs-few : (taken : List (Entry Name)) (count : ℕ) (pairs : List Pair) → is_section Columns section ≡ true → count ≤ MAX_ENTRIES → pairs_fault seen section taken count pairs ≡ None
+  pub pairs-few : (taken : List (Entry Name)) (count : ℕ) (pairs : List Pair) → is_section Columns section ≡ true → count ≤ MAX_ENTRIES
+      → pairs_fault seen section taken count pairs ≡ None
       → count + length (map entry_of pairs) ≤ MAX_ENTRIES
   pairs-few taken count [] columns few fine = omega (arith, few)
   pairs-few taken count (pair ∷ pairs) columns few fine =
@@ -135,7 +153,8 @@ added_some [] card = refl
 added_some (item ∷ items) card = refl
 
 -- no pair of a card that isn't a marker is on a row of its name
-pub pairs-unmarked : (card : Reading) → (same marker card.name2 || same marker card.name3) ≡ false → AllByRecursion (λ (entry : Entry Name). same marker entry.row ≡ false) (map entry_of (pairs_of card))
+pub pairs-unmarked : (card : Reading) → (same marker card.name2 || same marker card.name3) ≡ false →
+    AllByRecursion (λ (entry : Entry Name). same marker entry.row ≡ false) (map entry_of (pairs_of card))
 pairs-unmarked card h = (first (same marker card.name2) h, by (is_empty card.name3 && is_empty card.value2))
   where
     first : (a : Bool) → (a || same marker card.name3) ≡ false → a ≡ false
@@ -146,6 +165,8 @@ pairs-unmarked card h = (first (same marker card.name2) h, by (is_empty card.nam
     second true e = absurd (cc e)
     second false e = e
 
-    by : (b : Bool) → AllByRecursion (λ (entry : Entry Name). same marker entry.row ≡ false) (map entry_of (cond b [] (record { row = card.name3; value = card.value2; column = card.value2_column } ∷ [])))
+    by : (b : Bool) →
+        AllByRecursion (λ (entry : Entry Name). same marker entry.row ≡ false)
+        (map entry_of (cond b [] (record { row = card.name3; value = card.value2; column = card.value2_column } ∷ [])))
     by true = tt
     by false = (second (same marker card.name2) h, tt)

@@ -56,7 +56,11 @@ word-name text short is = record { short = short; printable = word-printable tex
 -- no text of a list is longer
 short-each : (most : ℕ) (texts : List (List ℕ)) → list_any (is_longer most) texts ≡ false → AllByRecursion (λ text. length text ≤ most) texts
 short-each most [] none = tt
-short-each most (text ∷ texts) none = (short (is_longer most text) refl (first (is_longer most text) (list_any (is_longer most) texts) none), short-each most texts (second (is_longer most text) (list_any (is_longer most) texts) none))
+short-each most (text ∷ texts) none = (
+  short (is_longer most text) refl (first (is_longer most text) (list_any (is_longer most) texts) none),
+  short-each most texts
+      (second (is_longer most text) (list_any (is_longer most) texts) none),
+)
   where
     first : (a b : Bool) → (a || b) ≡ false → a ≡ false
     first true b none = none
@@ -88,7 +92,8 @@ words-short lists card read formed =
     record { names = unreported _ LongName reported.1.0; numbers = unreported _ LongNumber reported.1.1.0 }
 
 module _ (section : Section) (deletes : Bool) (card : List ℕ) where
-  free-lawful : list_all is_printable card ≡ true → form_fault FreeFields section deletes card ≡ None → IsReading (reading_of (form_on FreeFields section deletes card) card)
+  free-lawful : list_all is_printable card ≡ true → form_fault FreeFields section deletes card ≡ None →
+      IsReading (reading_of (form_on FreeFields section deletes card) card)
   unfolding reading_of
   free-lawful printable formed = record {
     name1 = word-name (text 2) names.0 (is 2);
@@ -109,7 +114,8 @@ module _ (section : Section) (deletes : Bool) (card : List ℕ) where
 
       short : AreShort (reading_of (form_on FreeFields section deletes card) card)
       short = words-short (words_on section deletes (first_word card)) card (reading_of (form_on FreeFields section deletes card) card)
-          (passes ((if deletes then None else type_fault section (first_word card)) ∷ words_fault (words_on section deletes (first_word card)) card (reading_of (form_on FreeFields section deletes card) card) ∷ []) formed).1.0
+          (passes ((if deletes then None else type_fault section (first_word card)) ∷ words_fault (words_on section deletes (first_word card)) card
+          (reading_of (form_on FreeFields section deletes card) card) ∷ []) formed).1.0
 
       names : AllByRecursion (λ text. length text ≤ 8) (text 2 ∷ text 3 ∷ text 5 ∷ [])
       names = short-each 8 (text 2 ∷ text 3 ∷ text 5 ∷ []) short.names
@@ -118,7 +124,8 @@ module _ (section : Section) (deletes : Bool) (card : List ℕ) where
       numbers = short-each 12 (text 4 ∷ text 6 ∷ []) short.numbers
 
   -- a printable card that has its form reads as names and fields of numbers
-  pub reading-lawful : (style : Style) → list_all is_printable card ≡ true → form_fault style section deletes card ≡ None → IsReading (reading_of (form_on style section deletes card) card)
+  pub reading-lawful : (style : Style) → list_all is_printable card ≡ true → form_fault style section deletes card ≡ None →
+      IsReading (reading_of (form_on style section deletes card) card)
   reading-lawful FixedFields printable formed = fixed-lawful card printable
   reading-lawful FreeFields printable formed = free-lawful printable formed
 
@@ -140,5 +147,7 @@ pairs-short card reads = (reads.value1, pair-short card.name3 card.value2 card.v
 
 -- and so have those of a combination
 pub part_pairs-short : (card : Reading) → IsReading card → AllByRecursion (λ (pair : Pair). length pair.value ≤ 12) (part_pairs_of card)
-part_pairs-short card reads = each-append (λ (pair : Pair). length pair.value ≤ 12) (pair_if card.name2 card.value1 card.value1_column) (pair_if card.name3 card.value2 card.value2_column)
+part_pairs-short card reads =
+    each-append (λ (pair : Pair). length pair.value ≤ 12) (pair_if card.name2 card.value1 card.value1_column)
+    (pair_if card.name3 card.value2 card.value2_column)
     (pair-short card.name2 card.value1 card.value1_column reads.value1) (pair-short card.name3 card.value2 card.value2_column reads.value2)

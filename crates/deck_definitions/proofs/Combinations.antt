@@ -27,8 +27,11 @@ abbrev part : String → String → Entry Name
 part row value = record { row = codes row; value = decimal_of (codes value) }
 
 -- three parts on two cards with a comment between them, one without parts, and one of a combination
-parts_in_order : (described [] (of_deck ("NAME" ∷ "ROWS" ∷ " N  COST" ∷ " L  A" ∷ " DL S         A         1              COST      -1" ∷ " DE U" ∷ " DN V         S         2" ∷ " DN V                                  A         3" ∷ []))).rows
-    ≡ plain_row N (codes "COST") ∷ plain_row L (codes "A") ∷ combination L (codes "S") (part "A" "1" ∷ part "COST" "-1" ∷ []) ∷ combination E (codes "U") [] ∷ combination N (codes "V") (part "S" "2" ∷ part "A" "3" ∷ []) ∷ []
+parts_in_order :
+    (described []
+    (of_deck ("NAME" ∷ "ROWS" ∷ " N  COST" ∷ " L  A" ∷ " DL S         A         1              COST      -1" ∷ " DE U" ∷ " DN V         S         2" ∷ " DN V                                  A         3" ∷ []))).rows
+    ≡ plain_row N (codes "COST") ∷ plain_row L (codes "A") ∷ combination L (codes "S") (part "A" "1" ∷ part "COST" "-1" ∷ []) ∷ combination E
+    (codes "U") [] ∷ combination N (codes "V") (part "S" "2" ∷ part "A" "3" ∷ []) ∷ []
 unfolding described reading_of
 parts_in_order = refl
 
@@ -95,7 +98,8 @@ unfolding deck_fault card_fault described reading_of number_fault
 without_name = refl
 
 -- a skipped card between two cards of a combination doesn't part them, and a right-hand side may stand on it
-note_between : after_s ("* note" ∷ " DL S         COST      -1" ∷ "COLUMNS" ∷ "    X         A         1" ∷ "RHS" ∷ "    B         S         4" ∷ "ENDATA" ∷ []) ≡ None
+note_between : after_s
+    ("* note" ∷ " DL S         COST      -1" ∷ "COLUMNS" ∷ "    X         A         1" ∷ "RHS" ∷ "    B         S         4" ∷ "ENDATA" ∷ []) ≡ None
 unfolding deck_fault card_fault described reading_of number_fault
 note_between = refl
 
@@ -110,12 +114,15 @@ unfolding deck_fault card_fault described reading_of number_fault
 combination_first = refl
 
 -- a combination of a combination, by numbers
-by_number : option_map (λ (problem : Problem ℕ). map (λ row. option_map (map (λ part. part.row)) row.parts) problem.rows) (result_ok (conversion (of_deck ("NAME" ∷ "ROWS" ∷ " N  COST" ∷ " G  A" ∷ " DL S         A         .5" ∷ " DG U         S         4              A         -1" ∷ "COLUMNS" ∷ "ENDATA" ∷ [])) None))
+by_number : option_map (λ (problem : Problem ℕ). map (λ row. option_map (map (λ part. part.row)) row.parts) problem.rows)
+    (result_ok (conversion
+    (of_deck ("NAME" ∷ "ROWS" ∷ " N  COST" ∷ " G  A" ∷ " DL S         A         .5" ∷ " DG U         S         4              A         -1" ∷ "COLUMNS" ∷ "ENDATA" ∷ [])) None))
     ≡ Some (None ∷ None ∷ Some (2 ∷ []) ∷ Some (3 ∷ 2 ∷ []) ∷ [])
 unfolding conversion numbered deck_fault card_fault described reading_of number_fault
 by_number = refl
 
-written_parts : row_cards (combination L (codes "S") (part "A" "1" ∷ part "COST" "-1" ∷ [])) ≡ codes " DL S         A         1" ∷ codes " DL S         COST      -1" ∷ []
+written_parts : row_cards
+    (combination L (codes "S") (part "A" "1" ∷ part "COST" "-1" ∷ [])) ≡ codes " DL S         A         1" ∷ codes " DL S         COST      -1" ∷ []
 unfolding data_card
 written_parts = refl
 

@@ -35,10 +35,12 @@ record DataPasses (seen : Problem Name) (style : Style) (section : Option Sectio
   formed : form_fault style place false card ≡ None
   fine : section_fault seen place (reading_of (form_on style place false card) card) ≡ None
 
-data-passes : (seen : Problem Name) (style : Style) (section : Option Section) (card : List ℕ) → data_card_fault seen style section card ≡ None → DataPasses seen style section card
+data-passes : (seen : Problem Name) (style : Style) (section : Option Section) (card : List ℕ) → data_card_fault seen style section card ≡ None →
+    DataPasses seen style section card
 data-passes seen style section card = by section
   where
-    in_place : (place : Section) → first_fault (form_fault style place false card ∷ section_fault seen place (reading_of (form_on style place false card) card) ∷ []) ≡ None
+    in_place : (place : Section)
+        → first_fault (form_fault style place false card ∷ section_fault seen place (reading_of (form_on style place false card) card) ∷ []) ≡ None
         → DataPasses seen style (Some place) card
     in_place place h =
         let both = passes (form_fault style place false card ∷ section_fault seen place (reading_of (form_on style place false card) card) ∷ []) h in
@@ -55,30 +57,41 @@ data-passes seen style section card = by section
     by (Some Endata) h = in_place Endata h
 
 -- an accepted card keeps what holds of the problem described
-accepted-card : (before : List Card) (card : Card) → list_all is_printable card.bytes ≡ true → IsLawful (described [] before) → card_fault before card.bytes ≡ None → IsLawful (described [] (before ++ card ∷ []))
+accepted-card : (before : List Card) (card : Card) → list_all is_printable card.bytes ≡ true → IsLawful (described [] before) →
+    card_fault before card.bytes ≡ None → IsLawful (described [] (before ++ card ∷ []))
 unfolding card_fault
 accepted-card before card printable lawful fine = by (is_section_card card.bytes) refl fine
   where
-    by : (b : Bool) → is_section_card card.bytes ≡ b → cond b (section_card_fault may_follow (section_after before) card.bytes) (data_card_fault (described [] before) (style_of before) (section_after before) card.bytes) ≡ None
+    by : (b : Bool) → is_section_card card.bytes ≡ b
+        → cond b (section_card_fault may_follow (section_after before) card.bytes)
+        (data_card_fault (described [] before) (style_of before) (section_after before) card.bytes) ≡ None
         → IsLawful (described [] (before ++ card ∷ []))
     by true e h = subst IsLawful (sym (described-section [] before card e)) lawful
     by false e h =
         let pass = data-passes (described [] before) (style_of before) (section_after before) card.bytes h in
         let read = reading_of (form_on (style_of before) pass.place false card.bytes) card.bytes in
-        let read_so : read_after before card ≡ read = ap (λ section. reading_of (form_on (style_of before) (unwrap_or section Header) false card.bytes) card.bytes) pass.stands in
-        subst IsLawful (sym (described-data [] before card pass.place e pass.stands ∙ ap (λ reading. with_card pass.place reading (described [] before)) read_so))
+        let read_so : read_after before card ≡ read =
+        ap (λ section. reading_of (form_on (style_of before) (unwrap_or section Header) false card.bytes) card.bytes) pass.stands in
+        subst IsLawful
+        (sym (described-data [] before card pass.place e pass.stands ∙ ap (λ reading. with_card pass.place reading (described [] before)) read_so))
         (card-step (described [] before) lawful read (reading-lawful pass.place false card.bytes (style_of before) printable pass.formed) pass.place pass.fine)
 
 no_kind : {A B : Type 0} (f : A → B) (o : Option A) → option_map f o ≡ None → o ≡ None
 no_kind f None h = refl
 no_kind f (Some x) h = absurd (cc h)
 
-accepted-cards : (before after : List Card) → ArePrintableCards after → IsLawful (described [] before) → first_faulty card_fault before after ≡ None → IsLawful (described [] (before ++ after))
+accepted-cards : (before after : List Card) → ArePrintableCards after → IsLawful (described [] before) → first_faulty card_fault before after ≡ None →
+    IsLawful (described [] (before ++ after))
 accepted-cards before [] printable lawful fine = subst (λ cards. IsLawful (described [] cards)) (sym (append-nil before)) lawful
 accepted-cards before (card ∷ after) printable lawful fine =
-    let kind = no_first (option_map (λ kind. record { card = card.number; kind = kind }) (card_fault before card.bytes)) (first_faulty card_fault (before ++ card ∷ []) after) fine in
-    let rest = no_second (option_map (λ kind. record { card = card.number; kind = kind }) (card_fault before card.bytes)) (first_faulty card_fault (before ++ card ∷ []) after) fine in
-    let step = accepted-card before card printable.0 lawful (no_kind (λ kind. record { card = card.number; kind = kind }) (card_fault before card.bytes) kind) in
+    let kind =
+    no_first (option_map (λ kind. record { card = card.number; kind = kind }) (card_fault before card.bytes))
+    (first_faulty card_fault (before ++ card ∷ []) after) fine in
+    let rest =
+    no_second (option_map (λ kind. record { card = card.number; kind = kind }) (card_fault before card.bytes))
+    (first_faulty card_fault (before ++ card ∷ []) after) fine in
+    let step =
+    accepted-card before card printable.0 lawful (no_kind (λ kind. record { card = card.number; kind = kind }) (card_fault before card.bytes) kind) in
     subst (λ cards. IsLawful (described [] cards)) (append_assoc before (card ∷ []) after) (accepted-cards (before ++ card ∷ []) after printable.1 step rest)
 
 -- no cards describe a lawful problem
@@ -114,9 +127,11 @@ renamed name cards lawful = record {
 }
 
 -- The cards in which no fault was found describe a problem.
-pub described-problem : (name : Name) (cards : List Card) → IsName name → ArePrintableCards cards → first_faulty card_fault [] cards ≡ None → IsProblem (numbered (described name cards))
+pub described-problem : (name : Name) (cards : List Card) → IsName name → ArePrintableCards cards → first_faulty card_fault [] cards ≡ None →
+    IsProblem (numbered (described name cards))
 unfolding described
-described-problem name cards named printable fine = lawful-numbered (described name cards) named (renamed name cards (accepted-cards [] cards printable nothing fine))
+described-problem name cards named printable fine =
+    lawful-numbered (described name cards) named (renamed name cards (accepted-cards [] cards printable nothing fine))
 
 pub printable_live : (cards : List Card) → ArePrintableCards cards → ArePrintableCards (live cards)
 printable_live [] printable = tt
@@ -132,7 +147,8 @@ deck_name-name [] printable = record { short = lit≤ tt; printable = refl; trim
 deck_name-name (card ∷ cards) printable = columns-name 15 22 card.bytes (lit≤ tt) printable.0
 
 -- What a deck of printable cards converts to, under a name or its own, is a problem.
-pub conversion-problem : (deck : List Card) (name : Option Name) (problem : Problem ℕ) → ArePrintableCards deck → IfSome name IsName → conversion deck name ≡ Ok problem → IsProblem problem
+pub conversion-problem : (deck : List Card) (name : Option Name) (problem : Problem ℕ) → ArePrintableCards deck → IfSome name IsName →
+    conversion deck name ≡ Ok problem → IsProblem problem
 unfolding conversion deck_fault
 conversion-problem deck name problem printable named converted = by (first_faulty card_fault [] (live deck)) refl converted
   where
@@ -160,4 +176,5 @@ conversion-problem deck name problem printable named converted = by (first_fault
       where
         last : (b : Bool) → unless (option_or (b ⟹ unended) None) made ≡ Ok problem → IsProblem problem
         last true h = absurd (cc h)
-        last false h = subst IsProblem (ap value_or h) (described-problem (unwrap_or name (deck_name (live deck))) (live deck) given (printable_live deck printable) e)
+        last false h =
+            subst IsProblem (ap value_or h) (described-problem (unwrap_or name (deck_name (live deck))) (live deck) given (printable_live deck printable) e)

@@ -141,11 +141,13 @@ unfolding deck_fault card_fault described reading_of number_fault
 fault_before_end = refl
 
 -- columns
-column_split : after_cost ("COLUMNS" ∷ "    X         COST      1" ∷ "    Y         COST      1" ∷ "    X         COST      2" ∷ "ENDATA" ∷ []) ≡ found 14 ColumnSplit
+column_split : after_cost
+    ("COLUMNS" ∷ "    X         COST      1" ∷ "    Y         COST      1" ∷ "    X         COST      2" ∷ "ENDATA" ∷ []) ≡ found 14 ColumnSplit
 unfolding deck_fault card_fault described reading_of number_fault
 column_split = refl
 
-column_goes_on : after_cost ("* the cards of one column" ∷ " L  LIM" ∷ "COLUMNS" ∷ "    X         COST      1" ∷ "    X         LIM       2" ∷ "ENDATA" ∷ []) ≡ None
+column_goes_on : after_cost
+    ("* the cards of one column" ∷ " L  LIM" ∷ "COLUMNS" ∷ "    X         COST      1" ∷ "    X         LIM       2" ∷ "ENDATA" ∷ []) ≡ None
 unfolding deck_fault card_fault described reading_of number_fault
 column_goes_on = refl
 
@@ -202,7 +204,8 @@ two_points : after_cost ("COLUMNS" ∷ "    X         COST      1.2.3" ∷ "ENDA
 unfolding deck_fault card_fault described reading_of number_fault
 two_points = refl
 
-two_points_after : after_cost (" L  LIM" ∷ "COLUMNS" ∷ "    X         COST      1              LIM        1.2.3" ∷ "ENDATA" ∷ []) ≡ found 13 (Number (BadCharacter 5) 54)
+two_points_after : after_cost (" L  LIM" ∷ "COLUMNS" ∷ "    X         COST      1              LIM        1.2.3" ∷ "ENDATA" ∷ []) ≡ found 13
+    (Number (BadCharacter 5) 54)
 unfolding deck_fault card_fault described reading_of number_fault
 two_points_after = refl
 
@@ -219,7 +222,8 @@ item_twice : after_x ("RHS" ∷ "    B         LIM       1" ∷ "    C         L
 unfolding deck_fault card_fault described reading_of number_fault
 item_twice = refl
 
-items_of_two_sets : after_x ("RHS" ∷ "    B         LIM       1" ∷ "              LIM       1              COST      2" ∷ "    B         COST      2" ∷ "ENDATA" ∷ []) ≡ None
+items_of_two_sets : after_x
+    ("RHS" ∷ "    B         LIM       1" ∷ "              LIM       1              COST      2" ∷ "    B         COST      2" ∷ "ENDATA" ∷ []) ≡ None
 unfolding deck_fault card_fault described reading_of number_fault
 items_of_two_sets = refl
 
@@ -313,7 +317,8 @@ unfolding reading_of
 row_1001 = refl
 
 -- a card that goes on with a combination begins no row
-more_parts : row_fault (record (many 0 0) { rows = replicate 999 (plain_row L (codes "R")) ++ combination L (codes "S") [] ∷ [] }) (read " DL S         R         1") ≡ None
+more_parts : row_fault (record (many 0 0) { rows = replicate 999 (plain_row L (codes "R")) ++ combination L (codes "S") [] ∷ [] })
+    (read " DL S         R         1") ≡ None
 unfolding reading_of number_fault
 more_parts = refl
 

@@ -18,8 +18,10 @@ use Rattle.deck_definitions.specs.Tests.{filled_from_3, pairs_fault, row_fault}
 use Rattle.deck_definitions.proofs.Steps.{last_or-push}
 
 -- what the last row tells
-pub goes_on-last : (rows : List (Row Name)) (row : Row Name) (card : Reading) → goes_on_last (rows ++ row ∷ []) card ≡ (is_some row.parts && is_card_of row.kind row.name card)
-goes_on-last rows row card = ap (λ o. unwrap_or (option_map (λ (row : Row Name). is_some row.parts && is_card_of row.kind row.name card) o) false) (last_or-push None rows (Some row))
+pub goes_on-last : (rows : List (Row Name)) (row : Row Name) (card : Reading) →
+    goes_on_last (rows ++ row ∷ []) card ≡ (is_some row.parts && is_card_of row.kind row.name card)
+goes_on-last rows row card =
+    ap (λ o. unwrap_or (option_map (λ (row : Row Name). is_some row.parts && is_card_of row.kind row.name card) o) false) (last_or-push None rows (Some row))
 
 -- a card with a new name goes on with none
 pub goes_on-new : (rows : List (Row Name)) (card : Reading) → has_row rows card.name1 ≡ false → goes_on_last rows card ≡ false
@@ -38,11 +40,13 @@ goes_on-new rows card new = last None rows refl new
     second true b e = absurd (cc e)
     second false b e = e
 
-    last : (o : Option (Row Name)) (rows : List (Row Name)) → unwrap_or (option_map (λ (row : Row Name). is_some row.parts && is_card_of row.kind row.name card) o) false ≡ false → has_row rows card.name1 ≡ false
+    last : (o : Option (Row Name)) (rows : List (Row Name))
+        → unwrap_or (option_map (λ (row : Row Name). is_some row.parts && is_card_of row.kind row.name card) o) false ≡ false → has_row rows card.name1 ≡ false
         → unwrap_or (option_map (λ (row : Row Name). is_some row.parts && is_card_of row.kind row.name card) (last_or o rows)) false ≡ false
     last o [] before none = before
     last o (row ∷ rows) before none = last (Some row) rows
-        (and_false (is_some row.parts) (bytes_eq (combination_text row.kind) card.kind) (same row.name card.name1) (same_sym row.name card.name1 ∙ first (same card.name1 row.name) (has_row rows card.name1) none))
+        (and_false (is_some row.parts) (bytes_eq (combination_text row.kind) card.kind) (same row.name card.name1)
+        (same_sym row.name card.name1 ∙ first (same card.name1 row.name) (has_row rows card.name1) none))
         (second (same card.name1 row.name) (has_row rows card.name1) none)
 
 -- ---- a card that begins a row
@@ -83,7 +87,8 @@ module _ (card : Reading) (rows : List (Row Name)) (kind : RowKind) (name : Name
   goes_on = goes_on-last rows (combination kind name parts) card ∙ is
 
   -- its parts are added to the last row
-  pub with_row-more : has_row rows card.name1 ≡ false → with_row (rows ++ combination kind name parts ∷ []) card ≡ rows ++ combination kind name (parts ++ parts_on card) ∷ []
+  pub with_row-more : has_row rows card.name1 ≡ false →
+      with_row (rows ++ combination kind name parts ∷ []) card ≡ rows ++ combination kind name (parts ++ parts_on card) ∷ []
   with_row-more new = rw goes_on (in_row-last card.name1 (combination kind name parts) named_so (λ parts. parts ++ parts_on card) rows new)
 
   kind_known : is_none (kind_on card) ≡ false
@@ -105,7 +110,16 @@ module _ (card : Reading) (rows : List (Row Name)) (kind : RowKind) (name : Name
       by E = refl
 
   -- its parts stand on the rows before the last, after those that the last has
-  pub row_fault-more : (seen : Problem Name) → has_row rows card.name1 ≡ false → row_fault (record seen { rows = rows ++ combination kind name parts ∷ [] }) card ≡ first_fault (
+  pub row_fault-more : (seen : Problem Name) → has_row rows card.name1 ≡ false →
+      row_fault (record seen { rows = rows ++ combination kind name parts ∷ [] }) card ≡ first_fault (
       (is_empty card.name1 ⟹ EmptyName) ∷
       pairs_fault (record seen { rows = rows }) Rows parts 0 (part_pairs_of card) ∷ [])
-  row_fault-more seen new = rw (goes_on, kind_known, combines, rows_before-last card.name1 (combination kind name parts) named_so rows new, parts_of-last card.name1 (combination kind name parts) named_so rows new) refl
+  row_fault-more seen new =
+      rw (
+        goes_on,
+        kind_known,
+        combines,
+        rows_before-last card.name1 (combination kind name parts) named_so rows new,
+        parts_of-last card.name1
+            (combination kind name parts) named_so rows new,
+      ) refl

@@ -18,8 +18,11 @@ module _ (seen : Problem Name) (section : Section) (taken : List (Entry Name)) (
 
   -- the first pair is tested against what is there, and the others as if its entry were there too
   pub pairs_fault-cons : (pair : Pair) (pairs : List Pair)
-      → pairs_fault seen section taken count (pair ∷ pairs) ≡ option_or (pair_fault seen section taken count pair) (pairs_fault seen section (taken ++ entry_of pair ∷ []) (count + 1) pairs)
-  pairs_fault-cons pair pairs = ap₂ option_or first (ap first_fault (each_after-shift after (pair ∷ []) [] pairs ∙ each_after-same (λ before. after (pair ∷ before)) later same_later [] pairs))
+      → pairs_fault seen section taken count (pair ∷ pairs) ≡ option_or (pair_fault seen section taken count pair)
+      (pairs_fault seen section (taken ++ entry_of pair ∷ []) (count + 1) pairs)
+  pairs_fault-cons pair pairs =
+      ap₂ option_or first
+      (ap first_fault (each_after-shift after (pair ∷ []) [] pairs ∙ each_after-same (λ before. after (pair ∷ before)) later same_later [] pairs))
     where
       later : List Pair → Pair → Option DeckFaultKind
       later before next = pair_fault seen section ((taken ++ entry_of pair ∷ []) ++ map entry_of before) (count + 1 + length before) next

@@ -32,13 +32,17 @@ last_or-push o (x ∷ xs) p = last_or-push (Some x) xs p
 -- the section after one more card is the one that it begins, or else the one before
 pub section_after-push : (cards : List Card) (card : Card) → section_after (cards ++ card ∷ []) ≡ option_or (section_begun card.bytes) (section_after cards)
 section_after-push cards card =
-    ap (last_or None) (filter_map-append (λ c. section_begun c.bytes) cards (card ∷ []) ∙ ap (λ list. filter_map (λ c. section_begun c.bytes) cards ++ list) (cons_option-nil (section_begun card.bytes)))
+    ap (last_or None)
+    (filter_map-append (λ c. section_begun c.bytes) cards (card ∷ [])
+    ∙ ap (λ list. filter_map (λ c. section_begun c.bytes) cards ++ list) (cons_option-nil (section_begun card.bytes)))
     ∙ last_or-push None (filter_map (λ c. section_begun c.bytes) cards) (section_begun card.bytes)
 
 -- the style that holds after one more card is the one that it gives, or else the one before
 pub style_of-push : (cards : List Card) (card : Card) → style_of (cards ++ card ∷ []) ≡ unwrap_or (style_begun card.bytes) (style_of cards)
 style_of-push cards card =
-    ap (λ list. unwrap_or (last_or None list) FixedFields) (filter_map-append (λ c. style_begun c.bytes) cards (card ∷ []) ∙ ap (λ list. filter_map (λ c. style_begun c.bytes) cards ++ list) (cons_option-nil (style_begun card.bytes)))
+    ap (λ list. unwrap_or (last_or None list) FixedFields)
+    (filter_map-append (λ c. style_begun c.bytes) cards (card ∷ [])
+    ∙ ap (λ list. filter_map (λ c. style_begun c.bytes) cards ++ list) (cons_option-nil (style_begun card.bytes)))
     ∙ ap (λ o. unwrap_or o FixedFields) (last_or-push None (filter_map (λ c. style_begun c.bytes) cards) (style_begun card.bytes))
     ∙ by (style_begun card.bytes)
   where
@@ -47,7 +51,8 @@ style_of-push cards card =
     by (Some style) = refl
 
 -- a card of another section than NAME leaves it, and so does a data card
-pub style_of-section : (cards : List Card) (card : Card) (section : Section) → section_begun card.bytes ≡ Some section → is_section Header section ≡ false → style_of (cards ++ card ∷ []) ≡ style_of cards
+pub style_of-section : (cards : List Card) (card : Card) (section : Section) → section_begun card.bytes ≡ Some section → is_section Header section ≡ false →
+    style_of (cards ++ card ∷ []) ≡ style_of cards
 style_of-section cards card section begun other = style_of-push cards card ∙ rw (begun, other) refl
 
 pub style_of-data : (cards : List Card) (card : Card) → is_section_card card.bytes ≡ false → style_of (cards ++ card ∷ []) ≡ style_of cards
@@ -75,19 +80,49 @@ module _ {X : Type 0} (section : Section) (give : Reading → Option X) (cards :
 module _ (name : Name) (card : Reading) (rows : List Reading) (columns rhs ranges : List (Group (Entry Name))) (bounds : List (Group (Bound Name))) where
   -- the problem of what the sections gave
   abbrev built : List Reading → List (Group (Entry Name)) → List (Group (Entry Name)) → List (Group (Entry Name)) → List (Group (Bound Name)) → Problem Name
-  built rows columns rhs ranges bounds = record { name = name; rows = fold with_row [] rows; columns = grouped columns; rhs = grouped rhs; ranges = grouped ranges; bounds = grouped bounds }
+  built rows columns rhs ranges bounds =
+      record { name = name; rows = fold with_row [] rows; columns = grouped columns; rhs = grouped rhs; ranges = grouped ranges; bounds = grouped bounds }
 
   bounds-step : (o : Option (Group (Bound Name))) → grouped (bounds ++ option_to_list o) ≡ with_group o (grouped bounds)
   bounds-step None = ap grouped (append-nil bounds)
   bounds-step (Some set) = grouped-push bounds set
 
-  built-step : (place : Section) → built (rows ++ option_to_list (given_in Rows (λ card. Some card) place card)) (columns ++ option_to_list (given_in Columns entry_group place card)) (rhs ++ option_to_list (given_in Rhs entry_group place card))
-      (ranges ++ option_to_list (given_in Ranges entry_group place card)) (bounds ++ option_to_list (given_in Bounds bound_group place card)) ≡ with_card place card (built rows columns rhs ranges bounds)
+  built-step : (place : Section) →
+      built (rows ++ option_to_list (given_in Rows (λ card. Some card) place card)) (columns ++ option_to_list (given_in Columns entry_group place card))
+      (rhs ++ option_to_list (given_in Rhs entry_group place card))
+      (ranges ++ option_to_list (given_in Ranges entry_group place card))
+      (bounds ++ option_to_list (given_in Bounds bound_group place card)) ≡ with_card place card (built rows columns rhs ranges bounds)
   built-step Header = rw (append-nil rows, append-nil columns, append-nil rhs, append-nil ranges, append-nil bounds) refl
-  built-step Rows = rw (append-nil columns, append-nil rhs, append-nil ranges, append-nil bounds) (ap (λ all. record (built rows columns rhs ranges bounds) { rows = all }) (fold-append with_row [] rows (card ∷ [])))
-  built-step Columns = rw (append-nil rows, append-nil rhs, append-nil ranges, append-nil bounds, grouped-push columns (record { name = card.name1; items = entries_of card })) refl
-  built-step Rhs = rw (append-nil rows, append-nil columns, append-nil ranges, append-nil bounds, grouped-push rhs (record { name = card.name1; items = entries_of card })) refl
-  built-step Ranges = rw (append-nil rows, append-nil columns, append-nil rhs, append-nil bounds, grouped-push ranges (record { name = card.name1; items = entries_of card })) refl
+  built-step Rows =
+      rw (append-nil columns, append-nil rhs, append-nil ranges, append-nil bounds)
+      (ap (λ all. record (built rows columns rhs ranges bounds) { rows = all }) (fold-append with_row [] rows (card ∷ [])))
+  built-step Columns =
+      rw (
+        append-nil rows,
+        append-nil rhs,
+        append-nil ranges,
+        append-nil bounds,
+        grouped-push columns
+            (record { name = card.name1; items = entries_of card }),
+      ) refl
+  built-step Rhs =
+      rw (
+        append-nil rows,
+        append-nil columns,
+        append-nil ranges,
+        append-nil bounds,
+        grouped-push rhs
+            (record { name = card.name1; items = entries_of card }),
+      ) refl
+  built-step Ranges =
+      rw (
+        append-nil rows,
+        append-nil columns,
+        append-nil rhs,
+        append-nil bounds,
+        grouped-push ranges
+            (record { name = card.name1; items = entries_of card }),
+      ) refl
   built-step Bounds = rw (append-nil rows, append-nil columns, append-nil rhs, append-nil ranges, bounds-step (bound_group card)) refl
   built-step Endata = rw (append-nil rows, append-nil columns, append-nil rhs, append-nil ranges, append-nil bounds) refl
 
@@ -96,15 +131,32 @@ pub described-data : (name : Name) (cards : List Card) (card : Card) (place : Se
     → described name (cards ++ card ∷ []) ≡ with_card place (read_after cards card) (described name cards)
 unfolding described
 described-data name cards card place e s =
-    rw (given-data Rows (λ card. Some card) cards card place e s, given-data Columns entry_group cards card place e s, given-data Rhs entry_group cards card place e s, given-data Ranges entry_group cards card place e s, given-data Bounds bound_group cards card place e s)
-    (built-step name (read_after cards card) (given Rows (λ card. Some card) cards) (given Columns entry_group cards) (given Rhs entry_group cards) (given Ranges entry_group cards) (given Bounds bound_group cards) place)
+    rw (
+      given-data Rows
+          (λ card. Some card) cards card place e s,
+      given-data Columns entry_group cards card place e s,
+      given-data Rhs entry_group cards card place e s,
+      given-data Ranges entry_group cards card place e s,
+      given-data Bounds bound_group cards card place e s,
+    )
+    (built-step name (read_after cards card) (given Rows (λ card. Some card) cards) (given Columns entry_group cards) (given Rhs entry_group cards)
+    (given Ranges entry_group cards) (given Bounds bound_group cards) place)
 
-pub described-section : (name : Name) (cards : List Card) (card : Card) → is_section_card card.bytes ≡ true → described name (cards ++ card ∷ []) ≡ described name cards
+pub described-section : (name : Name) (cards : List Card) (card : Card) → is_section_card card.bytes ≡ true →
+    described name (cards ++ card ∷ []) ≡ described name cards
 unfolding described
 described-section name cards card e =
-    rw (given-section Rows (λ card. Some card) cards card e, given-section Columns entry_group cards card e, given-section Rhs entry_group cards card e, given-section Ranges entry_group cards card e, given-section Bounds bound_group cards card e) refl
+    rw (
+      given-section Rows
+          (λ card. Some card) cards card e,
+      given-section Columns entry_group cards card e,
+      given-section Rhs entry_group cards card e,
+      given-section Ranges entry_group cards card e,
+      given-section Bounds bound_group cards card e,
+    ) refl
 
 -- the first faulty card of two parts is that of the first, or else that of the second after it
 pub first_faulty-append : (test : List Card → List ℕ → Option DeckFaultKind) (before cards after : List Card)
     → first_faulty test before (cards ++ after) ≡ option_or (first_faulty test before cards) (first_faulty test (before ++ cards) after)
-first_faulty-append test before cards after = first_fault_after (λ before card. option_map (λ kind. record { card = card.number; kind = kind }) (test before card.bytes)) before cards after
+first_faulty-append test before cards after =
+    first_fault_after (λ before card. option_map (λ kind. record { card = card.number; kind = kind }) (test before card.bytes)) before cards after

@@ -27,13 +27,15 @@ trimmed-padded width text trimmed = without_trailing-append is_blank text (repli
 middle : (pre mid post : List ℕ) (k n : ℕ) → length pre ≡ k → length mid ≡ n → take n (drop k (pre ++ (mid ++ post))) ≡ mid
 middle pre mid post k n before long =
     subst (λ m. take m (drop k (pre ++ (mid ++ post))) ≡ mid) long
-    (subst (λ m. take (length mid) (drop m (pre ++ (mid ++ post))) ≡ mid) before (ap (take (length mid)) (drop-append_seam pre (mid ++ post)) ∙ take-append_seam mid post))
+    (subst (λ m. take (length mid) (drop m (pre ++ (mid ++ post))) ≡ mid) before
+    (ap (take (length mid)) (drop-append_seam pre (mid ++ post)) ∙ take-append_seam mid post))
 
 -- eight texts in a row
 abbrev joined : List ℕ → List ℕ → List ℕ → List ℕ → List ℕ → List ℕ → List ℕ → List ℕ → List ℕ
 joined a K b A c B d v = a ++ K ++ b ++ A ++ c ++ B ++ d ++ v
 
-module _ (a K b A c B d v : List ℕ) (la : length a ≡ 1) (lK : length K ≡ 2) (lb : length b ≡ 1) (lA : length A ≡ 8) (lc : length c ≡ 2) (lB : length B ≡ 8) (ld : length d ≡ 2) where
+module _ (a K b A c B d v : List ℕ) (la : length a ≡ 1) (lK : length K ≡ 2) (lb : length b ≡ 1) (lA : length A ≡ 8) (lc : length c ≡ 2) (lB : length B ≡ 8)
+    (ld : length d ≡ 2) where
   pick_kind : take 2 (drop 1 (joined a K b A c B d v)) ≡ K
   pick_kind =
       let shape : joined a K b A c B d v ≡ a ++ (K ++ (b ++ (A ++ (c ++ (B ++ (d ++ v)))))) = simp append_assoc in
@@ -49,14 +51,43 @@ module _ (a K b A c B d v : List ℕ) (la : length a ≡ 1) (lK : length K ≡ 2
   pick_name2 =
       let shape : joined a K b A c B d v ≡ (a ++ (K ++ (b ++ (A ++ c)))) ++ (B ++ (d ++ v)) = simp append_assoc in
       let before : length (a ++ (K ++ (b ++ (A ++ c)))) ≡ 14
-      = omega (arith, length-append a (K ++ (b ++ (A ++ c))), length-append K (b ++ (A ++ c)), length-append b (A ++ c), length-append A c, la, lK, lb, lA, lc) in
+      = omega (
+        arith,
+        length-append a (K ++ (b ++ (A ++ c))),
+        length-append K (b ++ (A ++ c)),
+        length-append b
+            (A ++ c),
+        length-append A c,
+        la,
+        lK,
+        lb,
+        lA,
+        lc,
+      ) in
       ap (λ list. take 8 (drop 14 list)) shape ∙ middle (a ++ (K ++ (b ++ (A ++ c)))) B (d ++ v) 14 8 before lB
 
   abbrev front : List ℕ
   front = a ++ (K ++ (b ++ (A ++ (c ++ (B ++ d)))))
 
   front_long : length front ≡ 24
-  front_long = omega (arith, length-append a (K ++ (b ++ (A ++ (c ++ (B ++ d))))), length-append K (b ++ (A ++ (c ++ (B ++ d)))), length-append b (A ++ (c ++ (B ++ d))), length-append A (c ++ (B ++ d)), length-append c (B ++ d), length-append B d, la, lK, lb, lA, lc, lB, ld)
+  front_long =
+      omega (
+        arith,
+        length-append a (K ++ (b ++ (A ++ (c ++ (B ++ d))))),
+        length-append K (b ++ (A ++ (c ++ (B ++ d)))),
+        length-append b
+            (A ++ (c ++ (B ++ d))),
+        length-append A (c ++ (B ++ d)),
+        length-append c (B ++ d),
+        length-append B d,
+        la,
+        lK,
+        lb,
+        lA,
+        lc,
+        lB,
+        ld,
+      )
 
   line_is : joined a K b A c B d v ≡ front ++ v
   line_is = simp append_assoc
@@ -77,7 +108,8 @@ pub record FitsField (width : ℕ) (text : List ℕ) : Type 0 where
   pub trimmed : without_trailing is_blank text ≡ text
 
 -- The fields of a written card are those that it was written with.
-pub reading_of-data_card : (kind name1 name2 value : List ℕ) → FitsField 2 kind → without_leading is_blank kind ≡ kind → FitsField 8 name1 → FitsField 8 name2 → FitsField 12 value
+pub reading_of-data_card : (kind name1 name2 value : List ℕ) → FitsField 2 kind → without_leading is_blank kind ≡ kind → FitsField 8 name1 → FitsField 8 name2
+    → FitsField 12 value
     → reading_of Fixed (data_card kind name1 name2 value)
     ≡ record { kind = kind; name1 = name1; name2 = name2; value1 = value; name3 = []; value2 = []; value1_column = 25; value2_column = 50 }
 unfolding reading_of data_card
@@ -129,7 +161,9 @@ reading_of-data_card kind name1 name2 value fk lead f1 f2 fv =
     lB : length B ≡ 8
     lB = length-padded 8 name2 f2.short
 
-    part : (from count : ℕ) → without_trailing is_blank (take count (drop from (without_trailing is_blank (joined a K b A c B d value)))) ≡ without_trailing is_blank (take count (drop from (joined a K b A c B d value)))
+    part : (from count : ℕ) →
+        without_trailing is_blank (take count (drop from (without_trailing is_blank (joined a K b A c B d value)))) ≡ without_trailing is_blank
+        (take count (drop from (joined a K b A c B d value)))
     part from count = part_of_trimmed is_blank from count (joined a K b A c B d value)
 
     card : List ℕ

@@ -10,9 +10,11 @@ use Rattle.deck_definitions.specs.Readings.{ArePrintableCards}
 use Rattle.deck_definitions.proofs.Steps.{last_or-push}
 
 -- the card of a number
-pub numbered_at : (start i : ℕ) (cards : List (List ℕ)) (card : List ℕ) → slice_get cards i ≡ Some card → slice_get (numbered_from start cards) i ≡ Some (record { number = start + i; bytes = card })
+pub numbered_at : (start i : ℕ) (cards : List (List ℕ)) (card : List ℕ) → slice_get cards i ≡ Some card →
+    slice_get (numbered_from start cards) i ≡ Some (record { number = start + i; bytes = card })
 numbered_at start i [] card at = absurd (cc at)
-numbered_at start zero (c ∷ cards) card at = let n : start + 0 ≡ start = omega arith in rw n (ap (option_map (λ (bytes : List ℕ). record { number = start; bytes = bytes })) at)
+numbered_at start zero (c ∷ cards) card at =
+    let n : start + 0 ≡ start = omega arith in rw n (ap (option_map (λ (bytes : List ℕ). record { number = start; bytes = bytes })) at)
 numbered_at start (suc i) (c ∷ cards) card at = let n : start + suc i ≡ start + 1 + i = omega arith in rw n (numbered_at (start + 1) i cards card at)
 
 module _ {X : Type 0} where
@@ -54,11 +56,13 @@ cards_more first number cards card from_one from at =
     let place : number - 1 ≡ (first - 1) + (number - first) = omega arith in
     let own : 1 + (number - 1) ≡ number = omega arith in
     let found : slice_get (numbered_cards cards) ((first - 1) + (number - first)) ≡ Some (record { number = number; bytes = card })
-    = ap (λ k. slice_get (numbered_cards cards) k) (sym place) ∙ numbered_at 1 (number - 1) cards card at ∙ ap (λ (n : ℕ). Some (record { number = n; bytes = card })) own in
+    = ap (λ k. slice_get (numbered_cards cards) k) (sym place) ∙ numbered_at 1 (number - 1) cards card at
+    ∙ ap (λ (n : ℕ). Some (record { number = n; bytes = card })) own in
     rw count (part_more (first - 1) (number - first) (numbered_cards cards) (record { number = number; bytes = card }) found)
 
 pub cards_split : (first number last : ℕ) (cards : List (List ℕ)) → number ≤ last → first ≤ number
-    → cards_between first last cards ≡ cards_up_to first (number + 1) cards ++ take (last + 1 - first - (number + 1 - first)) (drop (number + 1 - first) (drop (first - 1) (numbered_cards cards)))
+    → cards_between first last cards ≡ cards_up_to first (number + 1) cards ++ take (last + 1 - first - (number + 1 - first))
+    (drop (number + 1 - first) (drop (first - 1) (numbered_cards cards)))
 cards_split first number last cards below from =
     let fits : number + 1 - first ≤ last + 1 - first = omega arith in
     part_split (number + 1 - first) (last + 1 - first) (drop (first - 1) (numbered_cards cards)) fits
@@ -81,5 +85,6 @@ last_is first last cards from_one from within =
     let card = get_or cards (last - 1) [] in
     let more = cards_more first last cards card from_one from (slice_get-get_or cards (last - 1) [] inside) in
     ap last_number more
-    ∙ ap (λ numbers. unwrap_or (last_or None numbers) 0) (map-append (λ (c : Card). c.number) (cards_up_to first last cards) (record { number = last; bytes = card } ∷ []))
+    ∙ ap (λ numbers. unwrap_or (last_or None numbers) 0)
+    (map-append (λ (c : Card). c.number) (cards_up_to first last cards) (record { number = last; bytes = card } ∷ []))
     ∙ ap (λ o. unwrap_or o 0) (last_or-push None (map (λ (c : Card). c.number) (cards_up_to first last cards)) (Some last))

@@ -25,4 +25,5 @@ module _ (f : Fields) (read : Reading) (shows : ShowsFields f read) where
 -- those at fixed columns begin in columns of the card
 pub fixed_columns : (f : Fields) (card : List ℕ) → ShowsFields f (reading_of Fixed card) → IsColumn f.value1_column × IsColumn f.value2_column
 unfolding reading_of
-fixed_columns f card shows = ((omega (arith, shows.value1_column), omega (arith, shows.value1_column)), (omega (arith, shows.value2_column), omega (arith, shows.value2_column)))
+fixed_columns f card shows =
+    ((omega (arith, shows.value1_column), omega (arith, shows.value1_column)), (omega (arith, shows.value2_column), omega (arith, shows.value2_column)))

@@ -11,7 +11,8 @@ use Rattle.card_definitions.specs.Places.{text_in}
 use Rattle.card_definitions.proofs.Places.{text_in-padded}
 
 -- the last of the four tests of a number fails where none finds a fault
-last_test_fails : (empty bad none range : Bool) (place : ℕ) → first_fault ((empty ⟹ Empty) ∷ (bad ⟹ BadCharacter place) ∷ (none ⟹ NoDigit) ∷ (range ⟹ ExponentRange) ∷ []) ≡ None → range ≡ false
+last_test_fails : (empty bad none range : Bool) (place : ℕ) →
+    first_fault ((empty ⟹ Empty) ∷ (bad ⟹ BadCharacter place) ∷ (none ⟹ NoDigit) ∷ (range ⟹ ExponentRange) ∷ []) ≡ None → range ≡ false
 last_test_fails true bad none range place e = cc e
 last_test_fails false true none range place e = cc e
 last_test_fails false false true range place e = cc e
@@ -23,7 +24,8 @@ pub exponent_is_small : (field : List ℕ) → number_fault field ≡ None → e
 unfolding number_fault
 exponent_is_small field e =
     let text = trimmed field in
-    let small : nat_lt 18 (exponent_size text) ≡ false = last_test_fails (is_empty text) (nat_lt (formed_length text) (length text)) (lacks_digit text) (nat_lt 18 (exponent_size text)) _ e in
+    let small : nat_lt 18 (exponent_size text) ≡ false =
+    last_test_fails (is_empty text) (nat_lt (formed_length text) (length text)) (lacks_digit text) (nat_lt 18 (exponent_size text)) _ e in
     grind (arith, nat_tests)
 
 -- a value that is given is the one that there is

@@ -47,13 +47,15 @@ module _ (test : List Card → List ℕ → Option DeckFaultKind) where
       ∙ ap (λ o. option_or o (first_faulty test (live cards) (live (card ∷ [])))) none
 
   -- a deck has the fault of the first part that has one
-  whole : (cards more all : List Card) (found : DeckFault) → all ≡ cards ++ more → first_faulty test [] (live cards) ≡ Some found → fault_by test all ≡ Some found
+  whole : (cards more all : List Card) (found : DeckFault) → all ≡ cards ++ more → first_faulty test [] (live cards) ≡ Some found →
+      fault_by test all ≡ Some found
   whole cards more all found split is =
       ap (λ o. option_or o (option_or (not (is_section_after Endata (live all)) ⟹ record { card = last_number all; kind = NoEndata }) None))
       (ap (λ list. first_faulty test [] (live list)) split ∙ ap (first_faulty test []) (live-append cards more)
       ∙ first_faulty-append test [] (live cards) (live more) ∙ ap (λ o. option_or o (first_faulty test (live cards) (live more))) is)
 
-  module _ (first number : ℕ) (cards : List (List ℕ)) (card : List ℕ) (from_one : 1 ≤ first) (from : first ≤ number) (at : slice_get cards (number - 1) ≡ Some card)
+  module _ (first number : ℕ) (cards : List (List ℕ)) (card : List ℕ) (from_one : 1 ≤ first) (from : first ≤ number)
+      (at : slice_get cards (number - 1) ≡ Some card)
       (none : first_faulty test [] (live (cards_up_to first number cards)) ≡ None) where
     -- one more card without a fault
     pub next_fine : first_faulty test (live (cards_up_to first number cards)) (live (record { number = number; bytes = card } ∷ [])) ≡ None
@@ -63,7 +65,8 @@ module _ (test : List Card → List ℕ → Option DeckFaultKind) where
         ∙ more (cards_up_to first number cards) (record { number = number; bytes = card }) none ∙ fine
 
     -- what stops at a card stops the deck
-    pub stop_at : (last : ℕ) (stop : CardStop DeckFault) → number ≤ last → StopsAt test (live (cards_up_to first number cards)) (record { number = number; bytes = card }) stop
+    pub stop_at : (last : ℕ) (stop : CardStop DeckFault) → number ≤ last
+        → StopsAt test (live (cards_up_to first number cards)) (record { number = number; bytes = card }) stop
         → Stops test (cards_between first last cards) stop
     stop_at last NoMemory below holds = tt
     stop_at last (Fault found) below holds =
@@ -81,12 +84,19 @@ module _ (test : List Card → List ℕ → Option DeckFaultKind) where
     by_end : (ended : Bool) → is_section_after Endata (live (cards_between first last cards)) ≡ ended
         → fault_by test (cards_between first last cards) ≡ (not ended ⟹ record { card = last; kind = NoEndata })
     by_end ended is =
-        ap (λ o. option_or o (option_or (not (is_section_after Endata (live (cards_between first last cards))) ⟹ record { card = last_number (cards_between first last cards); kind = NoEndata }) None)) none
+        ap (λ o. option_or o
+        (option_or (not
+        (is_section_after Endata (live (cards_between first last cards))) ⟹ record {
+          card = last_number
+              (cards_between first last cards);
+          kind = NoEndata;
+        }) None)) none
         ∙ ap (λ b. option_or (not b ⟹ record { card = last_number (cards_between first last cards); kind = NoEndata }) None) is
         ∙ ap (λ n. option_or (not ended ⟹ record { card = n; kind = NoEndata }) None) (last_is first last cards from_one ordered within)
         ∙ alone ended
       where
-        alone : (b : Bool) → option_or {T = DeckFault} (not b ⟹ record { card = last; kind = NoEndata }) None ≡ (not b ⟹ record { card = last; kind = NoEndata })
+        alone : (b : Bool) →
+            option_or {T = DeckFault} (not b ⟹ record { card = last; kind = NoEndata }) None ≡ (not b ⟹ record { card = last; kind = NoEndata })
         alone true = refl
         alone false = refl
 

@@ -34,7 +34,8 @@ module _ (section : Section) (deletes : Bool) (card first : List ℕ) (count : �
 
   by_lengths : form_fault FreeFields section deletes card ≡ lengths_fault f.name1.now f.name2.now f.name3.now f.value1.now f.value2.now
   by_lengths =
-      ap (λ fault. option_or fault (option_or (words_fault (words_on section deletes (first_word card)) card read) None)) (ap (λ word. if deletes then None else type_fault section word) (sym first_is) ∙ typed)
+      ap (λ fault. option_or fault (option_or (words_fault (words_on section deletes (first_word card)) card read) None))
+      (ap (λ word. if deletes then None else type_fault section word) (sym first_is) ∙ typed)
       ∙ or_none (words_fault (words_on section deletes (first_word card)) card read)
       ∙ ap (λ fields. option_or (is_none fields ⟹ WordCount) (lengths_fault read.name1 read.name2 read.name3 read.value1 read.value2)) taken
       ∙ (λ i. lengths_fault (sym reading.name1 i) (sym reading.name2 i) (sym reading.name3 i) (sym reading.value1 i) (sym reading.value2 i))
@@ -50,10 +51,12 @@ module _ (section : Section) (deletes : Bool) (card first : List ℕ) (count : �
   pub long_name : list_any (is_longer 8) (f.name1.now ∷ f.name2.now ∷ f.name3.now ∷ []) ≡ true → form_fault FreeFields section deletes card ≡ Some LongName
   long_name names = by_tests true _ names refl
 
-  pub long_number : list_any (is_longer 8) (f.name1.now ∷ f.name2.now ∷ f.name3.now ∷ []) ≡ false → list_any (is_longer 12) (f.value1.now ∷ f.value2.now ∷ []) ≡ true
+  pub long_number : list_any (is_longer 8) (f.name1.now ∷ f.name2.now ∷ f.name3.now ∷ []) ≡ false
+      → list_any (is_longer 12) (f.value1.now ∷ f.value2.now ∷ []) ≡ true
       → form_fault FreeFields section deletes card ≡ Some LongNumber
   long_number names numbers = by_tests false true names numbers
 
-  pub formed : list_any (is_longer 8) (f.name1.now ∷ f.name2.now ∷ f.name3.now ∷ []) ≡ false → list_any (is_longer 12) (f.value1.now ∷ f.value2.now ∷ []) ≡ false
+  pub formed : list_any (is_longer 8) (f.name1.now ∷ f.name2.now ∷ f.name3.now ∷ []) ≡ false
+      → list_any (is_longer 12) (f.value1.now ∷ f.value2.now ∷ []) ≡ false
       → form_fault FreeFields section deletes card ≡ None
   formed names numbers = by_tests false false names numbers

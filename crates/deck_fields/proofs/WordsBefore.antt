@@ -20,23 +20,29 @@ none_from rest whole = slice_split_none is_blank rest (λ k d below. fails_befor
 -- the word of the next part, and the words after it
 next_part : (column : ℕ) (rest : List ℕ) → position_or_len is_blank rest ≤ length rest
     → words_from column (slice_split is_blank rest)
-    ≡ word_if_any column (take (position_or_len is_blank rest) rest) ++ words_from (column + position_or_len is_blank rest + 1) (slice_split is_blank (drop (position_or_len is_blank rest + 1) rest))
+    ≡ word_if_any column (take (position_or_len is_blank rest) rest) ++ words_from (column + position_or_len is_blank rest + 1)
+    (slice_split is_blank (drop (position_or_len is_blank rest + 1) rest))
 next_part column rest bound = by (eqb_tells (position_or_len is_blank rest) (length rest))
   where
-    by : ((nat_eq (position_or_len is_blank rest) (length rest) ≡ true) × (position_or_len is_blank rest ≡ length rest)) ⊎ ((nat_eq (position_or_len is_blank rest) (length rest) ≡ false) × (position_or_len is_blank rest ≢ length rest))
+    by : ((nat_eq (position_or_len is_blank rest) (length rest) ≡ true) × (position_or_len is_blank rest ≡ length rest)) ⊎
+        ((nat_eq (position_or_len is_blank rest) (length rest) ≡ false) × (position_or_len is_blank rest ≢ length rest))
         → words_from column (slice_split is_blank rest)
-        ≡ word_if_any column (take (position_or_len is_blank rest) rest) ++ words_from (column + position_or_len is_blank rest + 1) (slice_split is_blank (drop (position_or_len is_blank rest + 1) rest))
+        ≡ word_if_any column (take (position_or_len is_blank rest) rest) ++ words_from (column + position_or_len is_blank rest + 1)
+        (slice_split is_blank (drop (position_or_len is_blank rest + 1) rest))
     by (inr differ) =
         let less : position_or_len is_blank rest < length rest = omega (arith, bound, differ.1) in
-        let long : length (take (position_or_len is_blank rest) rest) ≡ position_or_len is_blank rest = omega (arith, length-take (position_or_len is_blank rest) rest, bound) in
+        let long : length (take (position_or_len is_blank rest) rest) ≡ position_or_len is_blank rest =
+        omega (arith, length-take (position_or_len is_blank rest) rest, bound) in
         ap (words_from column) (slice_split_first is_blank rest 0 less)
-        ∙ ap (λ n. word_if_any column (take (position_or_len is_blank rest) rest) ++ words_from (column + n + 1) (slice_split is_blank (drop (position_or_len is_blank rest + 1) rest))) long
+        ∙ ap (λ n. word_if_any column (take (position_or_len is_blank rest) rest) ++ words_from (column + n + 1)
+        (slice_split is_blank (drop (position_or_len is_blank rest + 1) rest))) long
     by (inl whole) =
         let over : length rest ≤ position_or_len is_blank rest + 1 = omega (arith, whole.1) in
         let same : take (position_or_len is_blank rest) rest ≡ rest = take_all (position_or_len is_blank rest) rest (omega (arith, whole.1)) in
         ap (words_from column) (none_from rest whole.1)
         ∙ ap (λ part. word_if_any column part ++ []) (sym same)
-        ∙ ap (λ left. word_if_any column (take (position_or_len is_blank rest) rest) ++ words_from (column + position_or_len is_blank rest + 1) (slice_split is_blank left)) (sym (drop_of_length-le rest over))
+        ∙ ap (λ left. word_if_any column (take (position_or_len is_blank rest) rest) ++ words_from (column + position_or_len is_blank rest + 1)
+        (slice_split is_blank left)) (sym (drop_of_length-le rest over))
 
 drop_twice : (n k : ℕ) (xs : List ℕ) → drop n (drop k xs) ≡ drop (n + k) xs
 drop_twice n zero xs = let e : n + 0 ≡ n = omega arith in rw e refl
@@ -45,13 +51,16 @@ drop_twice n (suc k) (x ∷ xs) = let e : n + suc k ≡ suc (n + k) = omega arit
 
 -- the words from a place on: that of the part there, of so many bytes, and those after it
 next_words : (start : ℕ) (card rest : List ℕ) (len : ℕ) → rest ≡ drop start card → len ≡ position_or_len is_blank rest → len ≤ length rest
-    → words_from (start + 1) (slice_split is_blank (drop start card)) ≡ word_if_any (start + 1) (take len rest) ++ words_from (start + len + 1 + 1) (slice_split is_blank (drop (start + len + 1) card))
+    → words_from (start + 1) (slice_split is_blank (drop start card)) ≡ word_if_any (start + 1) (take len rest) ++ words_from (start + len + 1 + 1)
+    (slice_split is_blank (drop (start + len + 1) card))
 next_words start card rest len is_rest is_len bound =
     let column : start + 1 + len + 1 ≡ start + len + 1 + 1 = omega arith in
     let order : len + 1 + start ≡ start + len + 1 = omega arith in
-    let later : drop (len + 1) rest ≡ drop (start + len + 1) card = ap (drop (len + 1)) is_rest ∙ drop_twice (len + 1) start card ∙ ap (λ n. drop n card) order in
+    let later : drop (len + 1) rest ≡ drop (start + len + 1) card =
+    ap (drop (len + 1)) is_rest ∙ drop_twice (len + 1) start card ∙ ap (λ n. drop n card) order in
     ap (λ xs. words_from (start + 1) (slice_split is_blank xs)) (sym is_rest)
-    ∙ subst (λ n. words_from (start + 1) (slice_split is_blank rest) ≡ word_if_any (start + 1) (take n rest) ++ words_from (start + 1 + n + 1) (slice_split is_blank (drop (n + 1) rest))) (sym is_len)
+    ∙ subst (λ n. words_from (start + 1) (slice_split is_blank rest) ≡ word_if_any (start + 1) (take n rest) ++ words_from (start + 1 + n + 1)
+    (slice_split is_blank (drop (n + 1) rest))) (sym is_len)
     (next_part (start + 1) rest (subst (λ n. n ≤ length rest) is_len bound))
     ∙ ap₂ (λ n xs. word_if_any (start + 1) (take len rest) ++ words_from n (slice_split is_blank xs)) column later
 
@@ -64,7 +73,8 @@ rest_is start card = take_all (length card - start) (drop start card) (omega (ar
 module _ {X : Type 0} where
   take-push : (before : List X) (x : X) (later : List X) → take (length before + 1) (before ++ x ∷ later) ≡ before ++ x ∷ []
   take-push [] x later = refl
-  take-push (y ∷ before) x later = let n : suc (length before) + 1 ≡ suc (length before + 1) = omega arith in rw n (ap (λ more. y ∷ more) (take-push before x later))
+  take-push (y ∷ before) x later =
+      let n : suc (length before) + 1 ≡ suc (length before + 1) = omega arith in rw n (ap (λ more. y ∷ more) (take-push before x later))
 
   at-next : (xs : List X) (x : X) → slice_get (xs ++ x ∷ []) (length xs) ≡ Some x
   at-next [] x = refl
@@ -99,10 +109,12 @@ module _ (all : List Word) (count k : ℕ) (d word : Word) (seven : length all �
       by (inr differ) = ap word_view (kept differ.1 (nat_lt count 7)) ∙ old
           ∙ ap (λ o. unwrap_or o absent) (sym (get-other before (word_view word) k (λ is. differ.1 (is ∙ long))))
 
-  columns-pushed : IsColumn word.column → (k < count → IsColumn (get_or all k d).column) → k < count + 1 → IsColumn (get_or (if nat_lt count 7 then set all count word else all) k d).column
+  columns-pushed : IsColumn word.column → (k < count → IsColumn (get_or all k d).column) → k < count + 1 →
+      IsColumn (get_or (if nat_lt count 7 then set all count word else all) k d).column
   columns-pushed new old there = by (eqb_tells k count)
     where
-      by : ((nat_eq k count ≡ true) × (k ≡ count)) ⊎ ((nat_eq k count ≡ false) × (k ≢ count)) → IsColumn (get_or (if nat_lt count 7 then set all count word else all) k d).column
+      by : ((nat_eq k count ≡ true) × (k ≡ count)) ⊎ ((nat_eq k count ≡ false) × (k ≢ count)) →
+          IsColumn (get_or (if nat_lt count 7 then set all count word else all) k d).column
       by (inl same) = subst (λ (w : Word). IsColumn w.column) (sym (noted (lt-ltb count 7 (omega (arith, below, same.1))) same.1)) new
       by (inr differ) = subst (λ (w : Word). IsColumn w.column) (sym (kept differ.1 (nat_lt count 7))) (old (omega (arith, there, differ.1)))
 
@@ -113,13 +125,16 @@ one-word column (x ∷ xs) some = refl
 -- ---- the words before a place
 
 -- no word begins at a blank
-pub before-blank : (found : Words) (card rest : List ℕ) (start len : ℕ) → rest ≡ drop start card → len ≡ position_or_len is_blank rest → len ≤ length rest → len ≤ 0
+pub before-blank : (found : Words) (card rest : List ℕ) (start len : ℕ) → rest ≡ drop start card → len ≡ position_or_len is_blank rest → len ≤ length rest
+    → len ≤ 0
     → AreWordsBefore found card start → AreWordsBefore found card (start + len + 1)
 before-blank found card rest start len is_rest is_len bound none before =
     let nothing : len ≡ 0 = omega (arith, none) in
     record {
       split = before.split ∙ ap (λ more. take found.count (words card) ++ more)
-          (next_words start card rest len is_rest is_len bound ∙ ap (λ n. word_if_any (start + 1) (take n rest) ++ words_from (start + len + 1 + 1) (slice_split is_blank (drop (start + len + 1) card))) nothing);
+          (next_words start card rest len is_rest is_len bound
+          ∙ ap (λ n. word_if_any (start + 1) (take n rest) ++ words_from (start + len + 1 + 1)
+          (slice_split is_blank (drop (start + len + 1) card))) nothing);
       few = omega (arith, before.few);
       counted = before.counted;
       seven = before.seven;
@@ -128,8 +143,10 @@ before-blank found card rest start len is_rest is_len bound none before =
     }
 
 -- the part at a place is one more word
-pub before-word : (found new : Words) (card rest : List ℕ) (start len : ℕ) (word : Word) → rest ≡ drop start card → len ≡ position_or_len is_blank rest → len ≤ length rest → 0 < len → start < 80
-    → word.column ≡ start + 1 → word.text.now ≡ take len rest → new.count ≡ found.count + 1 → new.words ≡ (if nat_lt found.count 7 then set found.words found.count word else found.words)
+pub before-word : (found new : Words) (card rest : List ℕ) (start len : ℕ) (word : Word) → rest ≡ drop start card → len ≡ position_or_len is_blank rest
+    → len ≤ length rest → 0 < len → start < 80
+    → word.column ≡ start + 1 → word.text.now ≡ take len rest → new.count ≡ found.count + 1
+    → new.words ≡ (if nat_lt found.count 7 then set found.words found.count word else found.words)
     → AreWordsBefore found card start → AreWordsBefore new card (start + len + 1)
 before-word found new card rest start len word is_rest is_len bound some inside column text count items front = record {
   split = whole ∙ sym (append_assoc before (word_view word ∷ []) later) ∙ ap (λ more. more ++ later) (sym taken);
@@ -140,7 +157,8 @@ before-word found new card rest start len word is_rest is_len bound some inside 
       ∙ each-pushed found.words found.count k d word front.seven below before counted (front.each k d below)
       ∙ ap (λ list. unwrap_or (slice_get list k) absent) (sym taken);
   columns = λ k d below there. subst (λ (all : List Word). IsColumn (get_or all k d).column) (sym items)
-      (columns-pushed found.words found.count k d word front.seven below (omega (arith, column), omega (arith, column, inside)) (front.columns k d below) (omega (arith, there, count)));
+      (columns-pushed found.words found.count k d word front.seven below (omega (arith, column), omega (arith, column, inside)) (front.columns k d below)
+      (omega (arith, there, count)));
 }
   where
     before : List Read
@@ -168,14 +186,17 @@ before-word found new card rest start len word is_rest is_len bound some inside 
     long false = front.seven
 
 -- at first there is none
-pub before-all : (found : Words) (card : List ℕ) (w : Word) → found.count ≡ 0 → found.words ≡ w ∷ w ∷ w ∷ w ∷ w ∷ w ∷ w ∷ [] → word_view w ≡ absent → AreWordsBefore found card 0
+pub before-all : (found : Words) (card : List ℕ) (w : Word) → found.count ≡ 0 → found.words ≡ w ∷ w ∷ w ∷ w ∷ w ∷ w ∷ w ∷ [] → word_view w ≡ absent →
+    AreWordsBefore found card 0
 unfolding words
 before-all found card w none items blank = record {
   split = ap (λ n. take n (words card) ++ words_from 1 (slice_split is_blank card)) (sym none);
   few = omega (arith, none);
   counted = omega (arith, none);
   seven = ap length items;
-  each = λ k d below. ap (λ all. word_view (get_or all k d)) items ∙ ap word_view (seven-times k d below) ∙ blank ∙ ap (λ n. unwrap_or (slice_get (take n (words card)) k) absent) (sym none);
+  each =
+      λ k d below. ap (λ all. word_view (get_or all k d)) items ∙ ap word_view (seven-times k d below) ∙ blank
+      ∙ ap (λ n. unwrap_or (slice_get (take n (words card)) k) absent) (sym none);
   columns = λ k d below there. absurd (omega (arith, there, none));
 }
   where
@@ -190,7 +211,8 @@ before-all found card w none items blank = record {
     seven-times (suc (suc (suc (suc (suc (suc (suc k))))))) d below = absurd (omega (arith, below))
 
 -- where no word can begin any more, all are there
-pub before-end : (found : Words) (card : List ℕ) (start : ℕ) → length card ≤ start → AreWordsBefore found card start → take found.count (words card) ≡ words card
+pub before-end : (found : Words) (card : List ℕ) (start : ℕ) → length card ≤ start → AreWordsBefore found card start →
+    take found.count (words card) ≡ words card
 before-end found card start past before =
     sym (append-nil (take found.count (words card)))
     ∙ ap (λ rest. take found.count (words card) ++ words_from (start + 1) (slice_split is_blank rest)) (sym (drop_of_length-le card past))

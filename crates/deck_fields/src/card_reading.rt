@@ -72,8 +72,10 @@ fn read_free_card<'a>(
 ) -> Result<DataCard<'a>, DeckFaultKind>
     ensures reading { IfOk result (λ d. viewed d ≡ reading_of
         (form_on FreeFields section deletes (card_bytes card.entry)) (card_bytes card.entry)) }
-    ensures no_fault { OnOk result (form_fault FreeFields section deletes (card_bytes card.entry) ≡ None) }
-    ensures fault { IfErr result (λ kind. form_fault FreeFields section deletes (card_bytes card.entry) ≡ Some kind) }
+    ensures no_fault { OnOk result
+        (form_fault FreeFields section deletes (card_bytes card.entry) ≡ None) }
+    ensures fault { IfErr result
+        (λ kind. form_fault FreeFields section deletes (card_bytes card.entry) ≡ Some kind) }
 {
     match free_fields(card, section, deletes) {
         Ok(f) => Ok(card_with(f)),
@@ -90,8 +92,10 @@ pub fn read_data_card<'a>(
 ) -> Result<DataCard<'a>, DeckFaultKind>
     ensures reading { IfOk result (λ d. viewed d ≡ reading_of
         (form_on style section deletes (card_bytes card.entry)) (card_bytes card.entry)) }
-    ensures no_fault { OnOk result (form_fault style section deletes (card_bytes card.entry) ≡ None) }
-    ensures fault { IfErr result (λ kind. form_fault style section deletes (card_bytes card.entry) ≡ Some kind) }
+    ensures no_fault { OnOk result
+        (form_fault style section deletes (card_bytes card.entry) ≡ None) }
+    ensures fault { IfErr result
+        (λ kind. form_fault style section deletes (card_bytes card.entry) ≡ Some kind) }
 {
     match style {
         Style::FixedFields => read_fixed_card(card),

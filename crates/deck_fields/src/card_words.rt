@@ -31,7 +31,9 @@ pub struct Words<'a> {
 fn add_word<'a>(words: &mut Words<'a>, word: Word<'a>)
     requires { words.old.count ≤ 200 }
     ensures count { words.new.count ≡ words.old.count + 1 }
-    ensures items { words.new.words ≡ (if nat_lt words.old.count 7 then set words.old.words words.old.count word.entry else words.old.words) }
+    ensures items { words.new.words ≡
+        (if nat_lt words.old.count 7
+        then set words.old.words words.old.count word.entry else words.old.words) }
 {
     let place = words.count as usize;
     if place < NOTED {
@@ -108,7 +110,8 @@ fn no_word<'a>() -> Word<'a>
 // The word at a place, from 0; one that no field is, where the card has fewer.
 fn word_at<'a>(found: &Words<'a>, place: usize) -> Word<'a>
     requires { place < 7 }
-    ensures word { (card : List ℕ) → ShowsWords found.now card → word_view result ≡ unwrap_or (slice_get (words card) place) no_word }
+    ensures word { (card : List ℕ) → ShowsWords found.now card →
+        word_view result ≡ unwrap_or (slice_get (words card) place) no_word }
     ensures column { (card : List ℕ) → ShowsWords found.now card → IsColumn result.column }
 {
     if place >= found.count as usize {
@@ -120,7 +123,8 @@ fn word_at<'a>(found: &Words<'a>, place: usize) -> Word<'a>
 // The word that is a field, where the words are these fields in order.
 fn word_of<'a>(found: &Words<'a>, fields: &[u8], field: u8) -> Word<'a>
     requires { length fields.now ≤ 6 }
-    ensures word { (card : List ℕ) → ShowsWords found.now card → word_view result ≡ word_of fields.now (words card) field }
+    ensures word { (card : List ℕ) → ShowsWords found.now card →
+        word_view result ≡ word_of fields.now (words card) field }
     ensures column { (card : List ℕ) → ShowsWords found.now card → IsColumn result.column }
 {
     match place_of(fields, field) {
@@ -132,8 +136,10 @@ fn word_of<'a>(found: &Words<'a>, fields: &[u8], field: u8) -> Word<'a>
 /// What is read of words that are these fields in order.
 pub fn read_words<'a>(found: &Words<'a>, fields: &[u8]) -> Fields<'a>
     requires { length fields.now ≤ 6 }
-    ensures reading { (card : List ℕ) → ShowsWords found.now card → ShowsFields result (read_words fields.now (words card)) }
-    ensures columns { (card : List ℕ) → ShowsWords found.now card → IsColumn result.value1_column × IsColumn result.value2_column }
+    ensures reading { (card : List ℕ) → ShowsWords found.now card →
+        ShowsFields result (read_words fields.now (words card)) }
+    ensures columns { (card : List ℕ) → ShowsWords found.now card → IsColumn result.value1_column ×
+        IsColumn result.value2_column }
 {
     let value1 = word_of(found, fields, 4);
     let value2 = word_of(found, fields, 6);

@@ -28,7 +28,8 @@ impl Model for Decimal {
 
     ghost view = { λ d. record { text = text_in d.places; value = d.value } };
 
-    ghost invariant = { λ d. (length d.places ≡ 12) × IsDecimal (record { text = text_in d.places; value = d.value }) };
+    ghost invariant = { λ d. (length d.places ≡ 12) ×
+        IsDecimal (record { text = text_in d.places; value = d.value }) };
 
     ghost inverse = { λ number. record { places = padded 12 number.text; value = number.value } };
 

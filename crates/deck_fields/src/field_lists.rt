@@ -137,7 +137,8 @@ fn bound_fields(takes_number: bool, count: u8) -> Option<&'static [u8]>
 
 // The fields of a card that gives something.
 fn fields_given(section: Section, word: &[u8], count: u8) -> Option<&'static [u8]>
-    ensures fields { option_map (λ f. f.now) result ≡ fields_for (words_given section word.now) count }
+    ensures fields { option_map (λ f. f.now) result ≡
+        fields_for (words_given section word.now) count }
     ensures few { IfSome result (λ f. length f.now ≤ 6) }
 {
     match section {
@@ -163,7 +164,8 @@ fn deleted_row_fields(count: u8) -> Option<&'static [u8]>
 
 // What a card of another section has that names something to be deleted.
 fn deleted_item_fields(count: u8) -> Option<&'static [u8]>
-    ensures fields { option_map (λ f. f.now) result ≡ fields_for ((2 ∷ []) ∷ (2 ∷ 3 ∷ []) ∷ []) count }
+    ensures fields { option_map (λ f. f.now) result ≡
+        fields_for ((2 ∷ []) ∷ (2 ∷ 3 ∷ []) ∷ []) count }
     ensures few { IfSome result (λ f. length f.now ≤ 6) }
 {
     if has_count(NAME, count) {
@@ -188,7 +190,8 @@ fn fields_deleted(section: Section, count: u8) -> Option<&'static [u8]>
 
 /// The fields that so many words are in order, on a card of this section with this first word, if it takes so many.
 pub fn fields_on(section: Section, deletes: bool, word: &[u8], count: u8) -> Option<&'static [u8]>
-    ensures fields { option_map (λ f. f.now) result ≡ fields_for (words_on section deletes word.now) count }
+    ensures fields { option_map (λ f. f.now) result ≡
+        fields_for (words_on section deletes word.now) count }
     ensures few { IfSome result (λ f. length f.now ≤ 6) }
 {
     if deletes {

@@ -46,7 +46,8 @@ fn first_word_fault(section: Section, deletes: bool, word: &[u8]) -> Option<Deck
 
 // Whether one of three names is too long.
 fn has_long_name(f: &Fields<'_>) -> bool
-    ensures { result ≡ list_any (is_longer 8) (f.now.name1.now ∷ f.now.name2.now ∷ f.now.name3.now ∷ []) }
+    ensures { result ≡
+        list_any (is_longer 8) (f.now.name1.now ∷ f.now.name2.now ∷ f.now.name3.now ∷ []) }
 {
     f.name1.len() > NAME || f.name2.len() > NAME || f.name3.len() > NAME
 }
@@ -68,8 +69,10 @@ pub fn free_fields<'a>(
         (form_on FreeFields section deletes (card_bytes card.entry)) (card_bytes card.entry))) }
     ensures column1 { IfOk result (λ f. IsColumn f.value1_column) }
     ensures column2 { IfOk result (λ f. IsColumn f.value2_column) }
-    ensures no_fault { OnOk result (form_fault FreeFields section deletes (card_bytes card.entry) ≡ None) }
-    ensures fault { IfErr result (λ kind. form_fault FreeFields section deletes (card_bytes card.entry) ≡ Some kind) }
+    ensures no_fault { OnOk result
+        (form_fault FreeFields section deletes (card_bytes card.entry) ≡ None) }
+    ensures fault { IfErr result
+        (λ kind. form_fault FreeFields section deletes (card_bytes card.entry) ≡ Some kind) }
 {
     let found = free_words(card);
     let first = word_text(&found, 0);

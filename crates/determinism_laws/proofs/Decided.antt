@@ -29,7 +29,8 @@ all_gained PrintFault cards deck punched own gains = absurd own
 all_gained PunchFault cards deck punched own gains = absurd own
 all_gained Memory cards deck punched own gains = absurd own
 
-module _ (S : Solving) (function : IsFunction S) (job : Job) (failures : Failures) (status : ℕ) (PrintGains PunchGains : List ℕ → Type 0) (printed punched : List ℕ)
+module _ (S : Solving) (function : IsFunction S) (job : Job) (failures : Failures) (status : ℕ) (PrintGains PunchGains : List ℕ → Type 0)
+    (printed punched : List ℕ)
     (print_gains : PrintGains printed) (punch_gains : PunchGains punched) (bytes : List ℕ) (of_job : bytes_of job ≡ Some bytes)
     (reports : List Report) (cards : List (List ℕ)) (ending : Ending) (runs : IsJobRun S bytes reports cards ending) (nor : IsOverflow ending → ⊥) where
   -- the answer is that of this run; or it is broken off; or cut off
@@ -38,7 +39,8 @@ module _ (S : Solving) (function : IsFunction S) (job : Job) (failures : Failure
       (IsBrokenOff S bytes reports cards status PrintGains PunchGains ⊎ IsCutOff failures status)
 
   -- the other run is the same, or stops with an overflow
-  by_other : (others : List Report) (other_cards : List (List ℕ)) (other : Ending) → IsJobRun S bytes others other_cards other → status ≡ status_of other → printed ≡ listing others other →
+  by_other : (others : List Report) (other_cards : List (List ℕ)) (other : Ending) → IsJobRun S bytes others other_cards other → status ≡ status_of other →
+      printed ≡ listing others other →
       punched ≡ card_text other_cards → IsOverflow other ⊎ (IsOverflow other → ⊥) → IsOneOf
   by_other others other_cards other also is text all (inl stops) = inr (inl (record {
     first_reports = others;
@@ -58,7 +60,8 @@ module _ (S : Solving) (function : IsFunction S) (job : Job) (failures : Failure
         subst PunchGains (all ∙ ap card_text same.same_cards) punch_gains,
       )
 
-  decided_by_end : (others : List Report) (other_cards deck : List (List ℕ)) (other : Ending) → MayEnd S job failures others other_cards deck other → status ≡ status_of other → printed ≡ listing others other →
+  decided_by_end : (others : List Report) (other_cards deck : List (List ℕ)) (other : Ending) → MayEnd S job failures others other_cards deck other →
+      status ≡ status_of other → printed ≡ listing others other →
       Gains other other_cards deck punched → IsOneOf
   decided_by_end _ _ _ _ (words_refused refused) is text gains = let e = sym (ap bytes_of refused) ∙ of_job in absurd (cc e)
   decided_by_end _ _ _ _ (read_fails read is_read failed) is text gains = inr (inr (read_failed failed is))
@@ -66,7 +69,8 @@ module _ (S : Solving) (function : IsFunction S) (job : Job) (failures : Failure
       let e = sym also ∙ of_job in
       let same : known ≡ bytes = cc e in
       let of_bytes = subst (λ (xs : List ℕ). IsJobRun S xs others other_cards other) same runs_too in
-      by_other others other_cards other of_bytes is text (all_gained other other_cards [] punched (job_of_itself S bytes others other_cards other of_bytes) gains) (overflow_or_not other)
+      by_other others other_cards other of_bytes is text
+      (all_gained other other_cards [] punched (job_of_itself S bytes others other_cards other of_bytes) gains) (overflow_or_not other)
   decided_by_end _ _ _ _ memory_at_start is text gains = inr (inr (memory_wanted is))
   decided_by_end _ _ _ _ (memory_in_run known program state also so_far) is text gains = inr (inr (memory_wanted is))
   decided_by_end _ _ _ _ (memory_at_punch known program state deck also so_far punching) is text gains = inr (inr (memory_wanted is))
@@ -78,7 +82,8 @@ module _ (S : Solving) (function : IsFunction S) (job : Job) (failures : Failure
   decided_by_answer (print_wants_memory wanted is cut) = inr (inr (memory_wanted is))
 
 -- a run that doesn't stop with an overflow decides the answer to a job, where a run is a function
-pub answer_is_decided : (S : Solving) (job : Job) (failures : Failures) (status : ℕ) (PrintGains PunchGains : List ℕ → Type 0) (printed punched : List ℕ) → IsFunction S → PrintGains printed → PunchGains punched →
+pub answer_is_decided : (S : Solving) (job : Job) (failures : Failures) (status : ℕ) (PrintGains PunchGains : List ℕ → Type 0) (printed punched : List ℕ) →
+    IsFunction S → PrintGains printed → PunchGains punched →
     IsAnswer S job failures (record { status = status; printed = printed; punched = punched }) → IsDecided S job failures status PrintGains PunchGains
 answer_is_decided S job failures status PrintGains PunchGains printed punched function print_gains punch_gains is bytes reports cards ending of_job runs nor =
     decided_by_answer S function job failures status PrintGains PunchGains printed punched print_gains punch_gains bytes of_job reports cards ending runs nor is

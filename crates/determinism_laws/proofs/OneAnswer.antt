@@ -54,11 +54,13 @@ module _ (sheet : Sheet) where
         reached_same bases others first.1.ending second.1.ending v w c d one.same_bases one.same_ending first.1.is_verdict second.1.is_verdict
     dual_path_once None (Reached bases v c) PathLimit first second = absurd second
     dual_path_once (Some most) (Reached bases v c) PathLimit first second =
-        absurd (dual_not_both sheet.lp lawful most s at (record { bases = bases; ending = first.1.ending; ends = first.1.ends; within = first.1.within_limit }) second.1)
+        absurd (dual_not_both sheet.lp lawful most s at
+        (record { bases = bases; ending = first.1.ending; ends = first.1.ends; within = first.1.within_limit }) second.1)
     dual_path_once limit (Reached bases v c) (PricesWrong j) first second = absurd (not_both_prices sheet.lp s j lawful at first.0 second)
     dual_path_once None PathLimit (Reached bases v c) first second = absurd first
     dual_path_once (Some most) PathLimit (Reached bases v c) first second =
-        absurd (dual_not_both sheet.lp lawful most s at (record { bases = bases; ending = second.1.ending; ends = second.1.ends; within = second.1.within_limit }) first.1)
+        absurd (dual_not_both sheet.lp lawful most s at
+        (record { bases = bases; ending = second.1.ending; ends = second.1.ends; within = second.1.within_limit }) first.1)
     dual_path_once limit PathLimit PathLimit first second = refl
     dual_path_once None PathLimit (PricesWrong j) first second = absurd first
     dual_path_once (Some most) PathLimit (PricesWrong j) first second = absurd (not_both_prices sheet.lp s j lawful at first.0 second)
@@ -103,31 +105,37 @@ column_line sheet s k v price = record {
   values = placed_at sheet s k v ++ Number (cost sheet.lp (k - sheet.lp.rows)) ∷ limited_at sheet k price;
 }
 
-module _ (sheet : Sheet) (s : Basis) (t u : Tableau) (lawful : IsLinearProgram sheet.lp) (at : IsNonsingularBasis sheet.lp s) (first : IsTableau sheet.lp s t) (second : IsTableau sheet.lp s u) where
+module _ (sheet : Sheet) (s : Basis) (t u : Tableau) (lawful : IsLinearProgram sheet.lp) (at : IsNonsingularBasis sheet.lp s) (first : IsTableau sheet.lp s t)
+    (second : IsTableau sheet.lp s u) where
   points : (k : ℕ) → IsVariable sheet.lp.matrix k → t.point k ≡ u.point k
   points k is = one_point sheet.lp s t.point u.point at.is_basis.counted at.nonsingular first.is_point second.is_point k is
 
   prices : (k : ℕ) → IsVariable sheet.lp.matrix k → price_at sheet.lp (basics_of s) t.rate k ≡ price_at sheet.lp (basics_of s) u.rate k
   prices k is = by (is_in (basics_of s) k) refl
     where
-      by : (mark : Bool) → is_in (basics_of s) k ≡ mark → (if mark then zero_ℚ else objective_rate sheet.lp t.rate k) ≡ (if mark then zero_ℚ else objective_rate sheet.lp u.rate k)
+      by : (mark : Bool) → is_in (basics_of s) k ≡ mark →
+          (if mark then zero_ℚ else objective_rate sheet.lp t.rate k) ≡ (if mark then zero_ℚ else objective_rate sheet.lp u.rate k)
       by true mark = refl
       by false mark = objective_value-same sheet.lp (λ i. t.rate i k) (λ i. u.rate i k) lawful
           (λ i out. one_table sheet.lp.matrix (basics_of s) t.rate u.rate at.nonsingular first.are_rates second.are_rates i k out (is, mark))
 
   rows_same : (solution_lines sheet s t).rows ≡ (solution_lines sheet s u).rows
   rows_same =
-      map_same (λ k. row_line sheet s k (t.point k) (price_at sheet.lp (basics_of s) t.rate k)) (λ k. row_line sheet s k (u.point k) (price_at sheet.lp (basics_of s) u.rate k)) sheet.lp.rows 1
+      map_same (λ k. row_line sheet s k (t.point k) (price_at sheet.lp (basics_of s) t.rate k))
+      (λ k. row_line sheet s k (u.point k) (price_at sheet.lp (basics_of s) u.rate k)) sheet.lp.rows 1
       (λ k low high. let is : IsVariable sheet.lp.matrix k = (low, omega (arith, high)) in ap₂ (row_line sheet s k) (points k is) (prices k is))
 
   columns_same : (solution_lines sheet s t).columns ≡ (solution_lines sheet s u).columns
   columns_same =
-      map_same (λ k. column_line sheet s k (t.point k) (price_at sheet.lp (basics_of s) t.rate k)) (λ k. column_line sheet s k (u.point k) (price_at sheet.lp (basics_of s) u.rate k)) sheet.lp.cols (sheet.lp.rows + 1)
-      (λ k low high. let is : IsVariable sheet.lp.matrix k = (omega (arith, low), omega (arith, high)) in ap₂ (column_line sheet s k) (points k is) (prices k is))
+      map_same (λ k. column_line sheet s k (t.point k) (price_at sheet.lp (basics_of s) t.rate k))
+      (λ k. column_line sheet s k (u.point k) (price_at sheet.lp (basics_of s) u.rate k)) sheet.lp.cols (sheet.lp.rows + 1)
+      (λ k low high. let is : IsVariable sheet.lp.matrix k = (omega (arith, low), omega (arith, high)) in ap₂ (column_line sheet s k) (points k is)
+      (prices k is))
 
   lines_same : solution_lines sheet s t ≡ solution_lines sheet s u
   lines_same = ap₂ (λ rows columns. record { rows = rows; columns = columns }) rows_same columns_same
 
-pub reported_once : (sheet : Sheet) (s : Basis) (a b : SolutionLines) → IsLinearProgram sheet.lp → IsNonsingularBasis sheet.lp s → IsSolutionOf sheet s a → IsSolutionOf sheet s b → a ≡ b
+pub reported_once : (sheet : Sheet) (s : Basis) (a b : SolutionLines) → IsLinearProgram sheet.lp → IsNonsingularBasis sheet.lp s → IsSolutionOf sheet s a →
+    IsSolutionOf sheet s b → a ≡ b
 reported_once sheet s a b lawful at first second =
     first.are_lines ∙ lines_same sheet s first.tableau second.tableau lawful at first.is_tableau second.is_tableau ∙ sym second.are_lines

@@ -24,7 +24,8 @@ end_of_job reports cards PrintFault own = own
 end_of_job reports cards PunchFault own = own
 end_of_job reports cards Memory own = own
 
-pub own_end : (S : Solving) (bytes : List ℕ) (reports : List Report) (cards : List (List ℕ)) (ending : Ending) → IsJobRun S bytes reports cards ending → IsOwnEnd reports cards ending
+pub own_end : (S : Solving) (bytes : List ℕ) (reports : List Report) (cards : List (List ℕ)) (ending : Ending) → IsJobRun S bytes reports cards ending →
+    IsOwnEnd reports cards ending
 own_end S bytes _ _ _ (card_fault fault is) = (refl, refl)
 own_end S bytes _ _ _ (control_fault fault fine is) = (refl, refl)
 own_end S bytes reports cards ending (run program is runs) = end_of_job reports cards ending (end_of_run S program _ reports cards ending runs)

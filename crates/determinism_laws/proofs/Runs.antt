@@ -36,7 +36,8 @@ record SameEnding (gain other : Gain) (ending another : Ending) : Type 0 where
 overflows : (gain : Gain) (ending : Ending) → IsOverflowStop (Ends gain ending) → IsOverflow ending
 overflows gain ending stop = let e = stop.1 in (stop.0, cc)
 
-ending_same : (gain other : Gain) (ending another : Ending) → (IsOverflow ending → ⊥) → (IsOverflow another → ⊥) → IsSameOrStop (Ends gain ending) (Ends other another) → SameEnding gain other ending another
+ending_same : (gain other : Gain) (ending another : Ending) → (IsOverflow ending → ⊥) → (IsOverflow another → ⊥) →
+    IsSameOrStop (Ends gain ending) (Ends other another) → SameEnding gain other ending another
 ending_same gain other ending another none nor (inl e) = record { gains = cc; endings = cc }
 ending_same gain other ending another none nor (inr (inl stop)) = absurd (none (overflows gain ending stop))
 ending_same gain other ending another none nor (inr (inr stop)) = absurd (nor (overflows other another stop))
@@ -51,7 +52,8 @@ stopped_going gain other after ending (inl e) = absurd (cc e)
 stopped_going gain other after ending (inr (inl stop)) = let e = stop.1 in absurd (cc e)
 stopped_going gain other after ending (inr (inr stop)) = let e = stop.1 in cc
 
-stopped_ending : (gain other : Gain) (ending another : Ending) → (IsOverflow another → ⊥) → IsOverflow ending → IsSameOrStop (Ends gain ending) (Ends other another) → gain ≡ Nothing
+stopped_ending : (gain other : Gain) (ending another : Ending) → (IsOverflow another → ⊥) → IsOverflow ending →
+    IsSameOrStop (Ends gain ending) (Ends other another) → gain ≡ Nothing
 stopped_ending gain other ending another nor stop (inl e) = let same : another ≡ ending = cc in absurd (nor (subst IsOverflow (sym same) stop))
 stopped_ending gain other ending another nor stop (inr (inl silent)) = let e = silent.1 in cc
 stopped_ending gain other ending another nor stop (inr (inr other_stop)) = absurd (nor (overflows other another other_stop))
@@ -77,7 +79,8 @@ overflow_or_not Memory = inr (λ h. let e = h.1 in cc e)
 module _ (S : Solving) (program : Program) where
   -- a run that is over executes no statement
   over_or_step : (state : State) (ending : Ending) (outcome : StatementOutcome) → IsOver S program state ending → Step S program state outcome → ⊥
-  over_or_step state _ outcome (at_end past) step = let within = slice_get_within program.statements (state.position - 1) step.statement step.is_at_position in omega (arith, past, within)
+  over_or_step state _ outcome (at_end past) step =
+      let within = slice_get_within program.statements (state.position - 1) step.statement step.is_at_position in omega (arith, past, within)
   over_or_step state _ outcome (at_limit within limit) step = let below = step.is_within_limit in omega (arith, limit, below)
 
   one_over : (state : State) (ending other : Ending) → IsOver S program state ending → IsOver S program state other → ending ≡ other
@@ -95,19 +98,26 @@ module _ (S : Solving) (solving : KnowsSolving S) (answers : AnswersOnce S) (byt
   abbrev RunHasReached : List Report → List (List ℕ) → State → Type 0
   RunHasReached = RunReaches S solving answers bytes program is_program
 
-  one_last : (reports : List Report) (cards : List (List ℕ)) (state : State) (gain other : Gain) (ending another : Ending) → RunHasReached reports cards state → (IsOverflow ending → ⊥) → (IsOverflow another → ⊥) →
+  one_last : (reports : List Report) (cards : List (List ℕ)) (state : State) (gain other : Gain) (ending another : Ending) → RunHasReached reports cards state →
+      (IsOverflow ending → ⊥) → (IsOverflow another → ⊥) →
       Last S program state gain ending → Last S program state other another → SameEnding gain other ending another
-  one_last reports cards state _ _ ending another came none nor (over first) (over second) = record { gains = refl; endings = one_over S program state ending another first second }
-  one_last reports cards state _ other ending another came none nor (over first) (ended second) = absurd (over_or_step S program state ending (Ends other another) first second)
-  one_last reports cards state gain _ ending another came none nor (ended first) (over second) = absurd (over_or_step S program state another (Ends gain ending) second first)
+  one_last reports cards state _ _ ending another came none nor (over first) (over second) =
+      record { gains = refl; endings = one_over S program state ending another first second }
+  one_last reports cards state _ other ending another came none nor (over first) (ended second) =
+      absurd (over_or_step S program state ending (Ends other another) first second)
+  one_last reports cards state gain _ ending another came none nor (ended first) (over second) =
+      absurd (over_or_step S program state another (Ends gain ending) second first)
   one_last reports cards state gain other ending another came none nor (ended first) (ended second) =
-      ending_same gain other ending another none nor (two_outcomes S solving answers bytes program is_program reports cards state (Ends gain ending) (Ends other another) came first second)
+      ending_same gain other ending another none nor
+      (two_outcomes S solving answers bytes program is_program reports cards state (Ends gain ending) (Ends other another) came first second)
 
-  last_or_more : (reports : List Report) (cards : List (List ℕ)) (state : State) (gain : Gain) (ending : Ending) → RunHasReached reports cards state → (IsOverflow ending → ⊥) → Last S program state gain ending →
+  last_or_more : (reports : List Report) (cards : List (List ℕ)) (state : State) (gain : Gain) (ending : Ending) → RunHasReached reports cards state →
+      (IsOverflow ending → ⊥) → Last S program state gain ending →
       GoesOn S solving answers bytes program is_program state → ⊥
   last_or_more reports cards state _ ending came none (over first) more = over_or_step S program state ending (Goes more.gain more.after) first more.step
   last_or_more reports cards state gain ending came none (ended first) more =
-      goes_or_ends more.gain gain more.after ending none (two_outcomes S solving answers bytes program is_program reports cards state (Goes more.gain more.after) (Ends gain ending) came more.step first)
+      goes_or_ends more.gain gain more.after ending none
+      (two_outcomes S solving answers bytes program is_program reports cards state (Goes more.gain more.after) (Ends gain ending) came more.step first)
 
   -- a whole run, up to its last statement
   record Whole (reports : List Report) (cards : List (List ℕ)) (ending : Ending) : Type 0 where
@@ -120,7 +130,8 @@ module _ (S : Solving) (solving : KnowsSolving S) (answers : AnswersOnce S) (byt
     are_reports : reports ≡ before ++ printed_by gain
     are_cards : cards ≡ before_cards ++ punched_by gain
 
-  whole_of : (reports : List Report) (cards : List (List ℕ)) (ending : Ending) → IsRun S program (job_decks program bytes) reports cards ending → Whole reports cards ending
+  whole_of : (reports : List Report) (cards : List (List ℕ)) (ending : Ending) → IsRun S program (job_decks program bytes) reports cards ending →
+      Whole reports cards ending
   whole_of reports cards ending (is_over {reports = _} {cards = _} {state} came is) = record {
     before = reports;
     before_cards = cards;
@@ -142,7 +153,8 @@ module _ (S : Solving) (solving : KnowsSolving S) (answers : AnswersOnce S) (byt
     are_cards = refl;
   }
 
-  two_runs : (reports others : List Report) (cards other_cards : List (List ℕ)) (ending other : Ending) → Whole reports cards ending → Whole others other_cards other → (IsOverflow ending → ⊥) → (IsOverflow other → ⊥) →
+  two_runs : (reports others : List Report) (cards other_cards : List (List ℕ)) (ending other : Ending) → Whole reports cards ending →
+      Whole others other_cards other → (IsOverflow ending → ⊥) → (IsOverflow other → ⊥) →
       AreSame reports others cards other_cards ending other
   two_runs reports others cards other_cards ending other first second none nor = by (cases_lt m n)
     where
@@ -154,7 +166,8 @@ module _ (S : Solving) (solving : KnowsSolving S) (answers : AnswersOnce S) (byt
 
       as_many : m ≡ n → AreSame reports others cards other_cards ending other
       as_many e =
-          let same = same_so_far S solving answers bytes program is_program first.before second.before first.before_cards second.before_cards first.state second.state first.came second.came e in
+          let same =
+          same_so_far S solving answers bytes program is_program first.before second.before first.before_cards second.before_cards first.state second.state first.came second.came e in
           let moved : Last S program first.state second.gain other = subst (λ x. Last S program x second.gain other) (sym same.states_same) second.last in
           let ends = one_last first.before first.before_cards first.state first.gain second.gain ending other first.came none nor first.last moved in
           record {
@@ -174,21 +187,27 @@ module _ (S : Solving) (solving : KnowsSolving S) (answers : AnswersOnce S) (byt
       by (inr more) = not_fewer (eq-or-lt_of_le {n = n} {m = m} more)
 
   -- a statement that stops with an overflow, where it may go on or end otherwise, reports nothing
-  stops_where_it_goes : (reports : List Report) (cards : List (List ℕ)) (state : State) (gain : Gain) (ending : Ending) → RunHasReached reports cards state → IsOverflow ending → Last S program state gain ending →
+  stops_where_it_goes : (reports : List Report) (cards : List (List ℕ)) (state : State) (gain : Gain) (ending : Ending) → RunHasReached reports cards state →
+      IsOverflow ending → Last S program state gain ending →
       GoesOn S solving answers bytes program is_program state → gain ≡ Nothing
   stops_where_it_goes reports cards state _ ending came stop (over first) more = refl
   stops_where_it_goes reports cards state gain ending came stop (ended first) more =
-      stopped_going more.gain gain more.after ending (two_outcomes S solving answers bytes program is_program reports cards state (Goes more.gain more.after) (Ends gain ending) came more.step first)
+      stopped_going more.gain gain more.after ending
+      (two_outcomes S solving answers bytes program is_program reports cards state (Goes more.gain more.after) (Ends gain ending) came more.step first)
 
-  stops_where_it_ends : (reports : List Report) (cards : List (List ℕ)) (state : State) (gain other : Gain) (ending another : Ending) → RunHasReached reports cards state → (IsOverflow another → ⊥) → IsOverflow ending →
+  stops_where_it_ends : (reports : List Report) (cards : List (List ℕ)) (state : State) (gain other : Gain) (ending another : Ending) →
+      RunHasReached reports cards state → (IsOverflow another → ⊥) → IsOverflow ending →
       Last S program state gain ending → Last S program state other another → gain ≡ Nothing
   stops_where_it_ends reports cards state _ other ending another came nor stop (over first) second = refl
-  stops_where_it_ends reports cards state gain _ ending another came nor stop (ended first) (over second) = absurd (over_or_step S program state another (Ends gain ending) second first)
+  stops_where_it_ends reports cards state gain _ ending another came nor stop (ended first) (over second) =
+      absurd (over_or_step S program state another (Ends gain ending) second first)
   stops_where_it_ends reports cards state gain other ending another came nor stop (ended first) (ended second) =
-      stopped_ending gain other ending another nor stop (two_outcomes S solving answers bytes program is_program reports cards state (Ends gain ending) (Ends other another) came first second)
+      stopped_ending gain other ending another nor stop
+      (two_outcomes S solving answers bytes program is_program reports cards state (Ends gain ending) (Ends other another) came first second)
 
   -- a run without an overflow continues every other
-  stopped_early : (reports others : List Report) (cards other_cards : List (List ℕ)) (ending other : Ending) (first : Whole reports cards ending) (second : Whole others other_cards other) → first.gain ≡ Nothing →
+  stopped_early : (reports others : List Report) (cards other_cards : List (List ℕ)) (ending other : Ending) (first : Whole reports cards ending)
+      (second : Whole others other_cards other) → first.gain ≡ Nothing →
       Continues first.before second.before first.before_cards second.before_cards → Continues reports others cards other_cards
   stopped_early reports others cards other_cards ending other first second nothing rest =
       let are : reports ≡ first.before = first.are_reports ∙ ap (λ g. first.before ++ printed_by g) nothing ∙ append-nil first.before in
@@ -204,7 +223,8 @@ module _ (S : Solving) (solving : KnowsSolving S) (answers : AnswersOnce S) (byt
             ∙ ap (λ xs. xs ++ (rest.more_cards ++ punched_by second.gain)) (sym cards_are);
       }
 
-  broken_off : (reports others : List Report) (cards other_cards : List (List ℕ)) (ending other : Ending) → Whole reports cards ending → Whole others other_cards other → (IsOverflow other → ⊥) →
+  broken_off : (reports others : List Report) (cards other_cards : List (List ℕ)) (ending other : Ending) → Whole reports cards ending →
+      Whole others other_cards other → (IsOverflow other → ⊥) →
       IsOverflow ending ⊎ (IsOverflow ending → ⊥) → Continues reports others cards other_cards
   broken_off reports others cards other_cards ending other first second nor (inr none) =
       let same = two_runs reports others cards other_cards ending other first second none nor in
@@ -224,7 +244,8 @@ module _ (S : Solving) (solving : KnowsSolving S) (answers : AnswersOnce S) (byt
 
       silent : (m ≡ n) ⊎ (m < n) → first.gain ≡ Nothing
       silent (inl e) =
-          let same = same_so_far S solving answers bytes program is_program first.before second.before first.before_cards second.before_cards first.state second.state first.came second.came e in
+          let same =
+          same_so_far S solving answers bytes program is_program first.before second.before first.before_cards second.before_cards first.state second.state first.came second.came e in
           let moved : Last S program first.state second.gain other = subst (λ x. Last S program x second.gain other) (sym same.states_same) second.last in
           stops_where_it_ends first.before first.before_cards first.state first.gain second.gain ending other first.came nor stop first.last moved
       silent (inr fewer) =
@@ -237,7 +258,8 @@ module _ (S : Solving) (solving : KnowsSolving S) (answers : AnswersOnce S) (byt
       by (inr fewer) = stopped_early reports others cards other_cards ending other first second (silent (eq-or-lt_of_le {n = m} {m = n} fewer))
           (continues S solving answers bytes program is_program first.before second.before first.before_cards second.before_cards first.state second.state first.came second.came fewer)
 
-  two_so_far : (reports others : List Report) (cards other_cards : List (List ℕ)) (state other : State) → RunHasReached reports cards state → RunHasReached others other_cards other →
+  two_so_far : (reports others : List Report) (cards other_cards : List (List ℕ)) (state other : State) → RunHasReached reports cards state →
+      RunHasReached others other_cards other →
       Continues reports others cards other_cards ⊎ Continues others reports other_cards cards
   two_so_far reports others cards other_cards state other first second = by (cases_lt m n)
     where
@@ -255,7 +277,8 @@ module _ (S : Solving) (solving : KnowsSolving S) (answers : AnswersOnce S) (byt
   one_program : (program other : Program) → IsProgramOf bytes program → IsProgramOf bytes other → other ≡ program
   one_program program other first second = let e = sym second.is_compiled ∙ first.is_compiled in cc
 
-  two_job_runs : (reports others : List Report) (cards other_cards : List (List ℕ)) (ending other : Ending) → IsJobRun S bytes reports cards ending → IsJobRun S bytes others other_cards other →
+  two_job_runs : (reports others : List Report) (cards other_cards : List (List ℕ)) (ending other : Ending) → IsJobRun S bytes reports cards ending →
+      IsJobRun S bytes others other_cards other →
       (IsOverflow ending → ⊥) → (IsOverflow other → ⊥) → AreSame reports others cards other_cards ending other
   two_job_runs _ _ _ _ _ _ (card_fault fault is) (card_fault other also) none nor =
       let e = sym is ∙ also in record { same_reports = refl; same_cards = refl; same_ending = cc }
@@ -269,13 +292,15 @@ module _ (S : Solving) (solving : KnowsSolving S) (answers : AnswersOnce S) (byt
   two_job_runs _ _ _ _ _ _ (run program fine runs) (control_fault other again also) none nor = let e = sym also ∙ fine.is_compiled in absurd (cc e)
   two_job_runs reports others cards other_cards ending other (run program fine runs) (run another again second) none nor =
       let moved = subst (λ x. IsRun S x (job_decks x bytes) others other_cards other) (one_program program another fine again) second in
-      two_runs S solving answers bytes program fine reports others cards other_cards ending other (whole_of S solving answers bytes program fine reports cards ending runs)
+      two_runs S solving answers bytes program fine reports others cards other_cards ending other
+      (whole_of S solving answers bytes program fine reports cards ending runs)
       (whole_of S solving answers bytes program fine others other_cards other moved) none nor
 
   alone : {reports : List Report} {cards : List (List ℕ)} → Continues reports reports cards cards
   alone = record { more_reports = []; more_cards = []; are_reports = sym (append-nil _); are_cards = sym (append-nil _) }
 
-  job_breaks_off : (reports others : List Report) (cards other_cards : List (List ℕ)) (ending other : Ending) → IsJobRun S bytes reports cards ending → IsJobRun S bytes others other_cards other →
+  job_breaks_off : (reports others : List Report) (cards other_cards : List (List ℕ)) (ending other : Ending) → IsJobRun S bytes reports cards ending →
+      IsJobRun S bytes others other_cards other →
       (IsOverflow other → ⊥) → Continues reports others cards other_cards
   job_breaks_off _ _ _ _ _ _ (card_fault fault is) (card_fault other also) nor = alone
   job_breaks_off _ _ _ _ _ _ (card_fault fault is) (control_fault other fine also) nor = alone
@@ -287,11 +312,13 @@ module _ (S : Solving) (solving : KnowsSolving S) (answers : AnswersOnce S) (byt
   job_breaks_off _ _ _ _ _ _ (run program fine runs) (control_fault other again also) nor = let e = sym also ∙ fine.is_compiled in absurd (cc e)
   job_breaks_off reports others cards other_cards ending other (run program fine runs) (run another again second) nor =
       let moved = subst (λ x. IsRun S x (job_decks x bytes) others other_cards other) (one_program program another fine again) second in
-      broken_off S solving answers bytes program fine reports others cards other_cards ending other (whole_of S solving answers bytes program fine reports cards ending runs)
+      broken_off S solving answers bytes program fine reports others cards other_cards ending other
+      (whole_of S solving answers bytes program fine reports cards ending runs)
       (whole_of S solving answers bytes program fine others other_cards other moved) nor (overflow_or_not ending)
 
   -- where no evidence holds no run stops with an overflow
-  stopped_run : (program : Program) (reports : List Report) (cards : List (List ℕ)) (ending : Ending) → MeetsNoEvidence S bytes → IsProgramOf bytes program → IsRun S program (job_decks program bytes) reports cards ending →
+  stopped_run : (program : Program) (reports : List Report) (cards : List (List ℕ)) (ending : Ending) → MeetsNoEvidence S bytes → IsProgramOf bytes program →
+      IsRun S program (job_decks program bytes) reports cards ending →
       IsOverflow ending → ⊥
   stopped_run program _ _ _ none is (is_over came (at_end past)) stop = let e = stop.1 in cc e
   stopped_run program _ _ _ none is (is_over came (at_limit within limit)) stop = let e = stop.1 in cc e
@@ -300,7 +327,8 @@ module _ (S : Solving) (solving : KnowsSolving S) (answers : AnswersOnce S) (byt
       (statement_evidence S step.statement.card gain stop.0 step.statement.verb (counted state)
       (subst (λ x. Gives S step.statement.card (verb_move step.statement.verb step.statement.card (counted state)) (Ends gain x)) stop.1 step.gives))
 
-  unstopped : (reports : List Report) (cards : List (List ℕ)) (ending : Ending) → MeetsNoEvidence S bytes → IsJobRun S bytes reports cards ending → IsOverflow ending → ⊥
+  unstopped : (reports : List Report) (cards : List (List ℕ)) (ending : Ending) → MeetsNoEvidence S bytes → IsJobRun S bytes reports cards ending →
+      IsOverflow ending → ⊥
   unstopped _ _ _ none (card_fault fault is) stop = let e = stop.1 in cc e
   unstopped _ _ _ none (control_fault fault fine is) stop = let e = stop.1 in cc e
   unstopped reports cards ending none (run program is runs) stop = stopped_run program reports cards ending none is runs stop
@@ -308,13 +336,15 @@ module _ (S : Solving) (solving : KnowsSolving S) (answers : AnswersOnce S) (byt
 -- a run is a function, where each question has one answer
 pub is_function : (S : Solving) → KnowsSolving S → AnswersOnce S → IsFunction S
 is_function S solving answers = record {
-  step = λ bytes program reports cards state a b so_far first second. two_outcomes S solving answers bytes program so_far.is_program reports cards state a b so_far.reaches first second;
+  step =
+      λ bytes program reports cards state a b so_far first second. two_outcomes S solving answers bytes program so_far.is_program reports cards state a b so_far.reaches first second;
   so_far = λ bytes program reports others cards other_cards state other first second.
       two_so_far S solving answers bytes program first.is_program reports others cards other_cards state other first.reaches second.reaches;
   job = λ bytes. two_job_runs S solving answers bytes;
   breaks_off = λ bytes. job_breaks_off S solving answers bytes;
   unstopped = λ bytes. unstopped S solving answers bytes;
-  one_run = λ bytes reports others cards other_cards ending other none first second. two_job_runs S solving answers bytes reports others cards other_cards ending other first second
+  one_run =
+      λ bytes reports others cards other_cards ending other none first second. two_job_runs S solving answers bytes reports others cards other_cards ending other first second
       (unstopped S solving answers bytes reports cards ending none first) (unstopped S solving answers bytes others other_cards other none second);
 }
 
@@ -326,9 +356,12 @@ no_change : (question : Question) (sheet : Sheet) (s : Basis) → IsAsked questi
 no_change question sheet s asked = subst (λ (p : LinearProgram). p.change ≡ None) (is_chosen sheet.problem asked.choice sheet.lp asked.is_selected).1 refl
 
 -- PRIMAL and DUAL alone ask for a path
-path_once_by : (solver : Solver) (limit : Option ℕ) (sheet : Sheet) (s : Basis) (a b : PathEnd) → IsAsked (OfPath solver limit) sheet s → IsSolvedBy solver sheet s limit a → IsSolvedBy solver sheet s limit b → a ≡ b
-path_once_by Primal limit sheet s a b asked first second = path_once sheet s (lawful_of (OfPath Primal limit) sheet s asked) asked.is_basis limit a b first second
-path_once_by Dual limit sheet s a b asked first second = dual_path_once sheet s (lawful_of (OfPath Dual limit) sheet s asked) asked.is_basis limit a b first second
+path_once_by : (solver : Solver) (limit : Option ℕ) (sheet : Sheet) (s : Basis) (a b : PathEnd) → IsAsked (OfPath solver limit) sheet s →
+    IsSolvedBy solver sheet s limit a → IsSolvedBy solver sheet s limit b → a ≡ b
+path_once_by Primal limit sheet s a b asked first second =
+    path_once sheet s (lawful_of (OfPath Primal limit) sheet s asked) asked.is_basis limit a b first second
+path_once_by Dual limit sheet s a b asked first second =
+    dual_path_once sheet s (lawful_of (OfPath Dual limit) sheet s asked) asked.is_basis limit a b first second
 path_once_by Paraobj limit sheet s a b asked first second = absurd first
 path_once_by Pararhs limit sheet s a b asked first second = absurd first
 
@@ -338,7 +371,8 @@ unfolding linear_programming
 answers_once = record {
   paths = path_once_by;
   solutions = λ mark sheet s a b asked first second. reported_once sheet s a b (lawful_of (OfSolution mark) sheet s asked) asked.is_basis first second;
-  ranges = λ sheet s a b asked first second. ranged_once sheet s a b (lawful_of OfRanges sheet s asked) (no_change OfRanges sheet s asked) asked.suits first second;
+  ranges =
+      λ sheet s a b asked first second. ranged_once sheet s a b (lawful_of OfRanges sheet s asked) (no_change OfRanges sheet s asked) asked.suits first second;
   parametric_runs = run_through_once;
   punches = λ sheet s a b asked first second. first ∙ sym second;
   installs = λ t sheet s a b asked first second. installed_once sheet t a b first second;

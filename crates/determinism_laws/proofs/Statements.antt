@@ -50,7 +50,8 @@ module _ (S : Solving) where
   may_stop : (refusals : Refusals) (move : StatementMove) → IsOnce S move → IsOnce S (MayStop refusals move)
   may_stop refusals move is = record { once = is.once }
 
-  unless_fault : {X : Type 0} (card : ℕ) (fault : VerbFault) (o : Option X) (go : X → StatementMove) → ((x : X) → o ≡ Some x → IsOnce S (go x)) → IsOnce S (or_fault card fault o go)
+  unless_fault : {X : Type 0} (card : ℕ) (fault : VerbFault) (o : Option X) (go : X → StatementMove) → ((x : X) → o ≡ Some x → IsOnce S (go x)) →
+      IsOnce S (or_fault card fault o go)
   unless_fault card fault None go is = does _
   unless_fault card fault (Some x) go is = is x refl
 
@@ -58,11 +59,13 @@ module _ (S : Solving) where
   unless_deck_fault (Err fault) go is = does _
   unless_deck_fault (Ok x) go is = is x refl
 
-  unless_selection_fault : (card : ℕ) (r : Result LinearProgram SelectionFault) (go : LinearProgram → StatementMove) → ((lp : LinearProgram) → r ≡ Ok lp → IsOnce S (go lp)) → IsOnce S (or_selection_fault card r go)
+  unless_selection_fault : (card : ℕ) (r : Result LinearProgram SelectionFault) (go : LinearProgram → StatementMove) →
+      ((lp : LinearProgram) → r ≡ Ok lp → IsOnce S (go lp)) → IsOnce S (or_selection_fault card r go)
   unless_selection_fault card (Err fault) go is = does _
   unless_selection_fault card (Ok lp) go is = is lp refl
 
-  selecting : (card : ℕ) (problem : Problem ℕ) (choice : Choice) (go : LinearProgram → StatementMove) → ((lp : LinearProgram) → selected problem choice ≡ Ok lp → IsOnce S (go lp)) → IsOnce S (selects card problem choice go)
+  selecting : (card : ℕ) (problem : Problem ℕ) (choice : Choice) (go : LinearProgram → StatementMove) →
+      ((lp : LinearProgram) → selected problem choice ≡ Ok lp → IsOnce S (go lp)) → IsOnce S (selects card problem choice go)
   selecting card problem choice go is = unless_selection_fault card (selected problem choice) _ (λ lp e. may_stop _ (go lp) (is lp e))
 
   -- ---- verbs that ask nothing
@@ -88,8 +91,10 @@ module _ (S : Solving) where
 
   -- ---- verbs that ask
 
-  asked_here : (question : Question) (present : Present) (state : State) (lp : LinearProgram) → HasProblem state.setup → Knows state → state.setup ≡ Some present →
-      selected present.problem (choice_of state.cells present.options) ≡ Ok lp → Suits question (record { problem = present.problem; lp = lp }) (present_basis present) →
+  asked_here : (question : Question) (present : Present) (state : State) (lp : LinearProgram) → HasProblem state.setup → Knows state →
+      state.setup ≡ Some present →
+      selected present.problem (choice_of state.cells present.options) ≡ Ok lp →
+      Suits question (record { problem = present.problem; lp = lp }) (present_basis present) →
       IsAsked question (record { problem = present.problem; lp = lp }) (present_basis present)
   asked_here question present state lp lawful knows e is suits = record {
     is_problem = lawful present e;
@@ -100,11 +105,15 @@ module _ (S : Solving) where
   }
 
   -- a question at the present basis of what is selected of the setup
-  asked : (question : Question) (present : Present) (state : State) (lp : LinearProgram) (go : AnswerTo question → StatementOutcome) → HasOneAnswer S question → HasProblem state.setup → Knows state →
-      state.setup ≡ Some present → selected present.problem (choice_of state.cells present.options) ≡ Ok lp → Suits question (record { problem = present.problem; lp = lp }) (present_basis present) →
+  asked : (question : Question) (present : Present) (state : State) (lp : LinearProgram) (go : AnswerTo question → StatementOutcome) → HasOneAnswer S question →
+      HasProblem state.setup → Knows state →
+      state.setup ≡ Some present → selected present.problem (choice_of state.cells present.options) ≡ Ok lp →
+      Suits question (record { problem = present.problem; lp = lp }) (present_basis present) →
       IsOnce S (asks question (record { problem = present.problem; lp = lp }) present go)
   asked question present state lp go one lawful knows e is suits = record {
-    once = λ a b first second. one (record { problem = present.problem; lp = lp }) (present_basis present) a b (asked_here question present state lp lawful knows e is suits) first second;
+    once =
+        λ a b first second. one (record { problem = present.problem; lp = lp }) (present_basis present) a b
+        (asked_here question present state lp lawful knows e is suits) first second;
   }
 
   module _ (card : ℕ) (state : State) (lawful : HasProblem state.setup) (knows : Knows state) where
@@ -118,7 +127,10 @@ module _ (S : Solving) where
     punches_basis_once one =
         unless_fault card VerbFault.NoSetup state.setup _ (λ present e.
         selecting card present.problem (choice_of state.cells present.options) _ (λ lp is.
-        record { once = λ a b first second. one (record { problem = present.problem; lp = lp }) (present_basis present) a b (asked_here OfPunch present state lp lawful knows e is tt) first second }))
+        record {
+          once = λ a b first second. one (record { problem = present.problem; lp = lp }) (present_basis present) a b
+              (asked_here OfPunch present state lp lawful knows e is tt) first second;
+        }))
 
     inserts_once : ((t : Basis) → HasOneAnswer S (OfInstall t)) → IsOnce S (inserts card state)
     inserts_once one =
@@ -130,7 +142,8 @@ module _ (S : Solving) where
         (lawful_basis present.problem lp taken.0 s (selected_has_names present.problem (choice_of state.cells present.options) lp is) read)))))
 
     showing_once : (present : Present) (question : Question) (report : AnswerTo question → Report) → HasOneAnswer S question → state.setup ≡ Some present →
-        ((lp : LinearProgram) → selected present.problem (choice_of state.cells present.options) ≡ Ok lp → Suits question (record { problem = present.problem; lp = lp }) (present_basis present)) →
+        ((lp : LinearProgram) → selected present.problem (choice_of state.cells present.options) ≡ Ok lp →
+        Suits question (record { problem = present.problem; lp = lp }) (present_basis present)) →
         IsOnce S (shows_present card state present question report)
     showing_once present question report one e suits =
         unless_selection_fault card (selected present.problem (choice_of state.cells present.options)) _ (λ lp is.
@@ -143,10 +156,12 @@ module _ (S : Solving) where
         showing_once present (OfSolution mark) (Solution mark) (one mark) e (λ lp is. tt)))
 
     -- under the mark OPTIMAL the present basis is optimal in what is selected
-    optimal_now : (present : Present) (lp : LinearProgram) → state.mark ≡ Some Optimal → state.setup ≡ Some present → selected present.problem (choice_of state.cells present.options) ≡ Ok lp →
+    optimal_now : (present : Present) (lp : LinearProgram) → state.mark ≡ Some Optimal → state.setup ≡ Some present →
+        selected present.problem (choice_of state.cells present.options) ≡ Ok lp →
         IsOptimalBasis lp (present_basis present)
     optimal_now present lp m e is =
-        (optimal_end lp (present_basis present) known.point known.prices (selected_is_lawful present.problem (choice_of state.cells present.options) lp (lawful present e) is)
+        (optimal_end lp (present_basis present) known.point known.prices
+        (selected_is_lawful present.problem (choice_of state.cells present.options) lp (lawful present e) is)
         ((knows.bases present e).in_each state.cells.xobj state.cells.xrhs lp is) ends).optimal
       where
         known : EndsOptimally state.setup state.cells.xobj state.cells.xrhs
@@ -155,9 +170,11 @@ module _ (S : Solving) where
         same_present : known.present ≡ present
         same_present = same_Some known.present present (sym known.is_setup ∙ e)
 
-        moved : (selected present.problem (choice_of state.cells present.options) ≡ Ok known.lp) × EndsAt known.lp (present_basis present) (EndsOptimal known.point known.prices)
+        moved : (selected present.problem (choice_of state.cells present.options) ≡ Ok known.lp) × EndsAt known.lp (present_basis present)
+            (EndsOptimal known.point known.prices)
         moved =
-            subst (λ (x : Present). (selected x.problem (choice_of state.cells x.options) ≡ Ok known.lp) × EndsAt known.lp (present_basis x) (EndsOptimal known.point known.prices))
+            subst (λ (x : Present). (selected x.problem (choice_of state.cells x.options) ≡ Ok known.lp) × EndsAt known.lp (present_basis x)
+            (EndsOptimal known.point known.prices))
             same_present (known.is_selected, known.ends)
 
         same_lp : known.lp ≡ lp
@@ -174,7 +191,8 @@ module _ (S : Solving) where
         showing_once present OfRanges Ranges one e (λ lp is. optimal_now present lp (m ∙ ap (λ x. Some x) (optimal_alone mark optimal o)) e is))))
 
     parametric_runs_once : (fault : VerbFault) (change : Problem ℕ → Name → Option Changing) (moved : Option Name) →
-        ((problem : Problem ℕ) (name : Name) (changing : Changing) → change problem name ≡ Some changing → IsOfProblem changing problem) → ((parametric_run : ParametricRun) → HasOneAnswer S (OfParametricRun parametric_run)) →
+        ((problem : Problem ℕ) (name : Name) (changing : Changing) → change problem name ≡ Some changing → IsOfProblem changing problem) →
+        ((parametric_run : ParametricRun) → HasOneAnswer S (OfParametricRun parametric_run)) →
         IsOnce S (parametric_runs card fault change moved state)
     parametric_runs_once fault change moved of_problem one =
         unless_fault card VerbFault.NoSetup state.setup _ (λ present e.
@@ -200,7 +218,8 @@ module _ (S : Solving) where
     verb_once Revise card state lawful knows = revises_once card state
     verb_once (Setup options) card state lawful knows = sets_up_once card options state
     verb_once Primal card state lawful knows = solves_once card state lawful knows ByPrimal state.cells.xiterlim (answers.paths ByPrimal state.cells.xiterlim)
-    verb_once Dual card state lawful knows = solves_once card state lawful knows ByDual (Some (steps_allowed state.cells)) (answers.paths ByDual (Some (steps_allowed state.cells)))
+    verb_once Dual card state lawful knows =
+        solves_once card state lawful knows ByDual (Some (steps_allowed state.cells)) (answers.paths ByDual (Some (steps_allowed state.cells)))
     verb_once SolutionVerb card state lawful knows = shows_once card state lawful knows answers.solutions
     verb_once Ranging card state lawful knows = ranges_once card state lawful knows answers.ranges
     verb_once Paraobj card state lawful knows =

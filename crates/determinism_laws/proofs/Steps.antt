@@ -43,10 +43,13 @@ module _ (S : Solving) (solving : KnowsSolving S) (answers : AnswersOnce S) (byt
   RunReaches reports cards state = Reaches S program (job_decks program bytes) reports cards state
 
   -- two outcomes of one statement
-  pub two_outcomes : (reports : List Report) (cards : List (List ℕ)) (state : State) (a b : StatementOutcome) → RunReaches reports cards state → Step S program state a → Step S program state b → IsSameOrStop a b
+  pub two_outcomes : (reports : List Report) (cards : List (List ℕ)) (state : State) (a b : StatementOutcome) → RunReaches reports cards state →
+      Step S program state a → Step S program state b → IsSameOrStop a b
   two_outcomes reports cards state a b reaches first second =
       outcomes S first.statement.card (verb_move first.statement.verb first.statement.card (counted state)) a b
-      (verb_once S answers first.statement.verb first.statement.card (counted state) (has_problem S solving bytes program is_program reports cards state reaches) (counted_known state (known S solving bytes program is_program reports cards state reaches))).once
+      (verb_once S answers first.statement.verb first.statement.card (counted state)
+      (has_problem S solving bytes program is_program reports cards state reaches)
+      (counted_known state (known S solving bytes program is_program reports cards state reaches))).once
       first.gives moved
     where
       same : second.statement ≡ first.statement
@@ -66,7 +69,8 @@ module _ (S : Solving) (solving : KnowsSolving S) (answers : AnswersOnce S) (byt
     pub after : State
     pub step : Step S program state (Goes gain after)
 
-  one_more : (reports others : List Report) (cards other_cards : List (List ℕ)) (state other : State) (gain another : Gain) (after later : State) → RunReaches reports cards state →
+  one_more : (reports others : List Report) (cards other_cards : List (List ℕ)) (state other : State) (gain another : Gain) (after later : State) →
+      RunReaches reports cards state →
       SameSoFar reports others cards other_cards state other → Step S program state (Goes gain after) → Step S program other (Goes another later) →
       SameSoFar (reports ++ printed_by gain) (others ++ printed_by another) (cards ++ punched_by gain) (other_cards ++ punched_by another) after later
   one_more reports others cards other_cards state other gain another after later reaches same step second =
@@ -79,16 +83,20 @@ module _ (S : Solving) (solving : KnowsSolving S) (answers : AnswersOnce S) (byt
       }
 
   -- after as many statements two runs are the same
-  pub same_so_far : (reports others : List Report) (cards other_cards : List (List ℕ)) (state other : State) (first : RunReaches reports cards state) (second : RunReaches others other_cards other) →
+  pub same_so_far : (reports others : List Report) (cards other_cards : List (List ℕ)) (state other : State) (first : RunReaches reports cards state)
+      (second : RunReaches others other_cards other) →
       steps first ≡ steps second → SameSoFar reports others cards other_cards state other
   same_so_far _ _ _ _ _ _ begun begun e = record { reports_same = refl; cards_same = refl; states_same = refl }
   same_so_far _ _ _ _ _ _ begun (stepped gain after before step) e = absurd (omega arith)
   same_so_far _ _ _ _ _ _ (stepped gain after before step) begun e = absurd (omega arith)
-  same_so_far _ _ _ _ _ _ (stepped {reports} {cards} {state} gain after before step) (stepped {reports = others} {cards = other_cards} {state = other} another later earlier second) e =
-      one_more reports others cards other_cards state other gain another after later before (same_so_far reports others cards other_cards state other before earlier (omega (arith, e))) step second
+  same_so_far _ _ _ _ _ _ (stepped {reports} {cards} {state} gain after before step)
+      (stepped {reports = others} {cards = other_cards} {state = other} another later earlier second) e =
+      one_more reports others cards other_cards state other gain another after later before
+      (same_so_far reports others cards other_cards state other before earlier (omega (arith, e))) step second
 
   -- a run that has executed fewer statements than another goes on
-  pub goes_on : (reports others : List Report) (cards other_cards : List (List ℕ)) (state other : State) (first : RunReaches reports cards state) (second : RunReaches others other_cards other) →
+  pub goes_on : (reports others : List Report) (cards other_cards : List (List ℕ)) (state other : State) (first : RunReaches reports cards state)
+      (second : RunReaches others other_cards other) →
       steps first < steps second → GoesOn state
   goes_on _ _ _ _ _ _ first begun e = absurd (omega (arith, e))
   goes_on reports _ cards _ state _ first (stepped {reports = others} {cards = other_cards} {state = other} gain after before step) e =
@@ -98,12 +106,15 @@ module _ (S : Solving) (solving : KnowsSolving S) (answers : AnswersOnce S) (byt
       by (inl as_many) earlier = record {
         gain = gain;
         after = after;
-        step = subst (λ x. Step S program x (Goes gain after)) (sym (same_so_far reports others cards other_cards state other first before as_many).states_same) step;
+        step =
+            subst (λ x. Step S program x (Goes gain after))
+            (sym (same_so_far reports others cards other_cards state other first before as_many).states_same) step;
       }
       by (inr fewer) earlier = earlier fewer
 
   -- and the other continues it
-  pub continues : (reports others : List Report) (cards other_cards : List (List ℕ)) (state other : State) (first : RunReaches reports cards state) (second : RunReaches others other_cards other) →
+  pub continues : (reports others : List Report) (cards other_cards : List (List ℕ)) (state other : State) (first : RunReaches reports cards state)
+      (second : RunReaches others other_cards other) →
       steps first ≤ steps second → Continues reports others cards other_cards
   continues _ _ _ _ _ _ begun begun e = record { more_reports = []; more_cards = []; are_reports = refl; are_cards = refl }
   continues _ _ _ _ _ _ (stepped gain after before step) begun e = absurd (omega (arith, e))
@@ -113,7 +124,8 @@ module _ (S : Solving) (solving : KnowsSolving S) (answers : AnswersOnce S) (byt
       by : (steps first ≡ suc (steps before)) ⊎ (steps first < suc (steps before)) → (steps first ≤ steps before → Continues reports others cards other_cards) →
           Continues reports (others ++ printed_by gain) cards (other_cards ++ punched_by gain)
       by (inl as_many) earlier =
-          let same = same_so_far reports (others ++ printed_by gain) cards (other_cards ++ punched_by gain) state after first (stepped gain after before step) as_many in
+          let same =
+          same_so_far reports (others ++ printed_by gain) cards (other_cards ++ punched_by gain) state after first (stepped gain after before step) as_many in
           record {
             more_reports = [];
             more_cards = [];

@@ -78,7 +78,8 @@ does outcome other = record { other = other }
 may_stop : (refusals : Refusals) (move : StatementMove) → NeverStops move → NeverStops (MayStop refusals move)
 may_stop refusals move never = record { other = never.other }
 
-unless_fault : {X : Type 0} (card : ℕ) (fault : VerbFault) (o : Option X) (go : X → StatementMove) → ((x : X) → NeverStops (go x)) → NeverStops (or_fault card fault o go)
+unless_fault : {X : Type 0} (card : ℕ) (fault : VerbFault) (o : Option X) (go : X → StatementMove) → ((x : X) → NeverStops (go x)) →
+    NeverStops (or_fault card fault o go)
 unless_fault card fault None go never = does _ tt
 unless_fault card fault (Some x) go never = never x
 
@@ -86,11 +87,13 @@ unless_deck_fault : {X : Type 0} (r : Result X DeckFault) (go : X → StatementM
 unless_deck_fault (Err fault) go never = does _ tt
 unless_deck_fault (Ok x) go never = never x
 
-unless_selection_fault : (card : ℕ) (r : Result LinearProgram SelectionFault) (go : LinearProgram → StatementMove) → ((lp : LinearProgram) → NeverStops (go lp)) → NeverStops (or_selection_fault card r go)
+unless_selection_fault : (card : ℕ) (r : Result LinearProgram SelectionFault) (go : LinearProgram → StatementMove) →
+    ((lp : LinearProgram) → NeverStops (go lp)) → NeverStops (or_selection_fault card r go)
 unless_selection_fault card (Err fault) go never = does _ tt
 unless_selection_fault card (Ok lp) go never = never lp
 
-selecting : (card : ℕ) (problem : Problem ℕ) (choice : Choice) (go : LinearProgram → StatementMove) → ((lp : LinearProgram) → NeverStops (go lp)) → NeverStops (selects card problem choice go)
+selecting : (card : ℕ) (problem : Problem ℕ) (choice : Choice) (go : LinearProgram → StatementMove) → ((lp : LinearProgram) → NeverStops (go lp)) →
+    NeverStops (selects card problem choice go)
 selecting card problem choice go never = unless_selection_fault card (selected problem choice) _ (λ lp. may_stop _ (go lp) (never lp))
 
 -- ---- verbs
@@ -129,13 +132,16 @@ after_path_other solver card present state (Reached bases verdict check) =
 after_path_other solver card present state PathLimit = tt
 after_path_other solver card present state (PricesWrong j) = tt
 
-after_install_other : (card : ℕ) (lp : LinearProgram) (s : Basis) (taken : List Card × List (List Card)) (present : Present) (state : State) (end : InstallEnd) → IsOther (after_install card lp s taken present state end)
+after_install_other : (card : ℕ) (lp : LinearProgram) (s : Basis) (taken : List Card × List (List Card)) (present : Present) (state : State)
+    (end : InstallEnd) → IsOther (after_install card lp s taken present state end)
 after_install_other card lp s taken present state Installed = tt
 after_install_other card lp s taken present state (DependsBy lines) = tt
 
-after_parametric_run_other : (card : ℕ) (parametric_run : ParametricRun) (present : Present) (state : State) (end : ParametricRunEnd) → IsOther (after_parametric_run card parametric_run present state end)
+after_parametric_run_other : (card : ℕ) (parametric_run : ParametricRun) (present : Present) (state : State) (end : ParametricRunEnd) →
+    IsOther (after_parametric_run card parametric_run present state end)
 after_parametric_run_other card parametric_run present state (Opening bases verdict check) =
-    by_verdict_other (mark_of verdict) (Solved (parametric_solver parametric_run.changing) verdict check) (record state { setup = Some (gone_through bases present); mark = None })
+    by_verdict_other (mark_of verdict) (Solved (parametric_solver parametric_run.changing) verdict check)
+    (record state { setup = Some (gone_through bases present); mark = None })
 after_parametric_run_other card parametric_run present state (Chained bases intervals end) = tt
 after_parametric_run_other card parametric_run present state ParametricRunLimit = tt
 
@@ -159,8 +165,10 @@ module _ (card : ℕ) (state : State) where
       unless_deck_fault (basis_reading present.problem lp taken.0) _ (λ s.
       record { other = after_install_other card lp s taken present state }))))
 
-  showing_never : (present : Present) (question : Question) (report : AnswerTo question → Report) → NeverStops (shows_present card state present question report)
-  showing_never present question report = unless_selection_fault card (selected present.problem (choice_of state.cells present.options)) _ (λ lp. record { other = λ lines. tt })
+  showing_never : (present : Present) (question : Question) (report : AnswerTo question → Report) →
+      NeverStops (shows_present card state present question report)
+  showing_never present question report =
+      unless_selection_fault card (selected present.problem (choice_of state.cells present.options)) _ (λ lp. record { other = λ lines. tt })
 
   shows_never : NeverStops (shows card state)
   shows_never =
@@ -175,14 +183,18 @@ module _ (card : ℕ) (state : State) where
       unless_fault {X = Mark} card VerbFault.NotOptimal (if_optimal mark) _ (λ optimal.
       showing_never present OfRanges Ranges)))
 
-  parametric_runs_never : (fault : VerbFault) (change : Problem ℕ → Name → Option Changing) (moved : Option Name) → NeverStops (parametric_runs card fault change moved state)
+  parametric_runs_never : (fault : VerbFault) (change : Problem ℕ → Name → Option Changing) (moved : Option Name) →
+      NeverStops (parametric_runs card fault change moved state)
   parametric_runs_never fault change moved =
       unless_fault card VerbFault.NoSetup state.setup _ (λ present.
       selecting card present.problem (choice_of state.cells present.options) _ (λ lp.
       unless_fault {X = Changing} card fault (option_and_then (change present.problem) moved) _ (λ changing.
       unless_fault {X = ℚ} card VerbFault.NoParmax state.cells.xparmax _ (λ last.
       unless_fault {X = ℚ} card VerbFault.ParmaxBelow (not_less state.cells.xparam last) _ (λ to.
-      record { other = after_parametric_run_other card (record { changing = changing; from = state.cells.xparam; to = to; limit = steps_allowed state.cells }) present state })))))
+      record {
+        other = after_parametric_run_other card
+            (record { changing = changing; from = state.cells.xparam; to = to; limit = steps_allowed state.cells }) present state;
+      })))))
 
 verb_never : (verb : Verb ℕ) (card : ℕ) (state : State) → NeverStops (verb_move verb card state)
 unfolding verb_move
@@ -216,7 +228,8 @@ module _ (S : Solving) (card : ℕ) (gain : Gain) (overflow : Overflow) where
   by_evidence (MayStop refusals move) other (inr stop) = inl (stop.0, stop.1, stop.2)
   by_evidence (Asks question sheet s go) other gives = subst IsOther (sym gives.2) (other gives.0)
 
-  pub statement_evidence : (verb : Verb ℕ) (state : State) → Gives S card (verb_move verb card state) (Ends gain (OverflowStop overflow)) → HasEvidence S (verb_move verb card state)
+  pub statement_evidence : (verb : Verb ℕ) (state : State) → Gives S card (verb_move verb card state) (Ends gain (OverflowStop overflow)) →
+      HasEvidence S (verb_move verb card state)
   statement_evidence verb state gives = by_evidence (verb_move verb card state) (verb_never verb card state).other gives
 
 -- ---- and no statement ends a run as a device or memory does
@@ -274,13 +287,16 @@ of_itself PunchFault own = own
 of_itself Memory own = own
 
 module _ (S : Solving) where
-  pub end_of_run : (program : Program) (decks : List (List Card)) (reports : List Report) (cards : List (List ℕ)) (ending : Ending) → IsRun S program decks reports cards ending → IsEndOfRun ending
+  pub end_of_run : (program : Program) (decks : List (List Card)) (reports : List Report) (cards : List (List ℕ)) (ending : Ending) →
+      IsRun S program decks reports cards ending → IsEndOfRun ending
   end_of_run program decks _ _ _ (is_over came (at_end past)) = lit≤ tt
   end_of_run program decks _ _ _ (is_over came (at_limit within limit)) = tt
-  end_of_run program decks _ _ ending (is_ended {state = state} gain came step) = statement_as_run S step.statement.card (Ends gain ending) step.statement.verb (counted state) step.gives
+  end_of_run program decks _ _ ending (is_ended {state = state} gain came step) =
+      statement_as_run S step.statement.card (Ends gain ending) step.statement.verb (counted state) step.gives
 
   -- a run of a job, where nothing fails, ends by itself
-  pub job_of_itself : (bytes : List ℕ) (reports : List Report) (cards : List (List ℕ)) (ending : Ending) → IsJobRun S bytes reports cards ending → IsOfItself ending
+  pub job_of_itself : (bytes : List ℕ) (reports : List Report) (cards : List (List ℕ)) (ending : Ending) → IsJobRun S bytes reports cards ending →
+      IsOfItself ending
   job_of_itself bytes _ _ _ (card_fault fault is) = tt
   job_of_itself bytes _ _ _ (control_fault fault fine is) = tt
   job_of_itself bytes reports cards ending (run program is runs) = of_itself ending (end_of_run program _ reports cards ending runs)

@@ -48,7 +48,8 @@ module _ (passes : ℕ → Bool) (f : ℕ → ℚ) where
       itself : (not (passes first) || le_ℚ (f first) (f first)) ≡ true
       itself = or_right (not (passes first)) (le_ℚ (f first) (f first)) (test_from_le (f first) (f first) (le_refl (f first)))
 
-      sooner : passes first ≡ true → ((i : ℕ) → suc first ≤ i → i < suc first + n → (not (passes i) || le_ℚ (f first) (f i)) ≡ true) → IsLeastOf (suc n) first first
+      sooner : passes first ≡ true → ((i : ℕ) → suc first ≤ i → i < suc first + n → (not (passes i) || le_ℚ (f first) (f i)) ≡ true) →
+          IsLeastOf (suc n) first first
       sooner is past = record {
         low = omega arith;
         high = omega arith;
@@ -66,12 +67,16 @@ module _ (passes : ℕ → Bool) (f : ℕ → ℚ) where
       by_first true is (inl none) = inr (first, sooner is (λ i low high. rw (none i low high) refl))
       by_first true is (inr one) = by_order is one.0 one.1 (le_total (f first) (f one.0))
 
-pub cheapest_none : (p : LinearProgram) (s : List Status) (t : Tableau) (r : ℕ) (below : Bool) → cheapest p s t r below ≡ None → (k : ℕ) → IsVariable p.matrix k → restores_feasibility p s t r below k ≡ false
+pub cheapest_none : (p : LinearProgram) (s : List Status) (t : Tableau) (r : ℕ) (below : Bool) → cheapest p s t r below ≡ None → (k : ℕ) →
+    IsVariable p.matrix k → restores_feasibility p s t r below k ≡ false
 cheapest_none p s t r below none k is = by_least (least_of (restores_feasibility p s t r below) (ratio p s t r) (size p.matrix) 1)
   where
-    by_least : ((NonePasses (restores_feasibility p s t r below) (ratio p s t r) (size p.matrix) 1) ⊎ ((k : ℕ) × IsLeastOf (restores_feasibility p s t r below) (ratio p s t r) (size p.matrix) 1 k)) → restores_feasibility p s t r below k ≡ false
+    by_least : ((NonePasses (restores_feasibility p s t r below) (ratio p s t r) (size p.matrix) 1) ⊎
+        ((k : ℕ) × IsLeastOf (restores_feasibility p s t r below) (ratio p s t r) (size p.matrix) 1 k)) → restores_feasibility p s t r below k ≡ false
     by_least (inl all) = all k is.0 (omega (arith, is.1))
     by_least (inr one) =
-        let first : is_cheapest p s t r below one.0 ≡ true = list_all_from (λ j. not (restores_feasibility p s t r below j) || le_ℚ (ratio p s t r one.0) (ratio p s t r j)) (size p.matrix) 1 one.1.least in
-        let fails = none_passes p (λ q. restores_feasibility p s t r below q && is_cheapest p s t r below q) none one.0 (one.1.low, omega (arith, one.1.high)) in
+        let first : is_cheapest p s t r below one.0 ≡ true =
+        list_all_from (λ j. not (restores_feasibility p s t r below j) || le_ℚ (ratio p s t r one.0) (ratio p s t r j)) (size p.matrix) 1 one.1.least in
+        let fails =
+        none_passes p (λ q. restores_feasibility p s t r below q && is_cheapest p s t r below q) none one.0 (one.1.low, omega (arith, one.1.high)) in
         absurd (clash (sym (ap₂ (λ a b. a && b) one.1.own first) ∙ fails))

@@ -91,26 +91,32 @@ module _ (w x ratio : ℚ) (rises falls : Bool) (whole : ratio *ℚ magnitude x 
         where
           by_sign : (x <ℚ zero_ℚ) ⊎ (zero_ℚ ≤ℚ x) → zero_ℚ ≤ℚ w +ℚ least *ℚ x
           by_sign (inr grows) =
-              le_by_two (rises_right w rises falls right may) (le_by_product some grows (by_ring2 least x (λ m x. m ⊗ x ≐ number (pos 0) ⊕ (m ⊖ number (pos 0)) ⊗ (x ⊖ number (pos 0))) refl))
+              le_by_two (rises_right w rises falls right may)
+              (le_by_product some grows (by_ring2 least x (λ m x. m ⊗ x ≐ number (pos 0) ⊕ (m ⊖ number (pos 0)) ⊗ (x ⊖ number (pos 0))) refl))
               (by_ring3 w least x (λ w m x. w ⊕ m ⊗ x ≐ number (pos 0) ⊕ ((w ⊖ number (pos 0)) ⊕ (m ⊗ x ⊖ number (pos 0)))) refl)
           by_sign (inl less) =
               let brings : ((lt_ℚ x zero_ℚ && rises) || (lt_ℚ zero_ℚ x && falls)) ≡ true = rw (test_from_lt x zero_ℚ less, may) refl in
               let below : least *ℚ neg_ℚ x ≤ℚ ratio *ℚ neg_ℚ x =
-              le_by_product (at_most brings) (le_of_lt less) (by_ring3 least ratio x (λ m r x. r ⊗ opposite x ≐ m ⊗ opposite x ⊕ (r ⊖ m) ⊗ (number (pos 0) ⊖ x)) refl) in
-              le_by_one (subst (λ y. least *ℚ neg_ℚ x ≤ℚ y) (falling less may) below) (by_ring3 w least x (λ w m x. w ⊕ m ⊗ x ≐ number (pos 0) ⊕ (w ⊖ m ⊗ opposite x)) refl)
+              le_by_product (at_most brings) (le_of_lt less)
+              (by_ring3 least ratio x (λ m r x. r ⊗ opposite x ≐ m ⊗ opposite x ⊕ (r ⊖ m) ⊗ (number (pos 0) ⊖ x)) refl) in
+              le_by_one (subst (λ y. least *ℚ neg_ℚ x ≤ℚ y) (falling less may) below)
+              (by_ring3 w least x (λ w m x. w ⊕ m ⊗ x ≐ number (pos 0) ⊕ (w ⊖ m ⊗ opposite x)) refl)
 
       down : falls ≡ true → w +ℚ least *ℚ x ≤ℚ zero_ℚ
       down may = by_sign (lt_or_le zero_ℚ x)
         where
           by_sign : (zero_ℚ <ℚ x) ⊎ (x ≤ℚ zero_ℚ) → w +ℚ least *ℚ x ≤ℚ zero_ℚ
           by_sign (inr sinks) =
-              le_by_two (falls_right w rises falls right may) (le_by_product some sinks (by_ring2 least x (λ m x. number (pos 0) ≐ m ⊗ x ⊕ (m ⊖ number (pos 0)) ⊗ (number (pos 0) ⊖ x)) refl))
+              le_by_two (falls_right w rises falls right may)
+              (le_by_product some sinks (by_ring2 least x (λ m x. number (pos 0) ≐ m ⊗ x ⊕ (m ⊖ number (pos 0)) ⊗ (number (pos 0) ⊖ x)) refl))
               (by_ring3 w least x (λ w m x. number (pos 0) ≐ (w ⊕ m ⊗ x) ⊕ ((number (pos 0) ⊖ w) ⊕ (number (pos 0) ⊖ m ⊗ x))) refl)
           by_sign (inl more) =
-              let brings : ((lt_ℚ x zero_ℚ && rises) || (lt_ℚ zero_ℚ x && falls)) ≡ true = by_right (lt_ℚ x zero_ℚ && rises) (lt_ℚ zero_ℚ x && falls) (rw (test_from_lt zero_ℚ x more, may) refl) in
+              let brings : ((lt_ℚ x zero_ℚ && rises) || (lt_ℚ zero_ℚ x && falls)) ≡ true =
+              by_right (lt_ℚ x zero_ℚ && rises) (lt_ℚ zero_ℚ x && falls) (rw (test_from_lt zero_ℚ x more, may) refl) in
               let above : least *ℚ x ≤ℚ ratio *ℚ x =
               le_by_product (at_most brings) (le_of_lt more) (by_ring3 least ratio x (λ m r x. r ⊗ x ≐ m ⊗ x ⊕ (r ⊖ m) ⊗ (x ⊖ number (pos 0))) refl) in
-              le_by_one (subst (λ y. least *ℚ x ≤ℚ y) (rising more may) above) (by_ring3 w least x (λ w m x. number (pos 0) ≐ (w ⊕ m ⊗ x) ⊕ (opposite w ⊖ m ⊗ x)) refl)
+              le_by_one (subst (λ y. least *ℚ x ≤ℚ y) (rising more may) above)
+              (by_ring3 w least x (λ w m x. number (pos 0) ≐ (w ⊕ m ⊗ x) ⊕ (opposite w ⊖ m ⊗ x)) refl)
             where
               by_right : (a b : Bool) → b ≡ true → (a || b) ≡ true
               by_right true b e = refl
@@ -134,10 +140,12 @@ module _ (s : Sense) (aj aq rj rq least : ℚ) (apart : rq ≢ zero_ℚ) where
       ∙ ap (λ z. least *ℚ z) (div-mul_cancel one_ℚ rq apart)
       ∙ by_ring1 least (λ m. m ⊗ number (pos 1) ≐ m) refl
 
-  pub others_after : (below : Bool) → least *ℚ signed (not below) rq ≡ neg_ℚ (for_min s aq) → for_min s (aj -ℚ (rj /ℚ rq) *ℚ aq) ≡ for_min s aj +ℚ least *ℚ signed (not below) rj
+  pub others_after : (below : Bool) → least *ℚ signed (not below) rq ≡ neg_ℚ (for_min s aq) →
+      for_min s (aj -ℚ (rj /ℚ rq) *ℚ aq) ≡ for_min s aj +ℚ least *ℚ signed (not below) rj
   others_after true e =
       for_min_less s aj (rj /ℚ rq) aq
-      ∙ ap (λ z. for_min s aj -ℚ z) (taken (for_min s aq) (turned (least *ℚ rq) (for_min s aq) (by_ring2 least rq (λ m r. opposite (m ⊗ r) ≐ m ⊗ opposite r) refl ∙ e)))
+      ∙ ap (λ z. for_min s aj -ℚ z)
+      (taken (for_min s aq) (turned (least *ℚ rq) (for_min s aq) (by_ring2 least rq (λ m r. opposite (m ⊗ r) ≐ m ⊗ opposite r) refl ∙ e)))
       ∙ by_ring3 (for_min s aj) least rj (λ w m r. w ⊖ m ⊗ r ≐ w ⊕ m ⊗ opposite r) refl
   others_after false e =
       for_min_less s aj (rj /ℚ rq) aq
@@ -145,7 +153,9 @@ module _ (s : Sense) (aj aq rj rq least : ℚ) (apart : rq ≢ zero_ℚ) where
       ∙ ap (λ z. for_min s aj +ℚ z) (taken (neg_ℚ (for_min s aq)) e)
 
   pub own_below : least *ℚ signed false rq ≡ neg_ℚ (for_min s aq) → for_min s ((one_ℚ /ℚ rq) *ℚ aq) ≡ least
-  own_below e = for_min_times s (one_ℚ /ℚ rq) aq ∙ once (for_min s aq) (turned (least *ℚ rq) (for_min s aq) (by_ring2 least rq (λ m r. opposite (m ⊗ r) ≐ m ⊗ opposite r) refl ∙ e))
+  own_below e =
+      for_min_times s (one_ℚ /ℚ rq) aq
+      ∙ once (for_min s aq) (turned (least *ℚ rq) (for_min s aq) (by_ring2 least rq (λ m r. opposite (m ⊗ r) ≐ m ⊗ opposite r) refl ∙ e))
 
   pub own_above : least *ℚ signed true rq ≡ neg_ℚ (for_min s aq) → for_min s ((one_ℚ /ℚ rq) *ℚ aq) ≡ neg_ℚ least
   own_above e =
@@ -156,8 +166,10 @@ module _ (s : Sense) (aj aq rj rq least : ℚ) (apart : rq ≢ zero_ℚ) where
 -- ---- in a program
 
 module _ (p : LinearProgram) (no_change : p.change ≡ None) (s : List Status) (at : IsNonsingularBasis p s) (t : Tableau) (tab : IsTableau p s t)
-    (right : (k : ℕ) → IsVariable p.matrix k → lowers p s (worth_rate p s t) k ≡ false) (r q : ℕ) (below : Bool) (leaves : IsBasic p.matrix (basics_of s) r) (q_is : IsVariable p.matrix q)
-    (brings : restores_feasibility p s t r below q ≡ true) (least : (j : ℕ) → IsVariable p.matrix j → restores_feasibility p s t r below j ≡ true → ratio p s t r q ≤ℚ ratio p s t r j) where
+    (right : (k : ℕ) → IsVariable p.matrix k → lowers p s (worth_rate p s t) k ≡ false) (r q : ℕ) (below : Bool) (leaves : IsBasic p.matrix (basics_of s) r)
+    (q_is : IsVariable p.matrix q)
+    (brings : restores_feasibility p s t r below q ≡ true)
+    (least : (j : ℕ) → IsVariable p.matrix j → restores_feasibility p s t r below j ≡ true → ratio p s t r q ≤ℚ ratio p s t r j) where
   abbrev pub limit_of : Status
   limit_of = if below then Ll else Ul
 
@@ -177,8 +189,10 @@ module _ (p : LinearProgram) (no_change : p.change ≡ None) (s : List Status) (
   rate_of rate k = ap (λ c. with_change_row c (λ i. rate i k) (rate p.objective k)) no_change
 
   right_at : (k : ℕ) → IsVariable p.matrix k →
-      ((lt_ℚ (for_min p.sense (t.rate p.objective k)) zero_ℚ && may_rise p s k) || (lt_ℚ zero_ℚ (for_min p.sense (t.rate p.objective k)) && may_fall p s k)) ≡ false
-  right_at k is = ap (λ x. (lt_ℚ (for_min p.sense x) zero_ℚ && may_rise p s k) || (lt_ℚ zero_ℚ (for_min p.sense x) && may_fall p s k)) (sym (rate_of t.rate k)) ∙ right k is
+      ((lt_ℚ (for_min p.sense (t.rate p.objective k)) zero_ℚ && may_rise p s k) ||
+      (lt_ℚ zero_ℚ (for_min p.sense (t.rate p.objective k)) && may_fall p s k)) ≡ false
+  right_at k is =
+      ap (λ x. (lt_ℚ (for_min p.sense x) zero_ℚ && may_rise p s k) || (lt_ℚ zero_ℚ (for_min p.sense x) && may_fall p s k)) (sym (rate_of t.rate k)) ∙ right k is
 
   whole : (k : ℕ) → t.rate r k ≢ zero_ℚ → ratio p s t r k *ℚ magnitude (signed (not below) (t.rate r k)) ≡ magnitude (for_min p.sense (t.rate p.objective k))
   whole k apart =
@@ -190,7 +204,8 @@ module _ (p : LinearProgram) (no_change : p.change ≡ None) (s : List Status) (
 
   pub own : ratio p s t r q *ℚ signed (not below) (t.rate r q) ≡ neg_ℚ (for_min p.sense (t.rate p.objective q))
   own =
-      own_ratio (for_min p.sense (t.rate p.objective q)) (signed (not below) (t.rate r q)) (ratio p s t r q) (may_rise p s q) (may_fall p s q) (whole q pivot) (right_at q q_is) brings
+      own_ratio (for_min p.sense (t.rate p.objective q)) (signed (not below) (t.rate r q)) (ratio p s t r q) (may_rise p s q) (may_fall p s q) (whole q pivot)
+      (right_at q q_is) brings
 
   to_apart : (if below then Ll else Ul) ≢ Bs
   to_apart = apart below
@@ -219,7 +234,8 @@ module _ (p : LinearProgram) (no_change : p.change ≡ None) (s : List Status) (
           ((lt_ℚ (for_min p.sense (t.rate p.objective j) +ℚ ratio p s t r q *ℚ signed (not below) (t.rate r j)) zero_ℚ && may_rise p s j)
           || (lt_ℚ zero_ℚ (for_min p.sense (t.rate p.objective j) +ℚ ratio p s t r q *ℚ signed (not below) (t.rate r j)) && may_fall p s j)) ≡ false
       by_rate (inr apart) =
-          stays_right (for_min p.sense (t.rate p.objective j)) (signed (not below) (t.rate r j)) (ratio p s t r j) (may_rise p s j) (may_fall p s j) (whole j apart) (right_at j is)
+          stays_right (for_min p.sense (t.rate p.objective j)) (signed (not below) (t.rate r j)) (ratio p s t r j) (may_rise p s j) (may_fall p s j)
+          (whole j apart) (right_at j is)
           (ratio p s t r q) some (λ e. least j is e)
       by_rate (inl zero) =
           ap (λ x. (lt_ℚ x zero_ℚ && may_rise p s j) || (lt_ℚ zero_ℚ x && may_fall p s j))
@@ -228,8 +244,10 @@ module _ (p : LinearProgram) (no_change : p.change ≡ None) (s : List Status) (
           ∙ right_at j is
 
   -- r, which stands at its limit
-  leaver_right : ((lt_ℚ (for_min p.sense ((one_ℚ /ℚ t.rate r q) *ℚ t.rate p.objective q)) zero_ℚ && (rises_from (if below then Ll else Ul) && not (is_fixed p r)))
-      || (lt_ℚ zero_ℚ (for_min p.sense ((one_ℚ /ℚ t.rate r q) *ℚ t.rate p.objective q)) && (falls_from (if below then Ll else Ul) && not (is_fixed p r)))) ≡ false
+  leaver_right :
+      ((lt_ℚ (for_min p.sense ((one_ℚ /ℚ t.rate r q) *ℚ t.rate p.objective q)) zero_ℚ && (rises_from (if below then Ll else Ul) && not (is_fixed p r)))
+      || (lt_ℚ zero_ℚ (for_min p.sense ((one_ℚ /ℚ t.rate r q) *ℚ t.rate p.objective q)) &&
+      (falls_from (if below then Ll else Ul) && not (is_fixed p r)))) ≡ false
   leaver_right = at_limit below own
     where
       no_way : {a : Type 0} (b : Bool) → (false && b) ≡ true → a
@@ -237,16 +255,21 @@ module _ (p : LinearProgram) (no_change : p.change ≡ None) (s : List Status) (
 
       at_limit : (b : Bool) → ratio p s t r q *ℚ signed (not b) (t.rate r q) ≡ neg_ℚ (for_min p.sense (t.rate p.objective q)) →
           ((lt_ℚ (for_min p.sense ((one_ℚ /ℚ t.rate r q) *ℚ t.rate p.objective q)) zero_ℚ && (rises_from (if b then Ll else Ul) && not (is_fixed p r)))
-          || (lt_ℚ zero_ℚ (for_min p.sense ((one_ℚ /ℚ t.rate r q) *ℚ t.rate p.objective q)) && (falls_from (if b then Ll else Ul) && not (is_fixed p r)))) ≡ false
+          || (lt_ℚ zero_ℚ (for_min p.sense ((one_ℚ /ℚ t.rate r q) *ℚ t.rate p.objective q)) &&
+          (falls_from (if b then Ll else Ul) && not (is_fixed p r)))) ≡ false
       at_limit true own =
           let is = own_below p.sense (t.rate p.objective q) (t.rate p.objective q) (t.rate r q) (t.rate r q) (ratio p s t r q) pivot own in
-          improves_not _ (rises_from Ll && not (is_fixed p r)) (falls_from Ll && not (is_fixed p r)) (λ _. subst (λ x. zero_ℚ ≤ℚ x) (sym is) some) (λ e. no_way (not (is_fixed p r)) e)
+          improves_not _ (rises_from Ll && not (is_fixed p r)) (falls_from Ll && not (is_fixed p r)) (λ _. subst (λ x. zero_ℚ ≤ℚ x) (sym is) some)
+          (λ e. no_way (not (is_fixed p r)) e)
       at_limit false own =
           let is = own_above p.sense (t.rate p.objective q) (t.rate p.objective q) (t.rate r q) (t.rate r q) (ratio p s t r q) pivot own in
-          let down : neg_ℚ (ratio p s t r q) ≤ℚ zero_ℚ = le_by_one some (by_ring1 (ratio p s t r q) (λ m. number (pos 0) ≐ opposite m ⊕ (m ⊖ number (pos 0))) refl) in
-          improves_not _ (rises_from Ul && not (is_fixed p r)) (falls_from Ul && not (is_fixed p r)) (λ e. no_way (not (is_fixed p r)) e) (λ _. subst (λ x. x ≤ℚ zero_ℚ) (sym is) down)
+          let down : neg_ℚ (ratio p s t r q) ≤ℚ zero_ℚ =
+          le_by_one some (by_ring1 (ratio p s t r q) (λ m. number (pos 0) ≐ opposite m ⊕ (m ⊖ number (pos 0))) refl) in
+          improves_not _ (rises_from Ul && not (is_fixed p r)) (falls_from Ul && not (is_fixed p r)) (λ e. no_way (not (is_fixed p r)) e)
+          (λ _. subst (λ x. x ≤ℚ zero_ℚ) (sym is) down)
 
-  pub right_after : IsNonsingularBasis p next → (k : ℕ) → IsVariable p.matrix k → lowers p next (λ j. for_min p.sense (objective_rate p (exchanged_rate t.rate r q) j)) k ≡ false
+  pub right_after : IsNonsingularBasis p next → (k : ℕ) → IsVariable p.matrix k →
+      lowers p next (λ j. for_min p.sense (objective_rate p (exchanged_rate t.rate r q) j)) k ≡ false
   right_after leads k is = by_mark (is_in (basics_of next) k) refl
     where
       length_entered : length (with_status s q Bs) ≡ size p.matrix
@@ -256,18 +279,27 @@ module _ (p : LinearProgram) (no_change : p.change ≡ None) (s : List Status) (
           lowers p next (λ j. for_min p.sense (objective_rate p (exchanged_rate t.rate r q) j)) k ≡ false
       by_number out (inl own) =
           ap (λ x. (lt_ℚ (for_min p.sense x) zero_ℚ && may_rise p next k) || (lt_ℚ zero_ℚ (for_min p.sense x) && may_fall p next k))
-          (rate_of (exchanged_rate t.rate r q) k ∙ ap (λ b. if b then (one_ℚ /ℚ t.rate r q) *ℚ t.rate p.objective q else t.rate p.objective k -ℚ (t.rate r k /ℚ t.rate r q) *ℚ t.rate p.objective q) own.0)
-          ∙ ap (λ j. (lt_ℚ (for_min p.sense ((one_ℚ /ℚ t.rate r q) *ℚ t.rate p.objective q)) zero_ℚ && may_rise p next j) || (lt_ℚ zero_ℚ (for_min p.sense ((one_ℚ /ℚ t.rate r q) *ℚ t.rate p.objective q)) && may_fall p next j)) own.1
+          (rate_of (exchanged_rate t.rate r q) k
+          ∙ ap (λ b. if b then (one_ℚ /ℚ t.rate r q) *ℚ t.rate p.objective q else t.rate p.objective k -ℚ
+          (t.rate r k /ℚ t.rate r q) *ℚ t.rate p.objective q) own.0)
+          ∙ ap (λ j. (lt_ℚ (for_min p.sense ((one_ℚ /ℚ t.rate r q) *ℚ t.rate p.objective q)) zero_ℚ && may_rise p next j) ||
+          (lt_ℚ zero_ℚ (for_min p.sense ((one_ℚ /ℚ t.rate r q) *ℚ t.rate p.objective q)) && may_fall p next j)) own.1
           ∙ ap (λ st. (lt_ℚ (for_min p.sense ((one_ℚ /ℚ t.rate r q) *ℚ t.rate p.objective q)) zero_ℚ && (rises_from st && not (is_fixed p r)))
           || (lt_ℚ zero_ℚ (for_min p.sense ((one_ℚ /ℚ t.rate r q) *ℚ t.rate p.objective q)) && (falls_from st && not (is_fixed p r))))
           (changed_own p s at.is_basis r (if below then Ll else Ul) (with_status s q Bs) length_entered leaves.0)
           ∙ leaver_right
       by_number out (inr other) =
-          let was = was_nonbasic p.matrix (basics_of s) at.nonsingular.counted r q leaves enters k (subst (λ b. IsNonbasic p.matrix b k) same_basics out) other.1 in
+          let was =
+          was_nonbasic p.matrix (basics_of s) at.nonsingular.counted r q leaves enters k (subst (λ b. IsNonbasic p.matrix b k) same_basics out) other.1 in
           ap (λ x. (lt_ℚ (for_min p.sense x) zero_ℚ && may_rise p next k) || (lt_ℚ zero_ℚ (for_min p.sense x) && may_fall p next k))
-          (rate_of (exchanged_rate t.rate r q) k ∙ ap (λ b. if b then (one_ℚ /ℚ t.rate r q) *ℚ t.rate p.objective q else t.rate p.objective k -ℚ (t.rate r k /ℚ t.rate r q) *ℚ t.rate p.objective q) other.0)
-          ∙ other_right k is (changed_other p s at.is_basis r k (if below then Ll else Ul) (with_status s q Bs) leaves.0 is other.1 ∙ changed_other p s at.is_basis q k Bs s enters.0 is was.1)
+          (rate_of (exchanged_rate t.rate r q) k
+          ∙ ap (λ b. if b then (one_ℚ /ℚ t.rate r q) *ℚ t.rate p.objective q else t.rate p.objective k -ℚ
+          (t.rate r k /ℚ t.rate r q) *ℚ t.rate p.objective q) other.0)
+          ∙ other_right k is
+          (changed_other p s at.is_basis r k (if below then Ll else Ul) (with_status s q Bs) leaves.0 is other.1
+          ∙ changed_other p s at.is_basis q k Bs s enters.0 is was.1)
 
-      by_mark : (mark : Bool) → is_in (basics_of next) k ≡ mark → lowers p next (λ j. for_min p.sense (objective_rate p (exchanged_rate t.rate r q) j)) k ≡ false
+      by_mark : (mark : Bool) → is_in (basics_of next) k ≡ mark →
+          lowers p next (λ j. for_min p.sense (objective_rate p (exchanged_rate t.rate r q) j)) k ≡ false
       by_mark true mark = lowers_idle p next leads.is_basis (λ j. for_min p.sense (objective_rate p (exchanged_rate t.rate r q) j)) k is mark
       by_mark false mark = by_number (is, mark) (eqb_tells k r)

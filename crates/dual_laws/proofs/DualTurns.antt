@@ -62,7 +62,8 @@ pub record IsReturn (p : LinearProgram) (s : List Status) (t : Tableau) (m : Mov
   pub gives : m ≡ record { enters = q; leaves = r; to = if is_below p t.point r then Ll else Ul }
 
 module _ (p : LinearProgram) (s : List Status) (t : Tableau) where
-  returned : (r : ℕ) → IsFirstPhase p s t r → (o : Option ℕ) → cheapest p s t r (is_below p t.point r) ≡ o → (m : Move) → restore_feasibility p s t r o ≡ Moves m → IsReturn p s t m
+  returned : (r : ℕ) → IsFirstPhase p s t r → (o : Option ℕ) → cheapest p s t r (is_below p t.point r) ≡ o → (m : Move) →
+      restore_feasibility p s t r o ≡ Moves m → IsReturn p s t m
   returned r phase (Some q) is m e = record { r = r; q = q; phase = phase; is_cheapest_of = is; gives = cc }
   returned r phase None is m e = cc
 
@@ -80,23 +81,34 @@ module _ (p : LinearProgram) (s : List Status) (t : Tableau) where
   end_for right (Some k) o ending e = e
   end_for right None (Some r) ending e = by_cheapest (cheapest p s t r (is_below p t.point r)) refl e
     where
-      by_cheapest : (o : Option ℕ) → cheapest p s t r (is_below p t.point r) ≡ o → restore_feasibility p s t r o ≡ Ends ending → restore_feasibility p s t r (entering_variable p s t (Some r)) ≡ Ends ending
+      by_cheapest : (o : Option ℕ) → cheapest p s t r (is_below p t.point r) ≡ o → restore_feasibility p s t r o ≡ Ends ending →
+          restore_feasibility p s t r (entering_variable p s t (Some r)) ≡ Ends ending
       by_cheapest (Some q) is e = cc
       by_cheapest None is e =
-          ap (restore_feasibility p s t r) (least_none p (lowers p s (excess_rate t.rate r (is_below p t.point r))) (cheapest_none p s t r (is_below p t.point r) is)) ∙ e
+          ap (restore_feasibility p s t r)
+          (least_none p (lowers p s (excess_rate t.rate r (is_below p t.point r))) (cheapest_none p s t r (is_below p t.point r) is)) ∙ e
   end_for right None None ending e = ap (improve p s t) right ∙ e
 
 -- ---- the laws
 
-pub dual_end : (p : LinearProgram) (s : List Status) (ending : PathEnding) → IsLinearProgram p → IsNonsingularBasis p s → HasRightPrices p s → DualEndsAt p s ending → EndsAt p s ending
+pub dual_end : (p : LinearProgram) (s : List Status) (ending : PathEnding) → IsLinearProgram p → IsNonsingularBasis p s → HasRightPrices p s →
+    DualEndsAt p s ending → EndsAt p s ending
 unfolding dual_turn turn
 dual_end p s ending lawful at right ends =
-    let here : entering_variable p s ends.tableau None ≡ None = wrong_same p s ends.tableau right.tableau lawful at (same_tableau p s at ends.tableau right.tableau ends.is_tableau right.is_tableau) ∙ right.right in
-    record { tableau = ends.tableau; is_tableau = ends.is_tableau; turns = end_for p s ends.tableau here (crossed p s ends.tableau) (outside p s ends.tableau) ending ends.turns }
+    let here : entering_variable p s ends.tableau None ≡ None =
+    wrong_same p s ends.tableau right.tableau lawful at (same_tableau p s at ends.tableau right.tableau ends.is_tableau right.is_tableau) ∙ right.right in
+    record {
+      tableau = ends.tableau;
+      is_tableau = ends.is_tableau;
+      turns = end_for p s ends.tableau here (crossed p s ends.tableau)
+          (outside p s ends.tableau) ending ends.turns;
+    }
 
 module _ (p : LinearProgram) (s : List Status) (at : IsNonsingularBasis p s) (t : Tableau) (tab : IsTableau p s t) (m : Move) (h : IsReturn p s t m) where
-  pub cheapest_passes : IsVariable p.matrix h.q × ((restores_feasibility p s t h.r (is_below p t.point h.r) h.q && is_cheapest p s t h.r (is_below p t.point h.r) h.q) ≡ true)
-  cheapest_passes = found_passes p (λ q. restores_feasibility p s t h.r (is_below p t.point h.r) q && is_cheapest p s t h.r (is_below p t.point h.r) q) h.q h.is_cheapest_of
+  pub cheapest_passes : IsVariable p.matrix h.q ×
+      ((restores_feasibility p s t h.r (is_below p t.point h.r) h.q && is_cheapest p s t h.r (is_below p t.point h.r) h.q) ≡ true)
+  cheapest_passes =
+      found_passes p (λ q. restores_feasibility p s t h.r (is_below p t.point h.r) q && is_cheapest p s t h.r (is_below p t.point h.r) q) h.q h.is_cheapest_of
 
   pub brings : restores_feasibility p s t h.r (is_below p t.point h.r) h.q ≡ true
   brings = (and_parts (restores_feasibility p s t h.r (is_below p t.point h.r) h.q) (is_cheapest p s t h.r (is_below p t.point h.r) h.q) cheapest_passes.1).0
@@ -104,7 +116,8 @@ module _ (p : LinearProgram) (s : List Status) (at : IsNonsingularBasis p s) (t 
   return_leads : LeadsTo p (after s m)
   return_leads =
       subst (λ m. LeadsTo p (after s m)) (sym h.gives)
-      (returned_leads p s t at.is_basis at.nonsingular tab h.r h.q h.phase (lowering_enters p s (excess_rate t.rate h.r (is_below p t.point h.r)) h.q at.is_basis cheapest_passes.0 brings))
+      (returned_leads p s t at.is_basis at.nonsingular tab h.r h.q h.phase
+      (lowering_enters p s (excess_rate t.rate h.r (is_below p t.point h.r)) h.q at.is_basis cheapest_passes.0 brings))
 
 pub dual_leads_to : (p : LinearProgram) (s next : List Status) → IsNonsingularBasis p s → IsDualStep p s next → LeadsTo p next
 dual_leads_to p s next at step =
@@ -114,15 +127,19 @@ not_or : (a b : Bool) → (not a || b) ≡ true → a ≡ true → b ≡ true
 not_or true b e is = e
 not_or false b e is = cc
 
-module _ (p : LinearProgram) (no_change : p.change ≡ None) (s : List Status) (at : IsNonsingularBasis p s) (t : Tableau) (tab : IsTableau p s t) (right : entering_variable p s t None ≡ None) (m : Move) (h : IsReturn p s t m) where
+module _ (p : LinearProgram) (no_change : p.change ≡ None) (s : List Status) (at : IsNonsingularBasis p s) (t : Tableau) (tab : IsTableau p s t)
+    (right : entering_variable p s t None ≡ None) (m : Move) (h : IsReturn p s t m) where
   abbrev below : Bool
   below = is_below p t.point h.r
 
   pub least_ratio : (j : ℕ) → IsVariable p.matrix j → restores_feasibility p s t h.r below j ≡ true → ratio p s t h.r h.q ≤ℚ ratio p s t h.r j
   least_ratio j is brings_j =
       let parts = and_parts (restores_feasibility p s t h.r below h.q) (is_cheapest p s t h.r below h.q) (cheapest_passes p s at t tab m h).1 in
-      let no_cheaper = list_all_true (λ j. not (restores_feasibility p s t h.r below j) || le_ℚ (ratio p s t h.r h.q) (ratio p s t h.r j)) (size p.matrix) 1 parts.1 j is.0 (omega (arith, is.1)) in
-      le_from_test (ratio p s t h.r h.q) (ratio p s t h.r j) (not_or (restores_feasibility p s t h.r below j) (le_ℚ (ratio p s t h.r h.q) (ratio p s t h.r j)) no_cheaper brings_j)
+      let no_cheaper =
+      list_all_true (λ j. not (restores_feasibility p s t h.r below j) || le_ℚ (ratio p s t h.r h.q) (ratio p s t h.r j)) (size p.matrix) 1 parts.1 j is.0
+      (omega (arith, is.1)) in
+      le_from_test (ratio p s t h.r h.q) (ratio p s t h.r j)
+      (not_or (restores_feasibility p s t h.r below j) (le_ℚ (ratio p s t h.r h.q) (ratio p s t h.r j)) no_cheaper brings_j)
 
   pub right_at : (k : ℕ) → IsVariable p.matrix k → lowers p s (worth_rate p s t) k ≡ false
   right_at = none_passes p (lowers p s (worth_rate p s t)) right
@@ -138,14 +155,21 @@ module _ (p : LinearProgram) (no_change : p.change ≡ None) (s : List Status) (
       let there : IsNonsingularBasis p reached_basis = subst (λ m. IsNonsingularBasis p (after s m)) h.gives (return_leads p s at t tab m h).at in
       let rates = rates_after p no_change s at t tab right_at h.r h.q below leaves is_q brings_q least_ratio in
       record {
-        tableau = record { point = combination p.matrix (basics_of reached_basis) (exchanged_rate t.rate h.r h.q) (standing p reached_basis); rate = exchanged_rate t.rate h.r h.q };
+        tableau =
+            record {
+              point = combination p.matrix (basics_of reached_basis) (exchanged_rate t.rate h.r h.q)
+                  (standing p reached_basis);
+              rate = exchanged_rate t.rate h.r h.q;
+            };
         is_tableau = record { is_point = IsPointOf-combination p reached_basis there.is_basis (exchanged_rate t.rate h.r h.q) rates; are_rates = rates };
         right = least_none p _ (right_after p no_change s at t tab right_at h.r h.q below leaves is_q brings_q least_ratio there);
       }
 
-pub keeps_right : (p : LinearProgram) (s next : List Status) → IsLinearProgram p → p.change ≡ None → IsNonsingularBasis p s → HasRightPrices p s → IsDualStep p s next → HasRightPrices p next
+pub keeps_right : (p : LinearProgram) (s next : List Status) → IsLinearProgram p → p.change ≡ None → IsNonsingularBasis p s → HasRightPrices p s →
+    IsDualStep p s next → HasRightPrices p next
 keeps_right p s next lawful no_change at right step =
-    let here : entering_variable p s step.tableau None ≡ None = wrong_same p s step.tableau right.tableau lawful at (same_tableau p s at step.tableau right.tableau step.is_tableau right.is_tableau) ∙ right.right in
+    let here : entering_variable p s step.tableau None ≡ None =
+    wrong_same p s step.tableau right.tableau lawful at (same_tableau p s at step.tableau right.tableau step.is_tableau right.is_tableau) ∙ right.right in
     let back = return_of p s step.tableau step.move step.turns in
     subst (HasRightPrices p) (sym (step.is_next ∙ ap (after s) back.gives)) (stays_right p no_change s at step.tableau step.is_tableau here step.move back)
 

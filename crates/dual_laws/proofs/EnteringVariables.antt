@@ -14,5 +14,7 @@ pub record IsEnteringVariable (p : LinearProgram) (s : List Status) (f : Vector)
   pub nonbasic : IsNonbasic p.matrix (basics_of s) q
   pub rate_apart : f q ≢ zero_ℚ
 
-pub is_entering_variable : (p : LinearProgram) (s : List Status) (f : Vector) (q : ℕ) → IsNonsingularBasis p s → IsVariable p.matrix q → lowers p s f q ≡ true → IsEnteringVariable p s f q
-is_entering_variable p s f q at is e = let entering = lowering_enters p s f q at.is_basis is e in record { nonbasic = entering.nonbasic; rate_apart = entering_apart p s f q entering }
+pub is_entering_variable : (p : LinearProgram) (s : List Status) (f : Vector) (q : ℕ) → IsNonsingularBasis p s → IsVariable p.matrix q → lowers p s f q ≡ true →
+    IsEnteringVariable p s f q
+is_entering_variable p s f q at is e =
+    let entering = lowering_enters p s f q at.is_basis is e in record { nonbasic = entering.nonbasic; rate_apart = entering_apart p s f q entering }

@@ -43,16 +43,19 @@ product_least : {x y : ℚ} → zero_ℚ ≤ℚ x → zero_ℚ ≤ℚ y → zero
 product_least {x} {y} h k = subst (λ z. z ≤ℚ x *ℚ y) (mul-zero x) (mul-le-mul_left h k)
 
 pub magnitude-mul : (u v : ℚ) → magnitude (u *ℚ v) ≡ magnitude u *ℚ magnitude v
-magnitude-mul u v = is_magnitude (u *ℚ v) (magnitude u *ℚ magnitude v) (product_least (magnitude_least u) (magnitude_least v)) (at (magnitude_either u) (magnitude_either v))
+magnitude-mul u v =
+    is_magnitude (u *ℚ v) (magnitude u *ℚ magnitude v) (product_least (magnitude_least u) (magnitude_least v)) (at (magnitude_either u) (magnitude_either v))
   where
-    at : (magnitude u ≡ u) ⊎ (magnitude u ≡ neg_ℚ u) → (magnitude v ≡ v) ⊎ (magnitude v ≡ neg_ℚ v) → (magnitude u *ℚ magnitude v ≡ u *ℚ v) ⊎ (magnitude u *ℚ magnitude v ≡ neg_ℚ (u *ℚ v))
+    at : (magnitude u ≡ u) ⊎ (magnitude u ≡ neg_ℚ u) → (magnitude v ≡ v) ⊎ (magnitude v ≡ neg_ℚ v) →
+        (magnitude u *ℚ magnitude v ≡ u *ℚ v) ⊎ (magnitude u *ℚ magnitude v ≡ neg_ℚ (u *ℚ v))
     at (inl a) (inl b) = inl (ap₂ (λ x y. x *ℚ y) a b)
     at (inl a) (inr b) = inr (ap₂ (λ x y. x *ℚ y) a b ∙ by_ring2 u v (λ u v. u ⊗ opposite v ≐ opposite (u ⊗ v)) refl)
     at (inr a) (inl b) = inr (ap₂ (λ x y. x *ℚ y) a b ∙ by_ring2 u v (λ u v. opposite u ⊗ v ≐ opposite (u ⊗ v)) refl)
     at (inr a) (inr b) = inl (ap₂ (λ x y. x *ℚ y) a b ∙ by_ring2 u v (λ u v. opposite u ⊗ opposite v ≐ u ⊗ v) refl)
 
 neg_apart : (u : ℚ) → u ≢ zero_ℚ → neg_ℚ u ≢ zero_ℚ
-neg_apart u apart e = apart (by_ring1 u (λ u. u ≐ opposite (opposite u)) refl ∙ ap neg_ℚ e ∙ by_ring1 zero_ℚ (λ z. opposite (number (pos 0)) ≐ number (pos 0)) refl)
+neg_apart u apart e =
+    apart (by_ring1 u (λ u. u ≐ opposite (opposite u)) refl ∙ ap neg_ℚ e ∙ by_ring1 zero_ℚ (λ z. opposite (number (pos 0)) ≐ number (pos 0)) refl)
 
 pub magnitude_positive : (u : ℚ) → u ≢ zero_ℚ → zero_ℚ <ℚ magnitude u
 magnitude_positive u apart = lt_from_le (magnitude_least u) (at (magnitude_either u))
@@ -96,12 +99,18 @@ module _ (a b c d : ℚ) (b_apart : b ≢ zero_ℚ) (d_apart : d ≢ zero_ℚ) w
   ratios_by_products = at (le_ℚ (magnitude a *ℚ magnitude d) (magnitude c *ℚ magnitude b)) refl
     where
       to : magnitude a *ℚ magnitude d ≤ℚ magnitude c *ℚ magnitude b → magnitude (a /ℚ b) ≤ℚ magnitude (c /ℚ d)
-      to h = le_of_mul-le-mul_left both (subst (λ z. z ≤ℚ (magnitude b *ℚ magnitude d) *ℚ magnitude (c /ℚ d)) (sym left_is) (subst (λ z. magnitude a *ℚ magnitude d ≤ℚ z) (sym right_is) h))
+      to h =
+          le_of_mul-le-mul_left both
+          (subst (λ z. z ≤ℚ (magnitude b *ℚ magnitude d) *ℚ magnitude (c /ℚ d)) (sym left_is)
+          (subst (λ z. magnitude a *ℚ magnitude d ≤ℚ z) (sym right_is) h))
 
       from : magnitude (a /ℚ b) ≤ℚ magnitude (c /ℚ d) → magnitude a *ℚ magnitude d ≤ℚ magnitude c *ℚ magnitude b
-      from h = subst (λ z. z ≤ℚ magnitude c *ℚ magnitude b) left_is (subst (λ z. (magnitude b *ℚ magnitude d) *ℚ magnitude (a /ℚ b) ≤ℚ z) right_is (mul-le-mul_left (le_of_lt both) h))
+      from h =
+          subst (λ z. z ≤ℚ magnitude c *ℚ magnitude b) left_is
+          (subst (λ z. (magnitude b *ℚ magnitude d) *ℚ magnitude (a /ℚ b) ≤ℚ z) right_is (mul-le-mul_left (le_of_lt both) h))
 
-      fails : (t : Bool) → le_ℚ (magnitude (a /ℚ b)) (magnitude (c /ℚ d)) ≡ t → le_ℚ (magnitude a *ℚ magnitude d) (magnitude c *ℚ magnitude b) ≡ false → false ≡ t
+      fails : (t : Bool) → le_ℚ (magnitude (a /ℚ b)) (magnitude (c /ℚ d)) ≡ t → le_ℚ (magnitude a *ℚ magnitude d) (magnitude c *ℚ magnitude b) ≡ false →
+          false ≡ t
       fails true is e = sym e ∙ test_from_le _ _ (from (le_from_test _ _ is))
       fails false is e = refl
 
@@ -114,7 +123,8 @@ pub zero_ratio : (a b : ℚ) → a ≡ zero_ℚ → magnitude (a /ℚ b) ≡ zer
 zero_ratio a b e = is_magnitude (a /ℚ b) zero_ℚ (le_refl zero_ℚ) (inl (sym (ap (λ z. z /ℚ b) e ∙ zero-mul _)))
 
 pub zero_first : (a b c d : ℚ) → a ≡ zero_ℚ → true ≡ le_ℚ (magnitude (a /ℚ b)) (magnitude (c /ℚ d))
-zero_first a b c d e = sym (test_from_le (magnitude (a /ℚ b)) (magnitude (c /ℚ d)) (subst (λ z. z ≤ℚ magnitude (c /ℚ d)) (sym (zero_ratio a b e)) (magnitude_least (c /ℚ d))))
+zero_first a b c d e =
+    sym (test_from_le (magnitude (a /ℚ b)) (magnitude (c /ℚ d)) (subst (λ z. z ≤ℚ magnitude (c /ℚ d)) (sym (zero_ratio a b e)) (magnitude_least (c /ℚ d))))
 
 pub zero_last : (a b c d : ℚ) → a ≢ zero_ℚ → b ≢ zero_ℚ → c ≡ zero_ℚ → false ≡ le_ℚ (magnitude (a /ℚ b)) (magnitude (c /ℚ d))
 zero_last a b c d apart b_apart e =

@@ -19,16 +19,19 @@ use Rattle.dual_laws.proofs.DualTurns.{dual_turn_same, dual_leads_to, keeps_righ
 pub dual_leads : (p : LinearProgram) (s next : List Status) → IsNonsingularBasis p s → IsDualStep p s next → IsNonsingularBasis p next
 dual_leads p s next at step = (dual_leads_to p s next at step).at
 
-pub dual_path_leads : (p : LinearProgram) (s : List Status) (bases : List (List Status)) → IsNonsingularBasis p s → IsDualPath p s bases → IsNonsingularBasis p (last_of s bases)
+pub dual_path_leads : (p : LinearProgram) (s : List Status) (bases : List (List Status)) → IsNonsingularBasis p s → IsDualPath p s bases →
+    IsNonsingularBasis p (last_of s bases)
 dual_path_leads p = rule_path_leads dual_turn p (dual_leads p)
 
 module _ (p : LinearProgram) (lawful : IsLinearProgram p) where
   one_turn : (s : List Status) → IsNonsingularBasis p s → (t u : Tableau) → IsTableau p s t → IsTableau p s u → dual_turn p s t ≡ dual_turn p s u
   one_turn s at t u first second = dual_turn_same p s t u lawful at (same_tableau p s at t u first second)
 
-  pub path_right : p.change ≡ None → (s : List Status) (bases : List (List Status)) → IsNonsingularBasis p s → HasRightPrices p s → IsDualPath p s bases → HasRightPrices p (last_of s bases)
+  pub path_right : p.change ≡ None → (s : List Status) (bases : List (List Status)) → IsNonsingularBasis p s → HasRightPrices p s → IsDualPath p s bases →
+      HasRightPrices p (last_of s bases)
   path_right no_change s [] at right path = right
-  path_right no_change s (next ∷ bases) at right path = path_right no_change next bases (dual_leads p s next at path.0) (keeps_right p s next lawful no_change at right path.0) path.1
+  path_right no_change s (next ∷ bases) at right path =
+      path_right no_change next bases (dual_leads p s next at path.0) (keeps_right p s next lawful no_change at right path.0) path.1
 
   pub one_step : (s next other : List Status) → IsNonsingularBasis p s → IsDualStep p s next → IsDualStep p s other → next ≡ other
   one_step = rule_one_step dual_turn p one_turn (dual_leads p)
@@ -39,13 +42,15 @@ module _ (p : LinearProgram) (lawful : IsLinearProgram p) where
   pub step_or_end : (s next : List Status) (ending : PathEnding) → IsNonsingularBasis p s → IsDualStep p s next → DualEndsAt p s ending → ⊥
   step_or_end = rule_step_or_end dual_turn p one_turn (dual_leads p)
 
-  pub one_path : (s : List Status) (bases others : List (List Status)) (ending other : PathEnding) → IsNonsingularBasis p s → DualPathEnds p s bases ending → DualPathEnds p s others other → SameEnds bases others ending other
+  pub one_path : (s : List Status) (bases others : List (List Status)) (ending other : PathEnding) → IsNonsingularBasis p s → DualPathEnds p s bases ending →
+      DualPathEnds p s others other → SameEnds bases others ending other
   one_path = rule_one_path dual_turn p one_turn (dual_leads p)
 
   pub not_both : (steps : ℕ) (s : List Status) → IsNonsingularBasis p s → RuleEndsWithin dual_turn p s steps → DualGoesOnFor p s steps → ⊥
   not_both = rule_not_both dual_turn p one_turn (dual_leads p)
 
-pub ends_or_goes_on : (p : LinearProgram) (steps : ℕ) (s : List Status) → IsNonsingularBasis p s → HasTableau p s → RuleEndsWithin dual_turn p s steps ⊎ DualGoesOnFor p s steps
+pub ends_or_goes_on : (p : LinearProgram) (steps : ℕ) (s : List Status) → IsNonsingularBasis p s → HasTableau p s →
+    RuleEndsWithin dual_turn p s steps ⊎ DualGoesOnFor p s steps
 ends_or_goes_on p = rule_ends_or_goes_on dual_turn p (dual_leads_to p)
 
 pub right_or_wrong : (p : LinearProgram) (s : List Status) → HasTableau p s → HasRightPrices p s ⊎ ((j : ℕ) × IsWrongAt p s j)
@@ -61,4 +66,5 @@ signs p s t at tab right = rates_right p s t at.is_basis tab right
 
 pub from_signs : (p : LinearProgram) (s : List Status) (t : Tableau) →
     ((k : ℕ) → IsVariable p.matrix k → IsFixed p k ⊎ IsRightAt (status_of s k) (worth_rate p s t k)) → entering_variable p s t None ≡ None
-from_signs p s t right = least_none p (lowers p s (worth_rate p s t)) (λ k is. right_improves_not (status_of s k) (lower_of p k) (upper_of p k) (worth_rate p s t k) (right k is))
+from_signs p s t right =
+    least_none p (lowers p s (worth_rate p s t)) (λ k is. right_improves_not (status_of s k) (lower_of p k) (upper_of p k) (worth_rate p s t k) (right k is))

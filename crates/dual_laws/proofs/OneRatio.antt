@@ -15,7 +15,8 @@ use Rattle.simplex_laws.proofs.OneTurn.{SameTableau, lowers_idle, lowers_same}
 module _ (p : LinearProgram) (s : List Status) (t u : Tableau) (lawful : IsLinearProgram p) (basis : IsBasis p s) (same : SameTableau p s t u)
     (r : ℕ) (is_r : IsVariable p.matrix r) (below : Bool) where
   pub brings_same : (q : ℕ) → IsVariable p.matrix q → restores_feasibility p s t r below q ≡ restores_feasibility p s u r below q
-  brings_same q is = lowers_same p s basis (excess_rate t.rate r below) (excess_rate u.rate r below) q is (λ out. ap (signed (not below)) (same.rates r q is_r out))
+  brings_same q is =
+      lowers_same p s basis (excess_rate t.rate r below) (excess_rate u.rate r below) q is (λ out. ap (signed (not below)) (same.rates r q is_r out))
 
   brings_idle : (t : Tableau) (q : ℕ) → IsVariable p.matrix q → is_in (basics_of s) q ≡ true → restores_feasibility p s t r below q ≡ false
   brings_idle t q is mark = lowers_idle p s basis (excess_rate t.rate r below) q is mark

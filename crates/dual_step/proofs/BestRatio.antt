@@ -29,7 +29,8 @@ module _ (p : LinearProgram) (s : List Status) (prices row : Vector) (below : Bo
   pub brings_apart : (q : ℕ) → brings p s row below q ≡ true → row q ≢ zero_ℚ
   brings_apart q is zero =
       neither (may_rise p s q) (may_fall p s q)
-      (subst (λ (x : ℚ). ((lt_ℚ x zero_ℚ && may_rise p s q) || (lt_ℚ zero_ℚ x && may_fall p s q)) ≡ true) (ap (signed (not below)) zero ∙ signed_zero (not below)) is)
+      (subst (λ (x : ℚ). ((lt_ℚ x zero_ℚ && may_rise p s q) || (lt_ℚ zero_ℚ x && may_fall p s q)) ≡ true)
+      (ap (signed (not below)) zero ∙ signed_zero (not below)) is)
 
   -- ---- the search
 
@@ -43,11 +44,17 @@ module _ (p : LinearProgram) (s : List Status) (prices row : Vector) (below : Bo
         gone : ratio_if p s prices row below (suc n) ≡ None
         gone = ap (λ b. cond b (Some (ratio_of prices row (suc n))) None) none
 
-        at : (o : Option Candidate) → IsNearest (ratio_if p s prices row below) n (option_map reach_by o) → IsNearest (ratio_if p s prices row below) (suc n) (option_map reach_by o)
-        at None h = subst (λ (o : Option ℚ). IsNearest (ratio_if p s prices row below) (suc n) (sooner None o (suc n))) gone (next_nearest (ratio_if p s prices row below) n None h)
-        at (Some c) h = subst (λ (o : Option ℚ). IsNearest (ratio_if p s prices row below) (suc n) (sooner (Some (reach_by c)) o (suc n))) gone (next_nearest (ratio_if p s prices row below) n (Some (reach_by c)) h)
+        at : (o : Option Candidate) → IsNearest (ratio_if p s prices row below) n (option_map reach_by o) →
+            IsNearest (ratio_if p s prices row below) (suc n) (option_map reach_by o)
+        at None h =
+            subst (λ (o : Option ℚ). IsNearest (ratio_if p s prices row below) (suc n) (sooner None o (suc n))) gone
+            (next_nearest (ratio_if p s prices row below) n None h)
+        at (Some c) h =
+            subst (λ (o : Option ℚ). IsNearest (ratio_if p s prices row below) (suc n) (sooner (Some (reach_by c)) o (suc n))) gone
+            (next_nearest (ratio_if p s prices row below) n (Some (reach_by c)) h)
 
-    module _ (price rate : ℚ) (price_is : price ≡ prices (suc n)) (rate_is : rate ≡ row (suc n)) (is : IsVariable p.matrix (suc n)) (may : brings p s row below (suc n) ≡ true) where
+    module _ (price rate : ℚ) (price_is : price ≡ prices (suc n)) (rate_is : rate ≡ row (suc n)) (is : IsVariable p.matrix (suc n))
+        (may : brings p s row below (suc n) ≡ true) where
       abbrev other : Candidate
       other = record { q = suc n; price = price; rate = rate }
 
@@ -60,16 +67,24 @@ module _ (p : LinearProgram) (s : List Status) (prices row : Vector) (below : Bo
       first : IsBest p s prices row below n None → IsBest p s prices row below (suc n) (Some other)
       first h = record {
         candidate = own;
-        nearest = subst (λ (o : Option ℚ). IsNearest (ratio_if p s prices row below) (suc n) (sooner None o (suc n))) there (next_nearest (ratio_if p s prices row below) n None h.nearest);
+        nearest =
+            subst (λ (o : Option ℚ). IsNearest (ratio_if p s prices row below) (suc n) (sooner None o (suc n))) there
+            (next_nearest (ratio_if p s prices row below) n None h.nearest);
       }
 
-      kept : (present now : Candidate) → now ≡ cond (le_ℚ (ratio_at present) (ratio_at other)) present other → IsBest p s prices row below n (Some present) → IsBest p s prices row below (suc n) (Some now)
-      kept present now found h = subst (λ (c : Candidate). IsBest p s prices row below (suc n) (Some c)) (sym found) (at (le_ℚ (ratio_at present) (ratio_at other)) step)
+      kept : (present now : Candidate) → now ≡ cond (le_ℚ (ratio_at present) (ratio_at other)) present other → IsBest p s prices row below n (Some present) →
+          IsBest p s prices row below (suc n) (Some now)
+      kept present now found h =
+          subst (λ (c : Candidate). IsBest p s prices row below (suc n) (Some c)) (sym found) (at (le_ℚ (ratio_at present) (ratio_at other)) step)
         where
-          step : IsNearest (ratio_if p s prices row below) (suc n) (cond (le_ℚ (ratio_at present) (ratio_at other)) (Some (reach_by present)) (Some (reach_by other)))
-          step = subst (λ (o : Option ℚ). IsNearest (ratio_if p s prices row below) (suc n) (sooner (Some (reach_by present)) o (suc n))) there (next_nearest (ratio_if p s prices row below) n (Some (reach_by present)) h.nearest)
+          step : IsNearest (ratio_if p s prices row below) (suc n)
+              (cond (le_ℚ (ratio_at present) (ratio_at other)) (Some (reach_by present)) (Some (reach_by other)))
+          step =
+              subst (λ (o : Option ℚ). IsNearest (ratio_if p s prices row below) (suc n) (sooner (Some (reach_by present)) o (suc n))) there
+              (next_nearest (ratio_if p s prices row below) n (Some (reach_by present)) h.nearest)
 
-          at : (b : Bool) → IsNearest (ratio_if p s prices row below) (suc n) (cond b (Some (reach_by present)) (Some (reach_by other))) → IsBest p s prices row below (suc n) (Some (cond b present other))
+          at : (b : Bool) → IsNearest (ratio_if p s prices row below) (suc n) (cond b (Some (reach_by present)) (Some (reach_by other))) →
+              IsBest p s prices row below (suc n) (Some (cond b present other))
           at true near = record { candidate = h.candidate; nearest = near }
           at false near = record { candidate = own; nearest = near }
 
@@ -79,23 +94,30 @@ module _ (p : LinearProgram) (s : List Status) (prices row : Vector) (below : Bo
     next : suc (k - 1) ≡ k
     next = omega (arith, is.0)
 
-    pub best_without : (best : Option Candidate) → brings p s row below k ≡ false → IsBest p s prices row below (k - 1) best → IsBest p s prices row below k best
+    pub best_without : (best : Option Candidate) → brings p s row below k ≡ false → IsBest p s prices row below (k - 1) best →
+        IsBest p s prices row below k best
     best_without best none h = subst (λ (m : ℕ). IsBest p s prices row below m best) next (without (k - 1) best (ap (brings p s row below) next ∙ none) h)
 
     module _ (price rate : ℚ) (price_is : price ≡ prices k) (rate_is : rate ≡ row k) (may : brings p s row below k ≡ true) where
       pub best_first : IsBest p s prices row below (k - 1) None → IsBest p s prices row below k (Some (record { q = k; price = price; rate = rate }))
       best_first h =
           subst (λ (m : ℕ). IsBest p s prices row below m (Some (record { q = m; price = price; rate = rate }))) next
-          (first (k - 1) price rate (price_is ∙ ap prices (sym next)) (rate_is ∙ ap row (sym next)) (subst (λ (m : ℕ). IsVariable p.matrix m) (sym next) is) (ap (brings p s row below) next ∙ may) h)
+          (first (k - 1) price rate (price_is ∙ ap prices (sym next)) (rate_is ∙ ap row (sym next)) (subst (λ (m : ℕ). IsVariable p.matrix m) (sym next) is)
+          (ap (brings p s row below) next ∙ may) h)
 
-      pub best_kept : (present now : Candidate) → now ≡ cond (le_ℚ (ratio_at present) (ratio_at (record { q = k; price = price; rate = rate }))) present (record { q = k; price = price; rate = rate }) →
+      pub best_kept : (present now : Candidate) →
+          now ≡ cond (le_ℚ (ratio_at present) (ratio_at (record { q = k; price = price; rate = rate }))) present
+          (record { q = k; price = price; rate = rate }) →
           IsBest p s prices row below (k - 1) (Some present) → IsBest p s prices row below k (Some now)
       best_kept present now found h =
           subst (λ (m : ℕ). IsBest p s prices row below m (Some now)) next
-          (kept (k - 1) price rate (price_is ∙ ap prices (sym next)) (rate_is ∙ ap row (sym next)) (subst (λ (m : ℕ). IsVariable p.matrix m) (sym next) is) (ap (brings p s row below) next ∙ may) present now
-          (found ∙ ap (λ (m : ℕ). cond (le_ℚ (ratio_at present) (magnitude (price /ℚ rate))) present (record { q = m; price = price; rate = rate })) (sym next)) h)
+          (kept (k - 1) price rate (price_is ∙ ap prices (sym next)) (rate_is ∙ ap row (sym next)) (subst (λ (m : ℕ). IsVariable p.matrix m) (sym next) is)
+          (ap (brings p s row below) next ∙ may) present now
+          (found ∙ ap (λ (m : ℕ). cond (le_ℚ (ratio_at present) (magnitude (price /ℚ rate))) present (record { q = m; price = price; rate = rate }))
+          (sym next)) h)
 
-      pub best_refused : (r : ℕ) (present : Candidate) (e : Evidence) → IsBest p s prices row below (k - 1) (Some present) → KeptRefused r present (record { q = k; price = price; rate = rate }) e → SomeRatioRefused p s prices row r below e
+      pub best_refused : (r : ℕ) (present : Candidate) (e : Evidence) → IsBest p s prices row below (k - 1) (Some present) →
+          KeptRefused r present (record { q = k; price = price; rate = rate }) e → SomeRatioRefused p s prices row r below e
       best_refused r present e h (of_best refused) = record {
         j = present.q;
         is_variable = h.candidate.is_variable;
@@ -116,7 +138,8 @@ module _ (p : LinearProgram) (s : List Status) (prices row : Vector) (below : Bo
   no_later_is q j own true is = rw (own, is) refl
   no_later_is q j own false is = rw (own, is) refl
 
-  pub best_is_cheapest : (best : Option Candidate) → IsBest p s prices row below (size p.matrix) best → option_map (λ c. c.q) best ≡ cheapest_by p s prices row below
+  pub best_is_cheapest : (best : Option Candidate) → IsBest p s prices row below (size p.matrix) best →
+      option_map (λ c. c.q) best ≡ cheapest_by p s prices row below
   best_is_cheapest None h = sym (least_none p _ (λ k is. not_one k is (brings p s row below k) refl))
     where
       gone : (b : Bool) (y : ℚ) → cond b (Some y) None ≡ None → b ≡ false
@@ -124,7 +147,8 @@ module _ (p : LinearProgram) (s : List Status) (prices row : Vector) (below : Bo
       gone false y e = refl
 
       not_one : (k : ℕ) → IsVariable p.matrix k → (b : Bool) → brings p s row below k ≡ b →
-          (brings p s row below k && list_all (λ j. not (brings p s row below j) || le_ℚ (ratio_of prices row k) (ratio_of prices row j)) (variables p.matrix)) ≡ false
+          (brings p s row below k && list_all (λ j. not (brings p s row below j) || le_ℚ (ratio_of prices row k) (ratio_of prices row j))
+          (variables p.matrix)) ≡ false
       not_one k is b e = rw (gone (brings p s row below k) (ratio_of prices row k) (h.nearest k is.0 is.1)) refl
   best_is_cheapest (Some c) h = sym (find_first _ (size p.matrix) 1 c.q h.nearest.low (omega (arith, h.nearest.high)) own earlier)
     where
@@ -135,19 +159,25 @@ module _ (p : LinearProgram) (s : List Status) (prices row : Vector) (below : Bo
       all = list_all_from (λ j. not (brings p s row below j) || le_ℚ (ratio_of prices row c.q) (ratio_of prices row j)) (size p.matrix) 1
           (λ j low high. sym (no_later_is c.q j may (brings p s row below j) refl) ∙ h.nearest.first j low (omega (arith, high)))
 
-      own : (brings p s row below c.q && list_all (λ j. not (brings p s row below j) || le_ℚ (ratio_of prices row c.q) (ratio_of prices row j)) (variables p.matrix)) ≡ true
+      own : (brings p s row below c.q && list_all (λ j. not (brings p s row below j) || le_ℚ (ratio_of prices row c.q) (ratio_of prices row j))
+          (variables p.matrix)) ≡ true
       own = ap₂ (λ a b. a && b) may all
 
       earlier : (j : ℕ) → 1 ≤ j → j < c.q →
-          (brings p s row below j && list_all (λ i. not (brings p s row below i) || le_ℚ (ratio_of prices row j) (ratio_of prices row i)) (variables p.matrix)) ≡ false
+          (brings p s row below j && list_all (λ i. not (brings p s row below i) || le_ℚ (ratio_of prices row j) (ratio_of prices row i))
+          (variables p.matrix)) ≡ false
       earlier j low less = by_may (brings p s row below j) refl
         where
-          by_all : brings p s row below j ≡ true → (b : Bool) → list_all (λ i. not (brings p s row below i) || le_ℚ (ratio_of prices row j) (ratio_of prices row i)) (variables p.matrix) ≡ b → b ≡ false
+          by_all : brings p s row below j ≡ true → (b : Bool) →
+              list_all (λ i. not (brings p s row below i) || le_ℚ (ratio_of prices row j) (ratio_of prices row i)) (variables p.matrix) ≡ b → b ≡ false
           by_all own_j false is = refl
           by_all own_j true is =
               absurd (clash (sym (no_later_is j c.q own_j true may ∙ sym (ap (λ b. not b || le_ℚ (ratio_of prices row j) (ratio_of prices row c.q)) may)
-              ∙ list_all_true (λ i. not (brings p s row below i) || le_ℚ (ratio_of prices row j) (ratio_of prices row i)) (size p.matrix) 1 is c.q h.nearest.low (omega (arith, h.nearest.high))) ∙ h.nearest.later j low less))
+              ∙ list_all_true (λ i. not (brings p s row below i) || le_ℚ (ratio_of prices row j) (ratio_of prices row i)) (size p.matrix) 1 is c.q h.nearest.low
+              (omega (arith, h.nearest.high))) ∙ h.nearest.later j low less))
 
-          by_may : (b : Bool) → brings p s row below j ≡ b → (b && list_all (λ i. not (brings p s row below i) || le_ℚ (ratio_of prices row j) (ratio_of prices row i)) (variables p.matrix)) ≡ false
+          by_may : (b : Bool) → brings p s row below j ≡ b →
+              (b && list_all (λ i. not (brings p s row below i) || le_ℚ (ratio_of prices row j) (ratio_of prices row i)) (variables p.matrix)) ≡ false
           by_may false is = refl
-          by_may true is = by_all is (list_all (λ i. not (brings p s row below i) || le_ℚ (ratio_of prices row j) (ratio_of prices row i)) (variables p.matrix)) refl
+          by_may true is =
+              by_all is (list_all (λ i. not (brings p s row below i) || le_ℚ (ratio_of prices row j) (ratio_of prices row i)) (variables p.matrix)) refl

@@ -17,7 +17,8 @@ use Rattle.simplex_laws.proofs.OneTurn.{lowers_idle}
 use Rattle.simplex_laws.specs.Laws.{IsNonsingularBasis}
 use Rattle.dual_step.specs.Cheapest.{brings, ratio_of, cheapest_by}
 
-module _ (p : LinearProgram) (s : List Status) (lawful : IsLinearProgram p) (no_change : p.change ≡ None) (at : IsNonsingularBasis p s) (prices row : Vector) (priced : ArePricesOf p s prices) (r : ℕ) (r_is : IsVariable p.matrix r)
+module _ (p : LinearProgram) (s : List Status) (lawful : IsLinearProgram p) (no_change : p.change ≡ None) (at : IsNonsingularBasis p s) (prices row : Vector)
+    (priced : ArePricesOf p s prices) (r : ℕ) (r_is : IsVariable p.matrix r)
     (rowed : IsRowOf p.matrix (basics_of s) r row) (below : Bool) (z : Vector) where
   abbrev pub tableau : Tableau
   tableau = record { point = z; rate = rowed.rate }
@@ -29,7 +30,8 @@ module _ (p : LinearProgram) (s : List Status) (lawful : IsLinearProgram p) (no_
   price_at k out =
       priced.prices k out.0 ∙ ap (λ m. cond m zero_ℚ (objective_rate p priced.rate k)) out.1
       ∙ ap (λ (c : Option Change). with_change_row c (λ i. priced.rate i k) (priced.rate p.objective k)) no_change
-      ∙ one_table p.matrix (basics_of s) priced.rate rowed.rate at.nonsingular priced.are_rates rowed.are_rates p.objective k (lawful.objective_row.0, omega (arith, lawful.objective_row.1)) out
+      ∙ one_table p.matrix (basics_of s) priced.rate rowed.rate at.nonsingular priced.are_rates rowed.are_rates p.objective k
+      (lawful.objective_row.0, omega (arith, lawful.objective_row.1)) out
 
   idle_own : (k : ℕ) → IsVariable p.matrix k → is_in (basics_of s) k ≡ true → brings p s row below k ≡ false
   idle_own k is mark = lowers_idle p s at.is_basis (λ j. signed (not below) (row j)) k is mark

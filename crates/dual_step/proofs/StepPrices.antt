@@ -20,7 +20,8 @@ use Rattle.simplex_laws.specs.Laws.{IsNonsingularBasis}
 use Rattle.dual_step.specs.Prices.{ArePricesOver}
 use Rattle.dual_step.proofs.RatioChoice.{row_at, price_at}
 
-module _ (p : LinearProgram) (s : List Status) (lawful : IsLinearProgram p) (no_change : p.change ≡ None) (at : IsNonsingularBasis p s) (w x : Vector) (priced : ArePricesOf p s w) (r q : ℕ) (rowed : IsRowOf p.matrix (basics_of s) r x)
+module _ (p : LinearProgram) (s : List Status) (lawful : IsLinearProgram p) (no_change : p.change ≡ None) (at : IsNonsingularBasis p s) (w x : Vector)
+    (priced : ArePricesOf p s w) (r q : ℕ) (rowed : IsRowOf p.matrix (basics_of s) r x)
     (leaves : IsBasic p.matrix (basics_of s) r) (enters : IsNonbasic p.matrix (basics_of s) q) (pivot : x q ≢ zero_ℚ) (to : Status) (stands : to ≢ Bs) where
   abbrev next : List Status
   next = after s (record { enters = q; leaves = r; to = to })
@@ -38,16 +39,22 @@ module _ (p : LinearProgram) (s : List Status) (lawful : IsLinearProgram p) (no_
   same_basics = basics_of-replaced s r q to stands
 
   rates_next : AreRates p.matrix (basics_of next) (exchanged_rate rowed.rate r q)
-  rates_next = subst (λ b. AreRates p.matrix b (exchanged_rate rowed.rate r q)) (sym same_basics) (AreRates-exchanged p.matrix (basics_of s) at.nonsingular.counted rowed.rate rowed.are_rates r q leaves enters rate_apart)
+  rates_next =
+      subst (λ b. AreRates p.matrix b (exchanged_rate rowed.rate r q)) (sym same_basics)
+      (AreRates-exchanged p.matrix (basics_of s) at.nonsingular.counted rowed.rate rowed.are_rates r q leaves enters rate_apart)
 
   objective_is : (k : ℕ) → objective_rate p (exchanged_rate rowed.rate r q) k ≡ exchanged_rate rowed.rate r q p.objective k
-  objective_is k = ap (λ (c : Option Change). with_change_row c (λ i. exchanged_rate rowed.rate r q i k) (exchanged_rate rowed.rate r q p.objective k)) no_change
+  objective_is k =
+      ap (λ (c : Option Change). with_change_row c (λ i. exchanged_rate rowed.rate r q i k) (exchanged_rate rowed.rate r q p.objective k)) no_change
 
   -- a basic and a nonbasic variable of the next basis
   at_basic : (k : ℕ) → is_in (exchanged (basics_of s) r q) k ≡ true → price_of p (basics_of next) (exchanged_rate rowed.rate r q) k ≡ zero_ℚ
-  at_basic k mark = ap (λ b. cond (is_in b k) zero_ℚ (objective_rate p (exchanged_rate rowed.rate r q) k)) same_basics ∙ ap (λ m. cond m zero_ℚ (objective_rate p (exchanged_rate rowed.rate r q) k)) mark
+  at_basic k mark =
+      ap (λ b. cond (is_in b k) zero_ℚ (objective_rate p (exchanged_rate rowed.rate r q) k)) same_basics
+      ∙ ap (λ m. cond m zero_ℚ (objective_rate p (exchanged_rate rowed.rate r q) k)) mark
 
-  at_nonbasic : (k : ℕ) → is_in (exchanged (basics_of s) r q) k ≡ false → price_of p (basics_of next) (exchanged_rate rowed.rate r q) k ≡ exchanged_rate rowed.rate r q p.objective k
+  at_nonbasic : (k : ℕ) → is_in (exchanged (basics_of s) r q) k ≡ false →
+      price_of p (basics_of next) (exchanged_rate rowed.rate r q) k ≡ exchanged_rate rowed.rate r q p.objective k
   at_nonbasic k mark =
       ap (λ b. cond (is_in b k) zero_ℚ (objective_rate p (exchanged_rate rowed.rate r q) k)) same_basics
       ∙ ap (λ m. cond m zero_ℚ (objective_rate p (exchanged_rate rowed.rate r q) k)) mark ∙ objective_is k
@@ -63,8 +70,11 @@ module _ (p : LinearProgram) (s : List Status) (lawful : IsLinearProgram p) (no_
         ∙ ap (λ y. y *ℚ rowed.rate p.objective q) (sym (one-mul (inverse_ℚ (rowed.rate r q))))
         ∙ sym (own (eqb_tells r r))
       where
-        own : (((eqb r r ≡ true) × (r ≡ r)) ⊎ ((eqb r r ≡ false) × (r ≢ r))) → exchanged_rate rowed.rate r q p.objective r ≡ (one_ℚ /ℚ rowed.rate r q) *ℚ rowed.rate p.objective q
-        own (inl same) = ap (λ m. cond m ((one_ℚ /ℚ rowed.rate r q) *ℚ rowed.rate p.objective q) (rowed.rate p.objective r -ℚ (rowed.rate r r /ℚ rowed.rate r q) *ℚ rowed.rate p.objective q)) same.0
+        own : (((eqb r r ≡ true) × (r ≡ r)) ⊎ ((eqb r r ≡ false) × (r ≢ r))) →
+            exchanged_rate rowed.rate r q p.objective r ≡ (one_ℚ /ℚ rowed.rate r q) *ℚ rowed.rate p.objective q
+        own (inl same) =
+            ap (λ m. cond m ((one_ℚ /ℚ rowed.rate r q) *ℚ rowed.rate p.objective q)
+            (rowed.rate p.objective r -ℚ (rowed.rate r r /ℚ rowed.rate r q) *ℚ rowed.rate p.objective q)) same.0
         own (inr other) = absurd (other.1 refl)
 
     other_is : (k : ℕ) → IsNonbasic p.matrix (basics_of s) k → eqb k r ≡ false → k ≢ r → k ≢ q → v k ≡ exchanged_rate rowed.rate r q p.objective k
@@ -72,8 +82,10 @@ module _ (p : LinearProgram) (s : List Status) (lawful : IsLinearProgram p) (no_
         over.others k out.0.0 out.0.1 other_r other_q
         ∙ ap (λ y. w k -ℚ y *ℚ x k) step_is
         ∙ ap₂ (λ y z. y -ℚ (rowed.rate p.objective q /ℚ rowed.rate r q) *ℚ z) (price_is k out) (row_is k out)
-        ∙ by_ring4 (rowed.rate p.objective k) (rowed.rate p.objective q) (inverse_ℚ (rowed.rate r q)) (rowed.rate r k) (λ a o i y. a ⊖ (o ⊗ i) ⊗ y ≐ a ⊖ (y ⊗ i) ⊗ o) refl
-        ∙ sym (ap (λ m. cond m ((one_ℚ /ℚ rowed.rate r q) *ℚ rowed.rate p.objective q) (rowed.rate p.objective k -ℚ (rowed.rate r k /ℚ rowed.rate r q) *ℚ rowed.rate p.objective q)) mark)
+        ∙ by_ring4 (rowed.rate p.objective k) (rowed.rate p.objective q) (inverse_ℚ (rowed.rate r q)) (rowed.rate r k)
+        (λ a o i y. a ⊖ (o ⊗ i) ⊗ y ≐ a ⊖ (y ⊗ i) ⊗ o) refl
+        ∙ sym (ap (λ m. cond m ((one_ℚ /ℚ rowed.rate r q) *ℚ rowed.rate p.objective q)
+        (rowed.rate p.objective k -ℚ (rowed.rate r k /ℚ rowed.rate r q) *ℚ rowed.rate p.objective q)) mark)
 
     still_basic : (k : ℕ) → IsVariable p.matrix k → is_in (basics_of s) k ≡ true → k ≢ r → k ≢ q → v k ≡ zero_ℚ
     still_basic k is mark other_r other_q =
@@ -85,7 +97,8 @@ module _ (p : LinearProgram) (s : List Status) (lawful : IsLinearProgram p) (no_
     price_next : (k : ℕ) → IsVariable p.matrix k → v k ≡ price_of p (basics_of next) (exchanged_rate rowed.rate r q) k
     price_next k is = by (eqb_tells k r) (eqb_tells k q) (is_in (basics_of s) k) refl
       where
-        by : (((eqb k r ≡ true) × (k ≡ r)) ⊎ ((eqb k r ≡ false) × (k ≢ r))) → (((eqb k q ≡ true) × (k ≡ q)) ⊎ ((eqb k q ≡ false) × (k ≢ q))) → (m : Bool) → is_in (basics_of s) k ≡ m →
+        by : (((eqb k r ≡ true) × (k ≡ r)) ⊎ ((eqb k r ≡ false) × (k ≢ r))) → (((eqb k q ≡ true) × (k ≡ q)) ⊎ ((eqb k q ≡ false) × (k ≢ q))) → (m : Bool) →
+            is_in (basics_of s) k ≡ m →
             v k ≡ price_of p (basics_of next) (exchanged_rate rowed.rate r q) k
         by (inl same) other m mark =
             ap v same.1 ∙ leaver_is ∙ sym (at_nonbasic r (leaver_out p.matrix (basics_of s) at.nonsingular.counted r q leaves enters))
@@ -94,7 +107,8 @@ module _ (p : LinearProgram) (s : List Status) (lawful : IsLinearProgram p) (no_
             ap v same.1 ∙ over.entering_variable ∙ sym (at_basic q (entering_in p.matrix (basics_of s) at.nonsingular.counted r q leaves enters))
             ∙ ap (price_of p (basics_of next) (exchanged_rate rowed.rate r q)) (sym same.1)
         by (inr other_r) (inr other_q) true mark =
-            still_basic k is mark other_r.1 other_q.1 ∙ sym (at_basic k (others_stay p.matrix (basics_of s) at.nonsingular.counted r q leaves enters k is other_r.1 other_q.1 ∙ mark))
+            still_basic k is mark other_r.1 other_q.1
+            ∙ sym (at_basic k (others_stay p.matrix (basics_of s) at.nonsingular.counted r q leaves enters k is other_r.1 other_q.1 ∙ mark))
         by (inr other_r) (inr other_q) false mark =
             other_is k (is, mark) other_r.0 other_r.1 other_q.1
             ∙ sym (at_nonbasic k (others_stay p.matrix (basics_of s) at.nonsingular.counted r q leaves enters k is other_r.1 other_q.1 ∙ mark))

@@ -32,7 +32,8 @@ ratio_of prices row q = magnitude (prices q /ℚ row q)
 
 abbrev pub cheapest_by : LinearProgram → List Status → Vector → Vector → Bool → Option ℕ
 cheapest_by p s prices row below =
-    least p (λ q. brings p s row below q && list_all (λ j. not (brings p s row below j) || le_ℚ (ratio_of prices row q) (ratio_of prices row j)) (variables p.matrix))
+    least p (λ q. brings p s row below q && list_all (λ j. not (brings p s row below j) || le_ℚ (ratio_of prices row q) (ratio_of prices row j))
+    (variables p.matrix))
 
 abbrev pub ratio_if : LinearProgram → List Status → Vector → Vector → Bool → ℕ → Option ℚ
 ratio_if p s prices row below q = if brings p s row below q then Some (ratio_of prices row q) else None

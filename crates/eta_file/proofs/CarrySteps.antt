@@ -63,12 +63,14 @@ pub written_other : (xs : List ℚ) (j k : ℕ) (v : ℚ) → 1 ≤ j → 1 ≤ 
 written_other xs j k v low some other =
     let apart : k - 1 ≢ j - 1 = λ e. other (omega (arith, e, low, some)) in get_or-set_other xs (j - 1) (k - 1) v zero_ℚ apart
 
-module _ (es : List EtaEntry) (n : ℕ) (e : EtaEntry) (below : n < length es) (is : e ≡ get_or es n e) (out : List ℚ) (within : IsEntryWithin (length out) e) where
+module _ (es : List EtaEntry) (n : ℕ) (e : EtaEntry) (below : n < length es) (is : e ≡ get_or es n e) (out : List ℚ)
+    (within : IsEntryWithin (length out) e) where
   pub subtracted_more : (old : List ℚ) (u x v : ℚ) (k : ℕ) → 1 ≤ k → x ≡ get_or out (e.i - 1) x → v ≡ x -ℚ u *ℚ e.rate
       → value_at out k ≡ value_at old k -ℚ u *ℚ sum_rate (take n es) k → value_at (set out (e.i - 1) v) k ≡ value_at old k -ℚ u *ℚ sum_rate (take (n + 1) es) k
   subtracted_more old u x v k low at_x is_v so_far = at (eqb_tells e.i k)
     where
-      at : (((eqb e.i k ≡ true) × (e.i ≡ k)) ⊎ ((eqb e.i k ≡ false) × (e.i ≢ k))) → value_at (set out (e.i - 1) v) k ≡ value_at old k -ℚ u *ℚ sum_rate (take (n + 1) es) k
+      at : (((eqb e.i k ≡ true) × (e.i ≡ k)) ⊎ ((eqb e.i k ≡ false) × (e.i ≢ k))) →
+          value_at (set out (e.i - 1) v) k ≡ value_at old k -ℚ u *ℚ sum_rate (take (n + 1) es) k
       at (inl same) =
           written_same out e.i k v within.0 within.1 same.1 ∙ is_v
           ∙ ap (λ y. y -ℚ u *ℚ e.rate) (value_at_place out e.i x within.0 within.1 at_x ∙ ap (value_at out) same.1 ∙ so_far)
@@ -87,7 +89,8 @@ module _ (es : List EtaEntry) (n : ℕ) (e : EtaEntry) (below : n < length es) (
       at : (((eqb e.i k ≡ true) × (e.i ≡ k)) ⊎ ((eqb e.i k ≡ false) × (e.i ≢ k))) → value_at (set out (e.i - 1) v) k ≡ u *ℚ sum_rate (take (n + 1) es) k
       at (inl same) =
           written_same out e.i k v within.0 within.1 same.1 ∙ is_v
-          ∙ ap (λ s. u *ℚ s) (sym (zero-add e.rate) ∙ ap (λ s. s +ℚ e.rate) (sym none_yet ∙ ap (sum_rate (take n es)) same.1) ∙ sym (sum_next_same es n e below is k same.1))
+          ∙ ap (λ s. u *ℚ s)
+          (sym (zero-add e.rate) ∙ ap (λ s. s +ℚ e.rate) (sym none_yet ∙ ap (sum_rate (take n es)) same.1) ∙ sym (sum_next_same es n e below is k same.1))
       at (inr other) =
           written_other out e.i k v within.0 low other.1 ∙ so_far ∙ ap (λ s. u *ℚ s) (sym (sum_next_other es n e below is k other.1))
 
@@ -107,7 +110,8 @@ module _ (c : List Entry) (n : ℕ) (e : Entry) (below : n < length c) (is : e �
     pub filled_row : (k : ℕ) → 1 ≤ k → value_at out k ≡ on_row (take n c) k → value_at (set out (e.row - 1) e.value) k ≡ on_row (take (n + 1) c) k
     filled_row k some so_far = at (eqb_tells e.row k)
       where
-        at : (((eqb e.row k ≡ true) × (e.row ≡ k)) ⊎ ((eqb e.row k ≡ false) × (e.row ≢ k))) → value_at (set out (e.row - 1) e.value) k ≡ on_row (take (n + 1) c) k
+        at : (((eqb e.row k ≡ true) × (e.row ≡ k)) ⊎ ((eqb e.row k ≡ false) × (e.row ≢ k))) →
+            value_at (set out (e.row - 1) e.value) k ≡ on_row (take (n + 1) c) k
         at (inl same) = written_same out e.row k e.value low high same.1 ∙ on_row_next_same k same.1
         at (inr other) = written_other out e.row k e.value low some other.1 ∙ so_far ∙ sym (on_row_next_other k other.1)
 
@@ -116,7 +120,8 @@ module _ (c : List Entry) (n : ℕ) (e : Entry) (below : n < length c) (is : e �
         → value_at (set out (e.row - 1) v) k ≡ on_row (take (n + 1) c) k *ℚ s
     filled_scaled s v k some is_v so_far = at (eqb_tells e.row k)
       where
-        at : (((eqb e.row k ≡ true) × (e.row ≡ k)) ⊎ ((eqb e.row k ≡ false) × (e.row ≢ k))) → value_at (set out (e.row - 1) v) k ≡ on_row (take (n + 1) c) k *ℚ s
+        at : (((eqb e.row k ≡ true) × (e.row ≡ k)) ⊎ ((eqb e.row k ≡ false) × (e.row ≢ k))) →
+            value_at (set out (e.row - 1) v) k ≡ on_row (take (n + 1) c) k *ℚ s
         at (inl same) = written_same out e.row k v low high same.1 ∙ is_v ∙ ap (λ x. x *ℚ s) (on_row_next_same k same.1)
         at (inr other) = written_other out e.row k v low some other.1 ∙ so_far ∙ ap (λ x. x *ℚ s) (sym (on_row_next_other k other.1))
 

@@ -22,7 +22,8 @@ use Rattle.eta_file.specs.Inverse.{Inverse, ways_of, file_state, IsAppended, IsR
 use Rattle.eta_file.proofs.PrefixLaws.{prefixes-append, rates_after}
 
 -- and so does one with one eta more
-pub keeps_appended : (f : Inverse) (p q : ℕ) (g : Inverse) → f.basics ≡ after (row_basics f.matrix) f.etas → IsAppended f p q g → KeepsWaypoints f.matrix f.basics (ways_of f) g.basics (ways_of g)
+pub keeps_appended : (f : Inverse) (p q : ℕ) (g : Inverse) → f.basics ≡ after (row_basics f.matrix) f.etas → IsAppended f p q g →
+    KeepsWaypoints f.matrix f.basics (ways_of f) g.basics (ways_of g)
 keeps_appended f p q g are h = record {
   each = subst (λ ws. All (IsKept f.matrix f.basics (ways_of f) g.basics) ws) (sym more)
       (All-append (IsKept f.matrix f.basics (ways_of f) g.basics) (ways_of f) (g.basics ∷ [])
@@ -31,9 +32,11 @@ keeps_appended f p q g are h = record {
   where
     more : ways_of g ≡ ways_of f ++ (g.basics ∷ [])
     more =
-        ap (λ (a : Matrix). prefixes (row_basics a) g.etas) h.same_matrix ∙ ap (prefixes (row_basics f.matrix)) h.one_more ∙ prefixes-append (row_basics f.matrix) f.etas h.eta
+        ap (λ (a : Matrix). prefixes (row_basics a) g.etas) h.same_matrix ∙ ap (prefixes (row_basics f.matrix)) h.one_more
+        ∙ prefixes-append (row_basics f.matrix) f.etas h.eta
         ∙ ap (λ w. ways_of f ++ (w ∷ []))
-        (ap (λ w. exchanged w h.eta.p h.eta.q) (sym are) ∙ ap (λ i. exchanged f.basics i h.eta.q) h.is_p ∙ ap (λ i. exchanged f.basics p i) h.is_q ∙ sym h.is_exchanged)
+        (ap (λ w. exchanged w h.eta.p h.eta.q) (sym are) ∙ ap (λ i. exchanged f.basics i h.eta.q) h.is_p ∙ ap (λ i. exchanged f.basics p i) h.is_q
+        ∙ sym h.is_exchanged)
 
     last : All (IsKept f.matrix f.basics (ways_of f) g.basics) (g.basics ∷ [])
     last k d below =
@@ -41,7 +44,8 @@ keeps_appended f p q g are h = record {
         subst (λ n. IsKept f.matrix f.basics (ways_of f) g.basics (get_or (g.basics ∷ []) n d)) first (inr (inr (within_itself f.matrix g.basics)))
 
 -- the values at all variables are a row
-pub row_of_rates : (f : Inverse) (i : ℕ) (xs : List ℚ) → f.basics ≡ after (row_basics f.matrix) f.etas → Passed f.matrix (row_basics f.matrix) f.etas → IsVariable f.matrix i
+pub row_of_rates : (f : Inverse) (i : ℕ) (xs : List ℚ) → f.basics ≡ after (row_basics f.matrix) f.etas → Passed f.matrix (row_basics f.matrix) f.etas
+    → IsVariable f.matrix i
     → ((k : ℕ) → k < size f.matrix → IsRateAt f i (k + 1) (get_or xs k zero_ℚ)) → IsRowOf f.matrix f.basics i (value_at xs)
 row_of_rates f i xs are passed var each = record {
   rate = rates.0;
@@ -56,7 +60,8 @@ row_of_rates f i xs are passed var each = record {
         subst (λ b. (rate : ℕ → ℕ → ℚ) × AreRates f.matrix b rate) (sym are)
         (rates_after f.matrix (row_basics f.matrix) f.etas (opening_rate f.matrix) (length-row_basics f.matrix) (AreRates-opening f.matrix) passed)
 
-    at : (k : ℕ) → IsVariable f.matrix k → (mark : Bool) → is_in f.basics k ≡ mark → IsRateAt f i k (value_at xs k) → value_at xs k ≡ cond mark zero_ℚ (rates.0 i k)
+    at : (k : ℕ) → IsVariable f.matrix k → (mark : Bool) → is_in f.basics k ≡ mark → IsRateAt f i k (value_at xs k) →
+        value_at xs k ≡ cond mark zero_ℚ (rates.0 i k)
     at k is true basic h = h.at_basic basic
     at k is false out h = h.at_nonbasic out (λ n. rates.0 n k) (rates.1 k (is, out))
 
@@ -69,7 +74,8 @@ each_more P n xs v within next so_far =
     (subst (P n) (sym (get_or-set_same xs n v zero_ℚ within)) next)
 
 -- a rate is read in the direction
-pub rate_read : (f : Inverse) (i k : ℕ) (v : ℚ) (xs : List ℚ) → IsNonsingular f.matrix f.basics → IsVariable f.matrix i → IsVariable f.matrix k → (basic : Bool) → basic ≡ is_in f.basics k → basic ≡ false
+pub rate_read : (f : Inverse) (i k : ℕ) (v : ℚ) (xs : List ℚ) → IsNonsingular f.matrix f.basics → IsVariable f.matrix i → IsVariable f.matrix k → (basic : Bool)
+    → basic ≡ is_in f.basics k → basic ≡ false
     → length xs ≡ size f.matrix → IsDirectionOf f.matrix f.basics k (value_at xs) → v ≡ get_or xs (i - 1) v → IsRateAt f i k v
 rate_read f i k v xs one is_i is_k basic is_mark out counted direction read = record {
   at_basic = λ inside. absurd (clash (sym inside ∙ sym is_mark ∙ out));
@@ -86,7 +92,8 @@ row_stop f NoMemory h = h
 pub keeps_itself : (f : Inverse) → KeepsBasics (file_state f) (file_state f)
 keeps_itself f = record { same_matrix = refl; same_basics = refl; waypoints = keeps_same f.matrix f.basics (ways_of f) }
 
-pub keeps_exchange : (r : Result (Unit {0}) Stop) (f : Inverse) (p q : ℕ) (g : Inverse) → f.basics ≡ after (row_basics f.matrix) f.etas → OnOk r (IsAppended f p q g) → OnErr r (g ≡ f)
+pub keeps_exchange : (r : Result (Unit {0}) Stop) (f : Inverse) (p q : ℕ) (g : Inverse) → f.basics ≡ after (row_basics f.matrix) f.etas
+    → OnOk r (IsAppended f p q g) → OnErr r (g ≡ f)
     → KeepsWaypoints f.matrix f.basics (ways_of f) g.basics (ways_of g)
 keeps_exchange (Ok x) f p q g are appended same = keeps_appended f p q g are appended
 keeps_exchange (Err e) f p q g are appended same =

@@ -27,7 +27,8 @@ entries_at_most w d f (suc n) =
     same : suc f - 1 ≡ f
     same = omega arith
 
-    at : (mark none : Bool) → is_in w (suc f) ≡ mark → length (entries_from w d (suc (suc f)) n) ≤ marked (drop (suc f) w) → marked (drop f w) ≡ cond mark (1 + marked (drop (suc f) w)) (marked (drop (suc f) w))
+    at : (mark none : Bool) → is_in w (suc f) ≡ mark → length (entries_from w d (suc (suc f)) n) ≤ marked (drop (suc f) w)
+        → marked (drop f w) ≡ cond mark (1 + marked (drop (suc f) w)) (marked (drop (suc f) w))
         → length (entries_from w d (suc f) (suc n)) ≤ marked (drop f w)
     at mark none is rest count = by_test (is_entry w d (suc f)) refl
       where
@@ -36,14 +37,18 @@ entries_at_most w d f (suc n) =
         kept false none h = h
 
         by_test : (keeps : Bool) → is_entry w d (suc f) ≡ keeps
-            → length (map (entry_of d) (cond keeps (suc f ∷ filter (is_entry w d) (numbers_from (suc (suc f)) n)) (filter (is_entry w d) (numbers_from (suc (suc f)) n)))) ≤ marked (drop f w)
+            → length (map (entry_of d)
+            (cond keeps (suc f ∷ filter (is_entry w d) (numbers_from (suc (suc f)) n)) (filter (is_entry w d) (numbers_from (suc (suc f)) n)))) ≤ marked
+            (drop f w)
         by_test true keeps =
             let basic : mark ≡ true = sym is ∙ kept (is_in w (suc f)) (eq_ℚ (d (suc f)) zero_ℚ) keeps in
-            let more : marked (drop f w) ≡ 1 + marked (drop (suc f) w) = count ∙ ap (λ t. cond t (1 + marked (drop (suc f) w)) (marked (drop (suc f) w))) basic in
+            let more : marked (drop f w) ≡ 1 + marked (drop (suc f) w) =
+            count ∙ ap (λ t. cond t (1 + marked (drop (suc f) w)) (marked (drop (suc f) w))) basic in
             omega (arith, more, rest)
         by_test false keeps = none_more mark count
           where
-            none_more : (m : Bool) → marked (drop f w) ≡ cond m (1 + marked (drop (suc f) w)) (marked (drop (suc f) w)) → length (entries_from w d (suc (suc f)) n) ≤ marked (drop f w)
+            none_more : (m : Bool) → marked (drop f w) ≡ cond m (1 + marked (drop (suc f) w)) (marked (drop (suc f) w)) →
+                length (entries_from w d (suc (suc f)) n) ≤ marked (drop f w)
             none_more true more = omega (arith, more, rest)
             none_more false more = omega (arith, more, rest)
 

@@ -70,7 +70,8 @@ module _ (a : Matrix) (w : Basics) (one : IsNonsingular a w) (e : StoredEta) (is
               ∙ ap (λ x. is.rate i j -ℚ x) (zero-mul (is.rate i e.q)) ∙ sub-zero (is.rate i j))
           same (changed at_p at_q elsewhere) i var = split (eqb_tells i e.p) (eqb_tells i e.q)
             where
-              split : (((eqb i e.p ≡ true) × (i ≡ e.p)) ⊎ ((eqb i e.p ≡ false) × (i ≢ e.p))) → (((eqb i e.q ≡ true) × (i ≡ e.q)) ⊎ ((eqb i e.q ≡ false) × (i ≢ e.q))) → value_at new i ≡ made i
+              split : (((eqb i e.p ≡ true) × (i ≡ e.p)) ⊎ ((eqb i e.p ≡ false) × (i ≢ e.p))) →
+                  (((eqb i e.q ≡ true) × (i ≡ e.q)) ⊎ ((eqb i e.q ≡ false) × (i ≢ e.q))) → value_at new i ≡ made i
               split (inl here) others =
                   let differ : nat_eq e.p e.q ≡ false = grind (arith, leaver_is_not_entering) in
                   ap (value_at new) here.1 ∙ at_p ∙ ap (λ t. cond t (neg_ℚ (value_at old e.p /ℚ e.pivot)) zero_ℚ) differ ∙ sym (ap made here.1 ∙ made_at_leaver)
@@ -88,7 +89,8 @@ module _ (a : Matrix) (w : Basics) (one : IsNonsingular a w) (e : StoredEta) (is
       made : Vector
       made = λ i. (one_ℚ /ℚ is.rate e.p e.q) *ℚ is.rate i e.q
 
-      same : (i : ℕ) → IsVariable a i → (((eqb i e.p ≡ true) × (i ≡ e.p)) ⊎ ((eqb i e.p ≡ false) × (i ≢ e.p))) → (((eqb i e.q ≡ true) × (i ≡ e.q)) ⊎ ((eqb i e.q ≡ false) × (i ≢ e.q))) → value_at new i ≡ made i
+      same : (i : ℕ) → IsVariable a i → (((eqb i e.p ≡ true) × (i ≡ e.p)) ⊎ ((eqb i e.p ≡ false) × (i ≢ e.p))) →
+          (((eqb i e.q ≡ true) × (i ≡ e.q)) ⊎ ((eqb i e.q ≡ false) × (i ≢ e.q))) → value_at new i ≡ made i
       same i var (inl here) others =
           ap (value_at new) here.1 ∙ leaving.leaver leaver_is_not_entering ∙ sym (ap made here.1 ∙ div-mul_cancel one_ℚ (is.rate e.p e.q) is.apart)
       same i var (inr other) (inl here) =
@@ -107,15 +109,18 @@ past_rows m (e ∷ es) k on past =
     let other : nat_eq e.row k ≡ false = grind (arith, row.1) in
     ap (λ t. cond t e.value (on_row es k)) other ∙ past_rows m es k (λ i d below. on (suc i) d (omega arith)) past
 
-pub column_direction : (a : Matrix) (j : ℕ) (new : List ℚ) → IsNonbasic a (row_basics a) j → a.rows < j → All (λ (e : Entry). IsRow a e.row) (column a (j - a.rows))
+pub column_direction : (a : Matrix) (j : ℕ) (new : List ℚ) → IsNonbasic a (row_basics a) j → a.rows < j
+    → All (λ (e : Entry). IsRow a e.row) (column a (j - a.rows))
     → IsColumnFilled (column a (j - a.rows)) j new → IsDirectionOf a (row_basics a) j (value_at new)
 column_direction a j new out above on filled =
-    direction_same a (row_basics a) j (λ i. opening_rate a i j) (value_at new) out.0 (λ i var. same i var (eqb_tells i j) (nat_le i a.rows) refl) (AreRates-opening a j out)
+    direction_same a (row_basics a) j (λ i. opening_rate a i j) (value_at new) out.0 (λ i var. same i var (eqb_tells i j) (nat_le i a.rows) refl)
+    (AreRates-opening a j out)
   where
     number : a.rows + (j - a.rows) ≡ j
     number = omega (arith, above)
 
-    same : (i : ℕ) → IsVariable a i → (((eqb i j ≡ true) × (i ≡ j)) ⊎ ((eqb i j ≡ false) × (i ≢ j))) → (low : Bool) → nat_le i a.rows ≡ low → value_at new i ≡ unit a (j - a.rows) i
+    same : (i : ℕ) → IsVariable a i → (((eqb i j ≡ true) × (i ≡ j)) ⊎ ((eqb i j ≡ false) × (i ≢ j))) → (low : Bool) → nat_le i a.rows ≡ low →
+        value_at new i ≡ unit a (j - a.rows) i
     same i var (inl here) true low = absurd (let le : i ≤ a.rows = grind (arith, low) in omega (arith, le, here.1, above))
     same i var (inl here) false high =
         let is_j : nat_eq i (a.rows + (j - a.rows)) ≡ true = grind (arith, here.1, number) in

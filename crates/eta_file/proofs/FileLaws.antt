@@ -55,8 +55,10 @@ take_all [] = refl
 take_all (e ∷ es) = ap (λ rest. e ∷ rest) (take_all es)
 
 -- a direction that was carried in numbers over one denominator
-pub divided : (a : Matrix) (marks : Basics) (j : ℕ) (d : ℚ) (old new : List ℚ) → IsNonbasic a marks j → Represent (λ xs. IsDirectionOf a marks j (value_at xs)) d old → AreQuotients d old new → IsDirectionOf a marks j (value_at new)
-divided a marks j d old new out h quotients_are = direction_same a marks j (value_at (quotients d old)) (value_at new) out.0 (λ i var. sym (made_values d old new quotients_are i)) h.holds
+pub divided : (a : Matrix) (marks : Basics) (j : ℕ) (d : ℚ) (old new : List ℚ) → IsNonbasic a marks j →
+    Represent (λ xs. IsDirectionOf a marks j (value_at xs)) d old → AreQuotients d old new → IsDirectionOf a marks j (value_at new)
+divided a marks j d old new out h quotients_are =
+    direction_same a marks j (value_at (quotients d old)) (value_at new) out.0 (λ i var. sym (made_values d old new quotients_are i)) h.holds
 
 some_eta : (etas : List StoredEta) → 0 < length etas → StoredEta
 some_eta [] h = absurd (omega arith)
@@ -69,7 +71,8 @@ module _ (a : Matrix) (etas : List StoredEta) (marks : Basics) (file : IsFileOf 
   one_at : (k : ℕ) → IsNonsingular a (set_at k)
   one_at k = nonsingular_after a (row_basics a) (take k etas) (IsNonsingular-row_basics a) (Passed-take a (row_basics a) etas k file.passed)
 
-  refused_here : (e : Evidence) → ExchangeRefused a (after (row_basics a) etas ∷ prefixes (row_basics a) etas) (after (row_basics a) etas) (prefixes (row_basics a) etas) e
+  refused_here : (e : Evidence)
+      → ExchangeRefused a (after (row_basics a) etas ∷ prefixes (row_basics a) etas) (after (row_basics a) etas) (prefixes (row_basics a) etas) e
       → ExchangeRefused a (marks ∷ prefixes (row_basics a) etas) marks (prefixes (row_basics a) etas) e
   refused_here e h = subst (λ m. ExchangeRefused a (m ∷ prefixes (row_basics a) etas) m (prefixes (row_basics a) etas) e) (sym file.are_marks) h
 
@@ -125,7 +128,8 @@ module _ (a : Matrix) (etas : List StoredEta) (marks : Basics) (file : IsFileOf 
         ap (λ n. entry_count (take n etas)) (add-one k) ∙ entry_count-take etas k eta below
         ∙ ap (λ (x : StoredEta). entry_count (take k etas) + length x.entries.items) (sym is_eta)
 
-    module _ (j : ℕ) (before : IsNonbasic a (set_at k) j) (next : IsNonbasic a (set_at (k + 1)) j) (old : List ℚ) (counted : length old ≡ size a) (direction : IsDirectionOf a (set_at k) j (value_at old)) where
+    module _ (j : ℕ) (before : IsNonbasic a (set_at k) j) (next : IsNonbasic a (set_at (k + 1)) j) (old : List ℚ) (counted : length old ≡ size a)
+        (direction : IsDirectionOf a (set_at k) j (value_at old)) where
       then : IsNonbasic a (exchanged (set_at k) eta.p eta.q) j
       then = subst (λ w. IsNonbasic a w j) set_next next
 
@@ -134,14 +138,16 @@ module _ (a : Matrix) (etas : List StoredEta) (marks : Basics) (file : IsFileOf 
 
       apart_q : j ≢ eta.q
       apart_q same =
-          clash (sym (entering_in a (set_at k) (one_at k).counted eta.p eta.q is.leaves is.enters) ∙ ap (is_in (exchanged (set_at k) eta.p eta.q)) (sym same) ∙ then.1)
+          clash (sym (entering_in a (set_at k) (one_at k).counted eta.p eta.q is.leaves is.enters) ∙ ap (is_in (exchanged (set_at k) eta.p eta.q)) (sym same)
+          ∙ then.1)
 
       pub transformed : (new : List ℚ) → IsTransformed eta old new → IsDirectionOf a (set_at (k + 1)) j (value_at new)
       transformed new h =
           subst (λ w. IsDirectionOf a w j (value_at new)) (sym set_next)
           (transformed_direction a (set_at k) (one_at k) eta is j before then apart_p apart_q old counted direction new h)
 
-      pub transformation_refused : (e : Evidence) → TransformRefused eta (k + 1) j old e → ExchangeRefused a (marks ∷ prefixes (row_basics a) etas) marks (prefixes (row_basics a) etas) e
+      pub transformation_refused : (e : Evidence) → TransformRefused eta (k + 1) j old e →
+          ExchangeRefused a (marks ∷ prefixes (row_basics a) etas) marks (prefixes (row_basics a) etas) e
       transformation_refused e h =
           refused_here e
           (transform_refused a (row_basics a) (IsNonsingular-row_basics a) etas file.passed k eta below e j before
@@ -154,7 +160,8 @@ module _ (a : Matrix) (etas : List StoredEta) (marks : Basics) (file : IsFileOf 
         subst (λ w. IsDirectionOf a w j (value_at new)) (sym (set_then n same))
         (subst (λ i. IsDirectionOf a (exchanged (set_at k) eta.p eta.q) i (value_at new)) own (leaving_direction a (set_at k) (one_at k) eta is new counted h))
 
-    pub leaving_refused : (n : ℕ) → n ≡ k + 1 → (e : Evidence) → LeaveRefused eta n e → ExchangeRefused a (marks ∷ prefixes (row_basics a) etas) marks (prefixes (row_basics a) etas) e
+    pub leaving_refused : (n : ℕ) → n ≡ k + 1 → (e : Evidence) → LeaveRefused eta n e →
+        ExchangeRefused a (marks ∷ prefixes (row_basics a) etas) marks (prefixes (row_basics a) etas) e
     leaving_refused n same e h =
         refused_here e
         (leave_refused a (row_basics a) (IsNonsingular-row_basics a) etas file.passed k eta below e
@@ -200,7 +207,8 @@ module _ (a : Matrix) (etas : List StoredEta) (marks : Basics) (file : IsFileOf 
 
   -- ---- a direction that was carried in numbers over one denominator
 
-  pub at_end : (j n : ℕ) (d : ℚ) (xs : List ℚ) → n ≡ length etas → Represent (λ ys. IsDirectionOf a (set_at n) j (value_at ys)) d xs → Represent (λ ys. IsDirectionOf a marks j (value_at ys)) d xs
+  pub at_end : (j n : ℕ) (d : ℚ) (xs : List ℚ) → n ≡ length etas → Represent (λ ys. IsDirectionOf a (set_at n) j (value_at ys)) d xs →
+      Represent (λ ys. IsDirectionOf a marks j (value_at ys)) d xs
   at_end j n d xs all h =
       subst (λ b. Represent (λ ys. IsDirectionOf a b j (value_at ys)) d xs)
       (ap (λ k. after (row_basics a) (take k etas)) all ∙ ap (after (row_basics a)) (take_all etas) ∙ sym file.are_marks) h
@@ -225,7 +233,8 @@ module _ (a : Matrix) (etas : List StoredEta) (marks : Basics) (file : IsFileOf 
 
   -- ---- one exchange more
 
-  module _ (p q : ℕ) (leaves : IsBasic a marks p) (enters : IsNonbasic a marks q) (d : List ℚ) (direction : IsDirectionOf a marks q (value_at d)) (apart : value_at d p ≢ zero_ℚ) where
+  module _ (p q : ℕ) (leaves : IsBasic a marks p) (enters : IsNonbasic a marks q) (d : List ℚ) (direction : IsDirectionOf a marks q (value_at d))
+      (apart : value_at d p ≢ zero_ℚ) where
     -- the rates, with this direction as that of q
     abbrev with_direction : ℕ → ℕ → ℚ
     with_direction i j = cond (eqb j q) (value_at d i) (marks_rates.0 i j)
@@ -264,8 +273,11 @@ module _ (a : Matrix) (etas : List StoredEta) (marks : Basics) (file : IsFileOf 
     appended eta is_p is_q is_pivot are_entries are_whole few = record {
       lawful = file.lawful;
       are_marks =
-          ap (λ m. exchanged m p q) file.are_marks ∙ ap₂ (λ i j. exchanged (after (row_basics a) etas) i j) (sym is_p) (sym is_q) ∙ sym (after-append (row_basics a) etas eta);
-      passed = Passed-append a (row_basics a) etas eta file.passed (subst (λ m. IsEta a m eta) file.are_marks (new_eta eta is_p is_q is_pivot are_entries are_whole));
+          ap (λ m. exchanged m p q) file.are_marks ∙ ap₂ (λ i j. exchanged (after (row_basics a) etas) i j) (sym is_p) (sym is_q)
+          ∙ sym (after-append (row_basics a) etas eta);
+      passed =
+          Passed-append a (row_basics a) etas eta file.passed
+          (subst (λ m. IsEta a m eta) file.are_marks (new_eta eta is_p is_q is_pivot are_entries are_whole));
       few = let more = length-append etas (eta ∷ []) in omega (arith, more, few);
     }
 
@@ -290,16 +302,20 @@ stop_map (Overflow e) P Q f h = f e h
 stop_map NoMemory P Q f h = h
 
 -- the column of an exchange, with the set that is to be made among those around
-pub column_to_exchange : (a : Matrix) (b : Basics) (ways : List Basics) (p q : ℕ) (e : Evidence) → ExchangeRefused a (b ∷ ways) b ways e → ExchangeRefused a (b ∷ exchanged b p q ∷ ways) b ways e
+pub column_to_exchange : (a : Matrix) (b : Basics) (ways : List Basics) (p q : ℕ) (e : Evidence) → ExchangeRefused a (b ∷ ways) b ways e →
+    ExchangeRefused a (b ∷ exchanged b p q ∷ ways) b ways e
 column_to_exchange a b ways p q e h =
-    ExchangeRefused-covered a (b ∷ ways) (b ∷ exchanged b p q ∷ ways) b ways e (Covers-insert a (b ∷ ways) b (exchanged b p q) ways (Covers-itself a (b ∷ ways))) h
+    ExchangeRefused-covered a (b ∷ ways) (b ∷ exchanged b p q ∷ ways) b ways e
+    (Covers-insert a (b ∷ ways) b (exchanged b p q) ways (Covers-itself a (b ∷ ways))) h
 
 -- a direction of the entering variable is not 0 at the leaver
-pub pivot_apart : (a : Matrix) (b : Basics) → IsNonsingular a b → (p q : ℕ) → IsBasic a b p → (d : List ℚ) → IsDirectionOf a b q (value_at d) → HasPivot a b p q → value_at d p ≢ zero_ℚ
+pub pivot_apart : (a : Matrix) (b : Basics) → IsNonsingular a b → (p q : ℕ) → IsBasic a b p → (d : List ℚ) → IsDirectionOf a b q (value_at d) →
+    HasPivot a b p q → value_at d p ≢ zero_ℚ
 pivot_apart a b one p q leaves d direction pivot none = pivot.2 (one_direction a b q pivot.0 (value_at d) one pivot.1 direction p leaves.0 ∙ none)
 
 -- an eta that has whole numbers
-pub lent_scaled : (etas : List StoredEta) (k : ℕ) (eta : StoredEta) (w : WholeEta) → k < length etas → eta ≡ get_or etas k eta → IsWholeOf eta.pivot eta.entries.items w → IsLentScaled etas k w.scale w.pivot w.entries.items
+pub lent_scaled : (etas : List StoredEta) (k : ℕ) (eta : StoredEta) (w : WholeEta) → k < length etas → eta ≡ get_or etas k eta →
+    IsWholeOf eta.pivot eta.entries.items w → IsLentScaled etas k w.scale w.pivot w.entries.items
 lent_scaled etas k eta w below is h = record {
   apart = h.apart;
   is_pivot = λ d. h.is_pivot ∙ ap (λ (x : StoredEta). x.pivot *ℚ w.scale) (its d);

@@ -20,16 +20,19 @@ use Rattle.eta_file.proofs.RateEntries.{mark_next, has_number, filter_both}
 use Rattle.eta_file.specs.Listed.{listed_of, place_in}
 
 -- one place more
-pub listed_more : (b : Basics) (n : ℕ) (mark : Bool) → get_or b n false ≡ mark → filter (is_in b) (numbers_from 1 (n + 1)) ≡ filter (is_in b) (numbers_from 1 n) ++ cond mark ((n + 1) ∷ []) []
+pub listed_more : (b : Basics) (n : ℕ) (mark : Bool) → get_or b n false ≡ mark →
+    filter (is_in b) (numbers_from 1 (n + 1)) ≡ filter (is_in b) (numbers_from 1 n) ++ cond mark ((n + 1) ∷ []) []
 listed_more b n mark is =
     ap (filter (is_in b)) (numbers_from-append 1 n 1 ∙ ap (λ k. numbers_from 1 n ++ (k ∷ [])) (omega arith))
     ∙ filter-append (is_in b) (numbers_from 1 n) ((n + 1) ∷ [])
     ∙ ap (λ m. filter (is_in b) (numbers_from 1 n) ++ cond m ((n + 1) ∷ []) []) (sym (mark_next b n) ∙ is)
 
-pub listed_then : (b : Basics) (n : ℕ) (so_far : List ℕ) → get_or b n false ≡ true → so_far ≡ filter (is_in b) (numbers_from 1 n) → so_far ++ ((n + 1) ∷ []) ≡ filter (is_in b) (numbers_from 1 (n + 1))
+pub listed_then : (b : Basics) (n : ℕ) (so_far : List ℕ) → get_or b n false ≡ true → so_far ≡ filter (is_in b) (numbers_from 1 n) →
+    so_far ++ ((n + 1) ∷ []) ≡ filter (is_in b) (numbers_from 1 (n + 1))
 listed_then b n so_far is e = ap (λ ks. ks ++ ((n + 1) ∷ [])) e ∙ sym (listed_more b n true is)
 
-pub listed_else : (b : Basics) (n : ℕ) (so_far : List ℕ) → get_or b n false ≡ false → so_far ≡ filter (is_in b) (numbers_from 1 n) → so_far ≡ filter (is_in b) (numbers_from 1 (n + 1))
+pub listed_else : (b : Basics) (n : ℕ) (so_far : List ℕ) → get_or b n false ≡ false → so_far ≡ filter (is_in b) (numbers_from 1 n) →
+    so_far ≡ filter (is_in b) (numbers_from 1 (n + 1))
 listed_else b n so_far is e = e ∙ sym (listed_more b n false is ∙ append-nil (filter (is_in b) (numbers_from 1 n)))
 
 number_at : (f n i d : ℕ) → i < length (numbers_from f n) → (f ≤ get_or (numbers_from f n) i d) × (get_or (numbers_from f n) i d < f + n)
@@ -107,11 +110,13 @@ module _ (less more : ℕ → Bool) (t : ℕ) (agree : (k : ℕ) → 1 ≤ k →
   inserted f (suc n) low from within = split (ℕ_discrete f t) (λ before. inserted (suc f) n (omega arith) before (omega arith))
     where
       at : (keeps : Bool) → less f ≡ keeps → f < t → insert (few (suc f) n) (place_in (few (suc f) n) t) t ≡ all (suc f) n
-          → insert (cond keeps (f ∷ few (suc f) n) (few (suc f) n)) (place_in (cond keeps (f ∷ few (suc f) n) (few (suc f) n)) t) t ≡ cond keeps (f ∷ all (suc f) n) (all (suc f) n)
+          → insert (cond keeps (f ∷ few (suc f) n) (few (suc f) n)) (place_in (cond keeps (f ∷ few (suc f) n) (few (suc f) n)) t) t ≡ cond keeps
+          (f ∷ all (suc f) n) (all (suc f) n)
       at true is before h = ap (λ i. insert (f ∷ few (suc f) n) i t) (place_past f (few (suc f) n) before) ∙ ap (λ rest. f ∷ rest) h
       at false is before h = h
 
-      split : Dec (f ≡ t) → (f < t → insert (few (suc f) n) (place_in (few (suc f) n) t) t ≡ all (suc f) n) → insert (few f (suc n)) (place_in (few f (suc n)) t) t ≡ all f (suc n)
+      split : Dec (f ≡ t) → (f < t → insert (few (suc f) n) (place_in (few (suc f) n) t) t ≡ all (suc f) n) →
+          insert (few f (suc n)) (place_in (few f (suc n)) t) t ≡ all f (suc n)
       split (yes same) rest =
           ap (λ ks. insert ks (place_in ks t) t) (few_here f n same)
           ∙ ap (λ i. insert (few (suc f) n) i t) (none_less less t (suc f) n (omega arith)) ∙ insert_first (few (suc f) n) t ∙ sym (all_here f n same)
@@ -138,11 +143,13 @@ module _ (less more : ℕ → Bool) (t : ℕ) (agree : (k : ℕ) → 1 ≤ k →
   removed f (suc n) low from within = split (ℕ_discrete f t) (λ before. removed (suc f) n (omega arith) before (omega arith))
     where
       at : (keeps : Bool) → f < t → remove (all (suc f) n) (place_in (all (suc f) n) t) ≡ few (suc f) n
-          → remove (cond keeps (f ∷ all (suc f) n) (all (suc f) n)) (place_in (cond keeps (f ∷ all (suc f) n) (all (suc f) n)) t) ≡ cond keeps (f ∷ few (suc f) n) (few (suc f) n)
+          → remove (cond keeps (f ∷ all (suc f) n) (all (suc f) n)) (place_in (cond keeps (f ∷ all (suc f) n) (all (suc f) n)) t) ≡ cond keeps
+          (f ∷ few (suc f) n) (few (suc f) n)
       at true before h = ap (λ i. remove (f ∷ all (suc f) n) i) (place_past f (all (suc f) n) before) ∙ ap (λ rest. f ∷ rest) h
       at false before h = h
 
-      split : Dec (f ≡ t) → (f < t → remove (all (suc f) n) (place_in (all (suc f) n) t) ≡ few (suc f) n) → remove (all f (suc n)) (place_in (all f (suc n)) t) ≡ few f (suc n)
+      split : Dec (f ≡ t) → (f < t → remove (all (suc f) n) (place_in (all (suc f) n) t) ≡ few (suc f) n) →
+          remove (all f (suc n)) (place_in (all f (suc n)) t) ≡ few f (suc n)
       split (yes same) rest =
           ap (λ ks. remove ks (place_in ks t)) (all_here f n same)
           ∙ ap (λ i. remove (t ∷ few (suc f) n) i) (place_here f n same) ∙ remove_first t (few (suc f) n) ∙ sym (few_here f n same)
@@ -152,7 +159,8 @@ module _ (less more : ℕ → Bool) (t : ℕ) (agree : (k : ℕ) → 1 ≤ k →
 
 -- ---- an exchange
 
-module _ (b : Basics) (p q : ℕ) (p_low : 1 ≤ p) (p_high : p ≤ length b) (q_low : 1 ≤ q) (q_high : q ≤ length b) (leaves : is_in b p ≡ true) (enters : is_in b q ≡ false) where
+module _ (b : Basics) (p q : ℕ) (p_low : 1 ≤ p) (p_high : p ≤ length b) (q_low : 1 ≤ q) (q_high : q ≤ length b) (leaves : is_in b p ≡ true)
+    (enters : is_in b q ≡ false) where
   abbrev without : Basics
   without = set b (p - 1) false
 
@@ -217,14 +225,16 @@ covers_more xs f [] none (no_more_listed zeros) = no_more_listed (λ i from. at 
     at : (i : ℕ) → f ≤ i → Dec (i ≡ f) → value_at xs i ≡ zero_ℚ
     at i from (yes same) = ap (value_at xs) same ∙ none
     at i from (no apart) = zeros i (omega (arith, from, apart))
-covers_more xs f (k ∷ ks) none (next_listed h rest) = next_listed (record { from = omega (arith, h.from); within = h.within; between = λ i from below. at i from below (ℕ_discrete i f) }) rest
+covers_more xs f (k ∷ ks) none (next_listed h rest) =
+    next_listed (record { from = omega (arith, h.from); within = h.within; between = λ i from below. at i from below (ℕ_discrete i f) }) rest
   where
     at : (i : ℕ) → f ≤ i → i < k → Dec (i ≡ f) → value_at xs i ≡ zero_ℚ
     at i from below (yes same) = ap (value_at xs) same ∙ none
     at i from below (no apart) = h.between i (omega (arith, from, apart)) below
 
 -- those that pass a test, where each number is 0 at which the test fails
-covered : (p : ℕ → Bool) (xs : List ℚ) → ((k : ℕ) → 1 ≤ k → k ≤ length xs → p k ≡ false → value_at xs k ≡ zero_ℚ) → (f n : ℕ) → 1 ≤ f → f + n ≡ suc (length xs) → CoverNonzeroFrom xs f (filter p (numbers_from f n))
+covered : (p : ℕ → Bool) (xs : List ℚ) → ((k : ℕ) → 1 ≤ k → k ≤ length xs → p k ≡ false → value_at xs k ≡ zero_ℚ) → (f n : ℕ) → 1 ≤ f →
+    f + n ≡ suc (length xs) → CoverNonzeroFrom xs f (filter p (numbers_from f n))
 covered p xs zeros f zero low all = no_more_listed (λ i from. get_or_past_end i (omega (arith, from, all)))
   where
     get_or_past_end : (i : ℕ) → length xs < i → value_at xs i ≡ zero_ℚ
@@ -239,7 +249,8 @@ covered p xs zeros f (suc n) low all = at (p f) refl (covered p xs zeros (suc f)
     at true is rest = next_listed (record { from = omega arith; within = omega (arith, all); between = nothing }) rest
     at false is rest = covers_more xs f (filter p (numbers_from (suc f) n)) (zeros f low (omega (arith, all)) is) rest
 
-module _ (a : Matrix) (b : Basics) (counted : length b ≡ size a) (j : ℕ) (out : IsNonbasic a b j) (xs : List ℚ) (places : length xs ≡ size a) (direction : IsDirectionOf a b j (value_at xs)) where
+module _ (a : Matrix) (b : Basics) (counted : length b ≡ size a) (j : ℕ) (out : IsNonbasic a b j) (xs : List ℚ) (places : length xs ≡ size a)
+    (direction : IsDirectionOf a b j (value_at xs)) where
   abbrev with_it : Basics
   with_it = set b (j - 1) true
 
@@ -259,10 +270,12 @@ module _ (a : Matrix) (b : Basics) (counted : length b ≡ size a) (j : ℕ) (ou
       at (yes same) = absurd (clash (sym own_mark ∙ ap (is_in with_it) (sym same) ∙ fails))
       at (no apart) = direction.others k ((low, omega (arith, high, places)), sym (other_mark k low apart) ∙ fails) apart
 
-  pub direction_covered : (front back : List ℕ) → front ≡ take (place_in (listed_of b) j) (listed_of b) → back ≡ drop (place_in (listed_of b) j) (listed_of b) → CoverNonzero xs (front ++ j ∷ back)
+  pub direction_covered : (front back : List ℕ) → front ≡ take (place_in (listed_of b) j) (listed_of b) → back ≡ drop (place_in (listed_of b) j) (listed_of b) →
+      CoverNonzero xs (front ++ j ∷ back)
   direction_covered front back is_front is_back =
       subst (λ ks. CoverNonzeroFrom xs 1 ks)
-      (sym (inserted (is_in b) (is_in with_it) j other_mark out.1 own_mark 1 (length b) (omega arith) out.0.0 (omega (arith, counted, out.0.1))) ∙ ap₂ (λ us vs. us ++ j ∷ vs) (sym is_front) (sym is_back))
+      (sym (inserted (is_in b) (is_in with_it) j other_mark out.1 own_mark 1 (length b) (omega arith) out.0.0 (omega (arith, counted, out.0.1)))
+      ∙ ap₂ (λ us vs. us ++ j ∷ vs) (sym is_front) (sym is_back))
       (covered (is_in with_it) xs zero_outside 1 (length b) (omega arith) (omega (arith, counted, places)))
 
 -- ---- the entries of a direction, by the list of its numbers that aren't 0
@@ -273,35 +286,49 @@ has_number_from xs k apart = ap not (eq_fails_from_apart (value_at xs k) zero_�
 no_number_from : (xs : List ℚ) (k : ℕ) → value_at xs k ≡ zero_ℚ → has_number (value_at xs) k ≡ false
 no_number_from xs k none = ap not (test_from_same (value_at xs k) zero_ℚ none)
 
-nonzero_from : (xs : List ℚ) (n f : ℕ) (ks : List ℕ) → f + n ≡ suc (length xs) → AreNonzeroFrom xs f ks → ks ≡ filter (has_number (value_at xs)) (numbers_from f n)
+nonzero_from : (xs : List ℚ) (n f : ℕ) (ks : List ℕ) → f + n ≡ suc (length xs) → AreNonzeroFrom xs f ks →
+    ks ≡ filter (has_number (value_at xs)) (numbers_from f n)
 nonzero_from xs zero f [] all h = refl
 nonzero_from xs zero f (k ∷ ks) all (next_nonzero h rest) = absurd (omega (arith, h.from, h.within, all))
 nonzero_from xs (suc n) f [] all (no_more zeros) =
     nonzero_from xs n (suc f) [] (omega (arith, all)) (no_more (λ i from. zeros i (omega (arith, from))))
-    ∙ ap (λ b. cond b (f ∷ filter (has_number (value_at xs)) (numbers_from (suc f) n)) (filter (has_number (value_at xs)) (numbers_from (suc f) n))) (sym (no_number_from xs f (zeros f (omega arith))))
+    ∙ ap (λ b. cond b (f ∷ filter (has_number (value_at xs)) (numbers_from (suc f) n)) (filter (has_number (value_at xs)) (numbers_from (suc f) n)))
+    (sym (no_number_from xs f (zeros f (omega arith))))
 nonzero_from xs (suc n) f (k ∷ ks) all (next_nonzero h rest) = at (ℕ_discrete f k) (λ js g. nonzero_from xs n (suc f) js (omega (arith, all)) g)
   where
     at : Dec (f ≡ k) → ((js : List ℕ) → AreNonzeroFrom xs (suc f) js → js ≡ filter (has_number (value_at xs)) (numbers_from (suc f) n))
-        → k ∷ ks ≡ cond (has_number (value_at xs) f) (f ∷ filter (has_number (value_at xs)) (numbers_from (suc f) n)) (filter (has_number (value_at xs)) (numbers_from (suc f) n))
+        → k ∷ ks ≡ cond (has_number (value_at xs) f) (f ∷ filter (has_number (value_at xs)) (numbers_from (suc f) n))
+        (filter (has_number (value_at xs)) (numbers_from (suc f) n))
     at (yes same) more =
         ap₂ (λ i js. i ∷ js) (sym same) (more ks (subst (λ i. AreNonzeroFrom xs (suc i) ks) (sym same) rest))
         ∙ ap (λ b. cond b (f ∷ filter (has_number (value_at xs)) (numbers_from (suc f) n)) (filter (has_number (value_at xs)) (numbers_from (suc f) n)))
         (sym (ap (has_number (value_at xs)) same ∙ has_number_from xs k h.nonzero))
     at (no apart) more =
-        more (k ∷ ks) (next_nonzero (record { from = omega (arith, h.from, apart); within = h.within; nonzero = h.nonzero; between = λ i from below. h.between i (omega (arith, from)) below }) rest)
+        more (k ∷ ks)
+        (next_nonzero
+        (record {
+          from = omega (arith, h.from, apart);
+          within = h.within;
+          nonzero = h.nonzero;
+          between = λ i from below. h.between i
+              (omega (arith, from)) below;
+        }) rest)
         ∙ ap (λ b. cond b (f ∷ filter (has_number (value_at xs)) (numbers_from (suc f) n)) (filter (has_number (value_at xs)) (numbers_from (suc f) n)))
         (sym (no_number_from xs f (h.between f (omega arith) (omega (arith, h.from, apart)))))
 
 filters_same : (p q : ℕ → Bool) (f n : ℕ) → ((k : ℕ) → f ≤ k → k < f + n → p k ≡ q k) → filter p (numbers_from f n) ≡ filter q (numbers_from f n)
 filters_same p q f zero agree = refl
-filters_same p q f (suc n) agree = ap₂ (λ b rest. cond b (f ∷ rest) rest) (agree f (omega arith) (omega arith)) (filters_same p q (suc f) n (λ k from below. agree k (omega (arith, from)) (omega (arith, below))))
+filters_same p q f (suc n) agree =
+    ap₂ (λ b rest. cond b (f ∷ rest) rest) (agree f (omega arith) (omega arith))
+    (filters_same p q (suc f) n (λ k from below. agree k (omega (arith, from)) (omega (arith, below))))
 
 pub nonzero_within : (xs : List ℚ) (ks : List ℕ) → AreNonzero xs ks → All (λ (k : ℕ). (1 ≤ k) × (k ≤ length xs)) ks
 nonzero_within xs ks h =
     subst (All (λ (k : ℕ). (1 ≤ k) × (k ≤ length xs))) (sym (nonzero_from xs (length xs) 1 ks (omega arith) h))
     (All-filter (has_number (value_at xs)) (λ (k : ℕ). (1 ≤ k) × (k ≤ length xs)) (numbers_from 1 (length xs)) (numbers_within (length xs)))
 
-module _ (a : Matrix) (b : Basics) (counted : length b ≡ size a) (q : ℕ) (enters : IsNonbasic a b q) (xs : List ℚ) (places : length xs ≡ size a) (direction : IsDirectionOf a b q (value_at xs)) where
+module _ (a : Matrix) (b : Basics) (counted : length b ≡ size a) (q : ℕ) (enters : IsNonbasic a b q) (xs : List ℚ) (places : length xs ≡ size a)
+    (direction : IsDirectionOf a b q (value_at xs)) where
   same_test : (k : ℕ) → 1 ≤ k → k < 1 + length xs → has_number (value_at xs) k && not (nat_eq k q) ≡ is_entry b (value_at xs) k
   same_test k low high = at (has_number (value_at xs) k) (nat_eq k q) (is_in b k) refl refl refl
     where
@@ -315,7 +342,8 @@ module _ (a : Matrix) (b : Basics) (counted : length b ≡ size a) (q : ℕ) (en
       at false own true is_some is_own is_mark = refl
       at false own false is_some is_own is_mark = refl
 
-  pub entries_along : (ks : List ℕ) → AreNonzero xs ks → (ys : List ℚ) → ys ≡ xs → (es : List EtaEntry) → es ≡ map (entry_of (value_at ys)) (filter (λ k. not (nat_eq k q)) ks) → es ≡ entries_to b (value_at xs) (length b)
+  pub entries_along : (ks : List ℕ) → AreNonzero xs ks → (ys : List ℚ) → ys ≡ xs → (es : List EtaEntry) →
+      es ≡ map (entry_of (value_at ys)) (filter (λ k. not (nat_eq k q)) ks) → es ≡ entries_to b (value_at xs) (length b)
   entries_along ks nonzero ys same es are =
       are ∙ ap₂ (λ zs js. map (entry_of (value_at zs)) (filter (λ k. not (nat_eq k q)) js)) same (nonzero_from xs (length xs) 1 ks (omega arith) nonzero)
       ∙ ap (map (entry_of (value_at xs)))

@@ -14,7 +14,8 @@ pub after-append : (b : Basics) (es : List StoredEta) (e : StoredEta) → after 
 after-append b [] e = refl
 after-append b (x ∷ xs) e = after-append (exchanged b x.p x.q) xs e
 
-pub after-take_next : (b : Basics) (es : List StoredEta) (k : ℕ) (d : StoredEta) → k < length es → after b (take (suc k) es) ≡ exchanged (after b (take k es)) (get_or es k d).p (get_or es k d).q
+pub after-take_next : (b : Basics) (es : List StoredEta) (k : ℕ) (d : StoredEta) → k < length es →
+    after b (take (suc k) es) ≡ exchanged (after b (take k es)) (get_or es k d).p (get_or es k d).q
 after-take_next b [] k d below = absurd (omega arith)
 after-take_next b (e ∷ es) zero d below = refl
 after-take_next b (e ∷ es) (suc k) d below = after-take_next (exchanged b e.p e.q) es k d (omega arith)
@@ -39,7 +40,8 @@ pub prefixes-append : (b : Basics) (es : List StoredEta) (e : StoredEta) → pre
 prefixes-append b [] e = refl
 prefixes-append b (x ∷ xs) e = ap (λ ws. b ∷ ws) (prefixes-append (exchanged b x.p x.q) xs e)
 
-pub entry_count-take : (es : List StoredEta) (k : ℕ) (d : StoredEta) → k < length es → entry_count (take (suc k) es) ≡ entry_count (take k es) + length (get_or es k d).entries.items
+pub entry_count-take : (es : List StoredEta) (k : ℕ) (d : StoredEta) → k < length es →
+    entry_count (take (suc k) es) ≡ entry_count (take k es) + length (get_or es k d).entries.items
 entry_count-take [] k d below = absurd (omega arith)
 entry_count-take (e ∷ es) zero d below = omega arith
 entry_count-take (e ∷ es) (suc k) d below = let rest = entry_count-take es k d (omega arith) in omega (arith, rest)
@@ -92,14 +94,16 @@ module _ (a : Matrix) where
   nonsingular_after b (e ∷ es) one h = nonsingular_after (exchanged b e.p e.q) es (eta_nonsingular b e one h.0) h.1
 
   -- a variable that none of the etas lets go is nonbasic before them if it is after them
-  pub was_out : (b : Basics) (es : List StoredEta) (j : ℕ) → length b ≡ size a → Passed a b es → ((k : ℕ) (d : StoredEta) → k < length es → (get_or es k d).p ≢ j) → IsNonbasic a (after b es) j → IsNonbasic a b j
+  pub was_out : (b : Basics) (es : List StoredEta) (j : ℕ) → length b ≡ size a → Passed a b es →
+      ((k : ℕ) (d : StoredEta) → k < length es → (get_or es k d).p ≢ j) → IsNonbasic a (after b es) j → IsNonbasic a b j
   was_out b [] j counted h stays out = out
   was_out b (e ∷ es) j counted h stays out =
       let then : IsNonbasic a (exchanged b e.p e.q) j =
       was_out (exchanged b e.p e.q) es j (length-exchanged a b counted e.p e.q h.0.leaves h.0.enters) h.1 (λ k d below. stays (suc k) d (omega arith)) out in
       (was_nonbasic a b counted e.p e.q h.0.leaves h.0.enters j then (λ same. stays zero e (omega arith) (sym same))).0
 
-  pub out_from : (b : Basics) (es : List StoredEta) (j first : ℕ) → IsNonsingular a b → Passed a b es → ((k : ℕ) (d : StoredEta) → first ≤ k → k < length es → (get_or es k d).p ≢ j)
+  pub out_from : (b : Basics) (es : List StoredEta) (j first : ℕ) → IsNonsingular a b → Passed a b es
+      → ((k : ℕ) (d : StoredEta) → first ≤ k → k < length es → (get_or es k d).p ≢ j)
       → IsNonbasic a (after b es) j → (k : ℕ) → first ≤ k → IsNonbasic a (after b (take k es)) j
   out_from b es j first one h stays out k from =
       was_out (after b (take k es)) (drop k es) j (nonsingular_after b (take k es) one (Passed-take b es k h)).counted (Passed-drop b es k h)
@@ -114,7 +118,8 @@ module _ (a : Matrix) where
   prefix_within b (e ∷ es) (suc k) below = inr (prefix_within (exchanged b e.p e.q) es k (omega arith))
 
   -- the rates at the set that the exchanges lead to
-  pub rates_after : (b : Basics) (es : List StoredEta) (rate : ℕ → ℕ → ℚ) → length b ≡ size a → AreRates a b rate → Passed a b es → (now : ℕ → ℕ → ℚ) × AreRates a (after b es) now
+  pub rates_after : (b : Basics) (es : List StoredEta) (rate : ℕ → ℕ → ℚ) → length b ≡ size a → AreRates a b rate → Passed a b es →
+      (now : ℕ → ℕ → ℚ) × AreRates a (after b es) now
   rates_after b [] rate counted are h = (rate, are)
   rates_after b (e ∷ es) rate counted are h =
       rates_after (exchanged b e.p e.q) es (exchanged_rate h.0.rate e.p e.q) (length-exchanged a b counted e.p e.q h.0.leaves h.0.enters)

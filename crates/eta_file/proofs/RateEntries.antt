@@ -32,7 +32,8 @@ module _ (w : Basics) (d : Vector) where
   sum_absent first (suc n) i below = at (is_entry w d first) (sum_absent (suc first) n i (omega arith))
     where
       at : (keeps : Bool) → sum_rate (entries_from (suc first) n) i ≡ zero_ℚ
-          → sum_rate (map (entry_of d) (cond keeps (first ∷ filter (is_entry w d) (numbers_from (suc first) n)) (filter (is_entry w d) (numbers_from (suc first) n)))) i ≡ zero_ℚ
+          → sum_rate (map (entry_of d)
+          (cond keeps (first ∷ filter (is_entry w d) (numbers_from (suc first) n)) (filter (is_entry w d) (numbers_from (suc first) n)))) i ≡ zero_ℚ
       at true h =
           let other : nat_eq first i ≡ false = grind arith in
           ap (λ t. cond t (d first) zero_ℚ +ℚ sum_rate (entries_from (suc first) n) i) other ∙ zero-add (sum_rate (entries_from (suc first) n) i) ∙ h
@@ -43,7 +44,9 @@ module _ (w : Basics) (d : Vector) where
   sum_present first (suc n) i low high = split (ℕ_discrete first i) (λ more. sum_present (suc first) n i more (omega arith))
     where
       here : (mark none : Bool) → is_in w first ≡ mark → eq_ℚ (d first) zero_ℚ ≡ none
-          → sum_rate (map (entry_of d) (cond (mark && not none) (first ∷ filter (is_entry w d) (numbers_from (suc first) n)) (filter (is_entry w d) (numbers_from (suc first) n)))) first ≡ cond mark (d first) zero_ℚ
+          → sum_rate (map (entry_of d)
+          (cond (mark && not none) (first ∷ filter (is_entry w d) (numbers_from (suc first) n))
+          (filter (is_entry w d) (numbers_from (suc first) n)))) first ≡ cond mark (d first) zero_ℚ
       here true false is_mark is_none =
           let own : nat_eq first first ≡ true = grind arith in
           ap (λ t. cond t (d first) zero_ℚ +ℚ sum_rate (entries_from (suc first) n) first) own
@@ -52,15 +55,19 @@ module _ (w : Basics) (d : Vector) where
       here false none is_mark is_none = sum_absent (suc first) n first (omega arith)
 
       past : (keeps : Bool) → first ≢ i → sum_rate (entries_from (suc first) n) i ≡ cond (is_in w i) (d i) zero_ℚ
-          → sum_rate (map (entry_of d) (cond keeps (first ∷ filter (is_entry w d) (numbers_from (suc first) n)) (filter (is_entry w d) (numbers_from (suc first) n)))) i ≡ cond (is_in w i) (d i) zero_ℚ
+          → sum_rate (map (entry_of d)
+          (cond keeps (first ∷ filter (is_entry w d) (numbers_from (suc first) n)) (filter (is_entry w d) (numbers_from (suc first) n)))) i ≡ cond
+          (is_in w i) (d i) zero_ℚ
       past true apart h =
           let other : nat_eq first i ≡ false = grind (arith, apart) in
           ap (λ t. cond t (d first) zero_ℚ +ℚ sum_rate (entries_from (suc first) n) i) other ∙ zero-add (sum_rate (entries_from (suc first) n) i) ∙ h
       past false apart h = h
 
-      split : Dec (first ≡ i) → (first < i → sum_rate (entries_from (suc first) n) i ≡ cond (is_in w i) (d i) zero_ℚ) → sum_rate (entries_from first (suc n)) i ≡ cond (is_in w i) (d i) zero_ℚ
+      split : Dec (first ≡ i) → (first < i → sum_rate (entries_from (suc first) n) i ≡ cond (is_in w i) (d i) zero_ℚ) →
+          sum_rate (entries_from first (suc n)) i ≡ cond (is_in w i) (d i) zero_ℚ
       split (yes same) rest =
-          ap (sum_rate (entries_from first (suc n))) (sym same) ∙ here (is_in w first) (eq_ℚ (d first) zero_ℚ) refl refl ∙ ap (λ k. cond (is_in w k) (d k) zero_ℚ) same
+          ap (sum_rate (entries_from first (suc n))) (sym same) ∙ here (is_in w first) (eq_ℚ (d first) zero_ℚ) refl refl
+          ∙ ap (λ k. cond (is_in w k) (d k) zero_ℚ) same
       split (no apart) rest = past (is_entry w d first) apart (rest (omega (arith, low, apart)))
 
   one_of : (first n place : ℕ) (e : EtaEntry) → place < length (entries_from first n) → IsOne w d first n (get_or (entries_from first n) place e)
@@ -74,21 +81,33 @@ module _ (w : Basics) (d : Vector) where
       kept true none h = refl
       kept false none h = h
 
-      at : (keeps : Bool) → is_entry w d first ≡ keeps → (k : ℕ) → k < length (map (entry_of d) (cond keeps (first ∷ filter (is_entry w d) (numbers_from (suc first) n)) (filter (is_entry w d) (numbers_from (suc first) n))))
+      at : (keeps : Bool) → is_entry w d first ≡ keeps → (k : ℕ)
+          → k < length
+          (map (entry_of d) (cond keeps (first ∷ filter (is_entry w d) (numbers_from (suc first) n)) (filter (is_entry w d) (numbers_from (suc first) n))))
           → ((k : ℕ) → k < length (entries_from (suc first) n) → IsOne w d (suc first) n (get_or (entries_from (suc first) n) k e))
-          → IsOne w d first (suc n) (get_or (map (entry_of d) (cond keeps (first ∷ filter (is_entry w d) (numbers_from (suc first) n)) (filter (is_entry w d) (numbers_from (suc first) n)))) k e)
+          → IsOne w d first (suc n)
+          (get_or (map (entry_of d)
+          (cond keeps (first ∷ filter (is_entry w d) (numbers_from (suc first) n)) (filter (is_entry w d) (numbers_from (suc first) n)))) k e)
       at true is zero less rest = record { low = omega arith; high = omega arith; basic = kept (is_in w first) (eq_ℚ (d first) zero_ℚ) is; is_rate = refl }
       at true is (suc k) less rest = wider (get_or (entries_from (suc first) n) k e) (rest k (omega arith))
       at false is k less rest = wider (get_or (entries_from (suc first) n) k e) (rest k less)
 
-  apart_from : (first n place : ℕ) (e : EtaEntry) → place < length (entries_from first n) → sum_rate (take place (entries_from first n)) (get_or (entries_from first n) place e).i ≡ zero_ℚ
+  apart_from : (first n place : ℕ) (e : EtaEntry) → place < length (entries_from first n) →
+      sum_rate (take place (entries_from first n)) (get_or (entries_from first n) place e).i ≡ zero_ℚ
   apart_from first zero place e below = absurd (omega arith)
-  apart_from first (suc n) place e below = at (is_entry w d first) place below (λ k less. apart_from (suc first) n k e less) (λ k less. (one_of (suc first) n k e less).low)
+  apart_from first (suc n) place e below =
+      at (is_entry w d first) place below (λ k less. apart_from (suc first) n k e less) (λ k less. (one_of (suc first) n k e less).low)
     where
-      at : (keeps : Bool) (k : ℕ) → k < length (map (entry_of d) (cond keeps (first ∷ filter (is_entry w d) (numbers_from (suc first) n)) (filter (is_entry w d) (numbers_from (suc first) n))))
-          → ((k : ℕ) → k < length (entries_from (suc first) n) → sum_rate (take k (entries_from (suc first) n)) (get_or (entries_from (suc first) n) k e).i ≡ zero_ℚ)
+      at : (keeps : Bool) (k : ℕ)
+          → k < length
+          (map (entry_of d) (cond keeps (first ∷ filter (is_entry w d) (numbers_from (suc first) n)) (filter (is_entry w d) (numbers_from (suc first) n))))
+          → ((k : ℕ) → k < length (entries_from (suc first) n)
+          → sum_rate (take k (entries_from (suc first) n)) (get_or (entries_from (suc first) n) k e).i ≡ zero_ℚ)
           → ((k : ℕ) → k < length (entries_from (suc first) n) → suc first ≤ (get_or (entries_from (suc first) n) k e).i)
-          → let es = map (entry_of d) (cond keeps (first ∷ filter (is_entry w d) (numbers_from (suc first) n)) (filter (is_entry w d) (numbers_from (suc first) n))) in sum_rate (take k es) (get_or es k e).i ≡ zero_ℚ
+          → let es =
+          map (entry_of d)
+          (cond keeps (first ∷ filter (is_entry w d) (numbers_from (suc first) n)) (filter (is_entry w d) (numbers_from (suc first) n))) in sum_rate
+          (take k es) (get_or es k e).i ≡ zero_ℚ
       at true zero less rest above = refl
       at true (suc k) less rest above =
           let i = (get_or (entries_from (suc first) n) k e).i in
@@ -123,7 +142,8 @@ pub others_less : (p : ℕ) (es : List EtaEntry) → sum_rate es p ≢ zero_ℚ 
 others_less p [] h = absurd (h refl)
 others_less p (e ∷ es) h = at (nat_eq e.i p) h (λ more. others_less p es more)
   where
-    at : (same : Bool) → cond same e.rate zero_ℚ +ℚ sum_rate es p ≢ zero_ℚ → (sum_rate es p ≢ zero_ℚ → others p es + 1 ≤ length es) → cond same (others p es) (1 + others p es) + 1 ≤ suc (length es)
+    at : (same : Bool) → cond same e.rate zero_ℚ +ℚ sum_rate es p ≢ zero_ℚ → (sum_rate es p ≢ zero_ℚ → others p es + 1 ≤ length es) →
+        cond same (others p es) (1 + others p es) + 1 ≤ suc (length es)
     at true apart rest = let few = others_le p es in omega (arith, few)
     at false apart rest = let few = rest (λ none. apart (zero-add (sum_rate es p) ∙ none)) in omega (arith, few)
 
@@ -143,7 +163,8 @@ length_from w d first zero = omega arith
 length_from w d first (suc n) = at (is_entry w d first) (length_from w d (suc first) n)
   where
     at : (keeps : Bool) → length (entries_from w d (suc first) n) ≤ n
-        → length (map (entry_of d) (cond keeps (first ∷ filter (is_entry w d) (numbers_from (suc first) n)) (filter (is_entry w d) (numbers_from (suc first) n)))) ≤ suc n
+        → length (map (entry_of d)
+        (cond keeps (first ∷ filter (is_entry w d) (numbers_from (suc first) n)) (filter (is_entry w d) (numbers_from (suc first) n)))) ≤ suc n
     at true h = omega (arith, h)
     at false h = omega (arith, h)
 
@@ -172,11 +193,14 @@ filter_both p q (k ∷ ks) = at (p k) (filter_both p q ks)
     at true h = ap (λ rest. cond (q k) (k ∷ rest) rest) h
     at false h = h
 
-pub listed_entries : (b : Basics) (d : Vector) (ks : List ℕ) → ks ≡ filter (is_in b) (numbers_from 1 (length b)) → map (entry_of d) (filter (has_number d) ks) ≡ entries_to b d (length b)
-listed_entries b d ks is = ap (λ xs. map (entry_of d) (filter (has_number d) xs)) is ∙ ap (map (entry_of d)) (filter_both (is_in b) (has_number d) (numbers_from 1 (length b)))
+pub listed_entries : (b : Basics) (d : Vector) (ks : List ℕ) → ks ≡ filter (is_in b) (numbers_from 1 (length b)) →
+    map (entry_of d) (filter (has_number d) ks) ≡ entries_to b d (length b)
+listed_entries b d ks is =
+    ap (λ xs. map (entry_of d) (filter (has_number d) xs)) is ∙ ap (map (entry_of d)) (filter_both (is_in b) (has_number d) (numbers_from 1 (length b)))
 
 -- one variable of the list more
-module _ (d : Vector) (ks : List ℕ) (n : ℕ) (below : n < length ks) (so_far : List EtaEntry) (is : so_far ≡ map (entry_of d) (filter (has_number d) (take n ks))) where
+module _ (d : Vector) (ks : List ℕ) (n : ℕ) (below : n < length ks) (so_far : List EtaEntry)
+    (is : so_far ≡ map (entry_of d) (filter (has_number d) (take n ks))) where
   abbrev variable : ℕ
   variable = get_or ks n 0
 
@@ -192,12 +216,15 @@ module _ (d : Vector) (ks : List ℕ) (n : ℕ) (below : n < length ks) (so_far 
       ap (λ (v : ℚ). so_far ++ (record { i = variable; rate = v } ∷ [])) at_x
       ∙ sym (next_listed ∙ ap (λ t. so_far ++ map (entry_of d) (cond (not t) (variable ∷ []) [])) (ap (λ v. eq_ℚ v zero_ℚ) (sym at_x) ∙ sym tested ∙ some))
 
-  pub entry_else : (x : ℚ) (none : Bool) → x ≡ d variable → none ≡ eq_ℚ x zero_ℚ → none ≡ true → so_far ≡ map (entry_of d) (filter (has_number d) (take (n + 1) ks))
+  pub entry_else : (x : ℚ) (none : Bool) → x ≡ d variable → none ≡ eq_ℚ x zero_ℚ → none ≡ true →
+      so_far ≡ map (entry_of d) (filter (has_number d) (take (n + 1) ks))
   entry_else x none at_x tested no_number =
-      sym (next_listed ∙ ap (λ t. so_far ++ map (entry_of d) (cond (not t) (variable ∷ []) [])) (ap (λ v. eq_ℚ v zero_ℚ) (sym at_x) ∙ sym tested ∙ no_number) ∙ append-nil so_far)
+      sym (next_listed ∙ ap (λ t. so_far ++ map (entry_of d) (cond (not t) (variable ∷ []) [])) (ap (λ v. eq_ℚ v zero_ℚ) (sym at_x) ∙ sym tested ∙ no_number)
+      ∙ append-nil so_far)
 
 -- the same of a list without one variable
-module _ (d : Vector) (q : ℕ) (ks : List ℕ) (n : ℕ) (below : n < length ks) (so_far : List EtaEntry) (is : so_far ≡ map (entry_of d) (filter (λ k. not (nat_eq k q)) (take n ks))) where
+module _ (d : Vector) (q : ℕ) (ks : List ℕ) (n : ℕ) (below : n < length ks) (so_far : List EtaEntry)
+    (is : so_far ≡ map (entry_of d) (filter (λ k. not (nat_eq k q)) (take n ks))) where
   abbrev next : ℕ
   next = get_or ks n 0
 
@@ -207,7 +234,8 @@ module _ (d : Vector) (q : ℕ) (ks : List ℕ) (n : ℕ) (below : n < length ks
       ∙ map-append (entry_of d) (filter (λ k. not (nat_eq k q)) (take n ks)) (cond (not (nat_eq next q)) (next ∷ []) [])
       ∙ ap (λ xs. xs ++ map (entry_of d) (cond (not (nat_eq next q)) (next ∷ []) [])) (sym is)
 
-  pub other_then : (x : ℚ) → x ≡ d next → next ≢ q → so_far ++ (record { i = next; rate = x } ∷ []) ≡ map (entry_of d) (filter (λ k. not (nat_eq k q)) (take (n + 1) ks))
+  pub other_then : (x : ℚ) → x ≡ d next → next ≢ q →
+      so_far ++ (record { i = next; rate = x } ∷ []) ≡ map (entry_of d) (filter (λ k. not (nat_eq k q)) (take (n + 1) ks))
   other_then x at_x apart =
       let other : nat_eq next q ≡ false = grind (arith, apart) in
       ap (λ (v : ℚ). so_far ++ (record { i = next; rate = v } ∷ [])) at_x

@@ -20,7 +20,8 @@ use Rattle.eta_file.proofs.RateEntries.{IsOne, rate_entry, rate_entries_apart}
 use Rattle.eta_file.proofs.PrefixLaws.{after-take_next, length-prefixes, prefixes-at, eta_at, Passed-take, eta_nonsingular, nonsingular_after, prefix_within}
 use Rattle.eta_file.proofs.Directions.{old_is, ratio_is}
 
-module _ (a : Matrix) (r : Basics) (one : IsNonsingular a r) (etas : List StoredEta) (passed : Passed a r etas) (k : ℕ) (d : StoredEta) (below : k < length etas) (e : Evidence) where
+module _ (a : Matrix) (r : Basics) (one : IsNonsingular a r) (etas : List StoredEta) (passed : Passed a r etas) (k : ℕ) (d : StoredEta)
+    (below : k < length etas) (e : Evidence) where
   abbrev b : Basics
   b = after r etas
 
@@ -54,20 +55,25 @@ module _ (a : Matrix) (r : Basics) (one : IsNonsingular a r) (etas : List Stored
     is_waypoint = sym (ap (waypoint b ways) (h.is_way ∙ add-one k) ∙ prefixes-at r etas k b (omega (arith, below)));
     nonsingular = w_one;
     are_rates = is.are_rates;
-    reaches = subst (λ x. IsWaypoint a (b ∷ ways) (exchanged w x e.q)) (sym h.names.is_p) (subst (λ y. IsWaypoint a (b ∷ ways) (exchanged w eta.p y)) (sym h.names.is_q) reach);
+    reaches =
+        subst (λ x. IsWaypoint a (b ∷ ways) (exchanged w x e.q)) (sym h.names.is_p)
+        (subst (λ y. IsWaypoint a (b ∷ ways) (exchanged w eta.p y)) (sym h.names.is_q) reach);
     no_theta = h.no_theta;
   }
 
-  refused_by : (formula i j : ℕ) (op : Op) (left right : ℚ) → IsRefusal (k + 1) formula eta.p eta.q i j op left right e → ExchangeFormula a w is.rate e → ExchangeRefused a (b ∷ ways) b ways e
+  refused_by : (formula i j : ℕ) (op : Op) (left right : ℚ) → IsRefusal (k + 1) formula eta.p eta.q i j op left right e → ExchangeFormula a w is.rate e →
+      ExchangeRefused a (b ∷ ways) b ways e
   refused_by formula i j op left right h named = record { way = w; rate = is.rate; at = way formula i j op left right h; formula = named }
 
   -- an entry is at a basic, and has its rate
-  one_entry : (place : ℕ) (x : EtaEntry) → place < length eta.entries.items → ((y : EtaEntry) → get_or eta.entries.items place y ≡ x) → IsOne w (λ i. is.rate i eta.q) 1 (size a) x
+  one_entry : (place : ℕ) (x : EtaEntry) → place < length eta.entries.items → ((y : EtaEntry) → get_or eta.entries.items place y ≡ x) →
+      IsOne w (λ i. is.rate i eta.q) 1 (size a) x
   one_entry place x within is_x =
       subst (λ (y : EtaEntry). IsOne w (λ i. is.rate i eta.q) 1 (size a) y) (ap (λ es. get_or es place x) (sym is.are_entries) ∙ is_x x)
       (rate_entry a w (λ i. is.rate i eta.q) place x (subst (λ es. place < length es) is.are_entries within))
 
-  none_before : (place : ℕ) (x : EtaEntry) → place < length eta.entries.items → ((y : EtaEntry) → get_or eta.entries.items place y ≡ x) → sum_rate (take place eta.entries.items) x.i ≡ zero_ℚ
+  none_before : (place : ℕ) (x : EtaEntry) → place < length eta.entries.items → ((y : EtaEntry) → get_or eta.entries.items place y ≡ x) →
+      sum_rate (take place eta.entries.items) x.i ≡ zero_ℚ
   none_before place x within is_x =
       ap (λ (y : EtaEntry). sum_rate (take place eta.entries.items) y.i) (sym (is_x x))
       ∙ ap (λ es. sum_rate (take place es) (get_or es place x).i) is.are_entries
@@ -76,7 +82,8 @@ module _ (a : Matrix) (r : Basics) (one : IsNonsingular a r) (etas : List Stored
   basic_of : (x : EtaEntry) → IsOne w (λ i. is.rate i eta.q) 1 (size a) x → IsBasic a w x.i
   basic_of x h = ((h.low, omega (arith, h.high)), h.basic)
 
-  module _ (j : ℕ) (before : IsNonbasic a w j) (then : IsNonbasic a (exchanged w eta.p eta.q) j) (apart_p : j ≢ eta.p) (apart_q : j ≢ eta.q) (old : List ℚ) (counted : length old ≡ size a) (direction : IsDirectionOf a w j (value_at old)) where
+  module _ (j : ℕ) (before : IsNonbasic a w j) (then : IsNonbasic a (exchanged w eta.p eta.q) j) (apart_p : j ≢ eta.p) (apart_q : j ≢ eta.q) (old : List ℚ)
+      (counted : length old ≡ size a) (direction : IsDirectionOf a w j (value_at old)) where
     at_old : (i : ℕ) → IsVariable a i → value_at old i ≡ is.rate i j
     at_old = old_is a w w_one eta is j before then apart_p apart_q old counted direction
 
@@ -88,11 +95,13 @@ module _ (a : Matrix) (r : Basics) (one : IsNonsingular a r) (etas : List Stored
     rest_refused x h stays left at_left (by_product refusal) =
         refused_by 2 x.i j Mul (value_at old eta.p /ℚ eta.pivot) x.rate refusal
         (f2 eta.p eta.q x.i j refusal.names exchange (basic_of x h) stays before
-        (refuses_at e Mul (value_at old eta.p /ℚ eta.pivot) x.rate (is.rate eta.p j /ℚ is.rate eta.p eta.q) (is.rate x.i eta.q) at_ratio h.is_rate refusal.refuses))
+        (refuses_at e Mul (value_at old eta.p /ℚ eta.pivot) x.rate (is.rate eta.p j /ℚ is.rate eta.p eta.q)
+        (is.rate x.i eta.q) at_ratio h.is_rate refusal.refuses))
     rest_refused x h stays left at_left (by_difference refusal) =
         refused_by 3 x.i j Sub left ((value_at old eta.p /ℚ eta.pivot) *ℚ x.rate) refusal
         (f3 eta.p eta.q x.i j refusal.names exchange (basic_of x h) stays before
-        (refuses_at e Sub left ((value_at old eta.p /ℚ eta.pivot) *ℚ x.rate) (is.rate x.i j) ((is.rate eta.p j /ℚ is.rate eta.p eta.q) *ℚ is.rate x.i eta.q) at_left
+        (refuses_at e Sub left ((value_at old eta.p /ℚ eta.pivot) *ℚ x.rate) (is.rate x.i j)
+        ((is.rate eta.p j /ℚ is.rate eta.p eta.q) *ℚ is.rate x.i eta.q) at_left
         (ap₂ (λ u v. u *ℚ v) at_ratio h.is_rate) refusal.refuses))
 
     pub transform_refused : TransformRefused eta (k + 1) j old e → ExchangeRefused a (b ∷ ways) b ways e
@@ -116,4 +125,5 @@ module _ (a : Matrix) (r : Basics) (one : IsNonsingular a r) (etas : List Stored
       let x : IsOne w (λ i. is.rate i eta.q) 1 (size a) h.entry = one_entry h.place h.entry h.within h.is_entry in
       refused_by 5 h.entry.i 0 Mul (one_ℚ /ℚ eta.pivot) h.entry.rate h.refused
       (f5 eta.p eta.q h.entry.i h.refused.names exchange (basic_of h.entry x) h.stays
-      (refuses_at e Mul (one_ℚ /ℚ eta.pivot) h.entry.rate (one_ℚ /ℚ is.rate eta.p eta.q) (is.rate h.entry.i eta.q) (ap (λ v. one_ℚ /ℚ v) is.is_pivot) x.is_rate h.refused.refuses))
+      (refuses_at e Mul (one_ℚ /ℚ eta.pivot) h.entry.rate (one_ℚ /ℚ is.rate eta.p eta.q) (is.rate h.entry.i eta.q)
+      (ap (λ v. one_ℚ /ℚ v) is.is_pivot) x.is_rate h.refused.refuses))

@@ -74,7 +74,8 @@ module _ (eta : StoredEta) (w : WholeEta) (h : IsWholeOf eta.pivot eta.entries.i
   multiple_is =
       ap (λ x. x *ℚ w.scale) (is_multiple ∙ ap (λ x. x *ℚ by) (is_ratio ∙ ap (λ x. value_at mid eta.p /ℚ x) h.is_pivot))
       ∙ by_ring3 (value_at mid eta.p /ℚ (eta.pivot *ℚ w.scale)) by w.scale (λ r b s. (r ⊗ b) ⊗ s ≐ (r ⊗ s) ⊗ b) refl
-      ∙ ap (λ x. x *ℚ by) (quotient_scaled (value_at mid eta.p) eta.pivot w.scale some h.apart ∙ sym (div-mul_cancel (value_at mid eta.p /ℚ eta.pivot) e same.apart))
+      ∙ ap (λ x. x *ℚ by)
+      (quotient_scaled (value_at mid eta.p) eta.pivot w.scale some h.apart ∙ sym (div-mul_cancel (value_at mid eta.p /ℚ eta.pivot) e same.apart))
       ∙ by_ring3 (value_at mid eta.p /ℚ eta.pivot /ℚ e) e by (λ x e b. x ⊗ e ⊗ b ≐ x ⊗ (e ⊗ b)) refl
       ∙ ap (λ x. x *ℚ last) (by_ring3 (value_at mid eta.p) (inverse_ℚ eta.pivot) (inverse_ℚ e) (λ m i j. (m ⊗ i) ⊗ j ≐ (m ⊗ j) ⊗ i) refl)
       ∙ ap (λ x. x /ℚ eta.pivot *ℚ last) (sym (old_is eta.p))
@@ -110,20 +111,24 @@ module _ (eta : StoredEta) (w : WholeEta) (h : IsWholeOf eta.pivot eta.entries.i
     holds = changed
         (value_at-quotients last new eta.p ∙ ap (λ x. x /ℚ last) exchanged.at_p ∙ at_leaver (nat_eq eta.p eta.q))
         (value_at-quotients last new eta.q ∙ ap (λ x. x /ℚ last) exchanged.at_q ∙ opposite_over)
-        (λ k low_k high other also. at_other k (exchanged.each k low_k (let same_length = length-quotients d old in omega (arith, high, same_length, counted)) other also));
+        (λ k low_k high other also. at_other k
+        (exchanged.each k low_k (let same_length = length-quotients d old in omega (arith, high, same_length, counted)) other also));
   })
 
 -- ---- where it begins
 
-pub begun : (c : List Entry) (j : ℕ) (d v : ℚ) (low new : List ℚ) → d ≢ zero_ℚ → 1 ≤ j → j ≤ length low → v ≡ d → ((k : ℕ) → 1 ≤ k → value_at low k ≡ on_row c k *ℚ d)
+pub begun : (c : List Entry) (j : ℕ) (d v : ℚ) (low new : List ℚ) → d ≢ zero_ℚ → 1 ≤ j → j ≤ length low → v ≡ d
+    → ((k : ℕ) → 1 ≤ k → value_at low k ≡ on_row c k *ℚ d)
     → new ≡ set low (j - 1) v → Represent (IsColumnFilled c j) d new
 begun c j d v low new apart some within is_v rows is_new = record {
   apart = apart;
   holds = record {
-    own = value_at-quotients d new j ∙ ap (λ x. x /ℚ d) (ap (λ xs. value_at xs j) is_new ∙ written_same low j j v some within refl ∙ is_v) ∙ mul-inverse d apart;
+    own =
+        value_at-quotients d new j ∙ ap (λ x. x /ℚ d) (ap (λ xs. value_at xs j) is_new ∙ written_same low j j v some within refl ∙ is_v) ∙ mul-inverse d apart;
     rows = λ k low_k other.
         value_at-quotients d new k
-        ∙ div_is (value_at new k) d (on_row c k) apart (ap (λ xs. value_at xs k) is_new ∙ written_other low j k v some low_k (λ e. other (sym e)) ∙ rows k low_k);
+        ∙ div_is (value_at new k) d (on_row c k) apart
+        (ap (λ xs. value_at xs k) is_new ∙ written_other low j k v some low_k (λ e. other (sym e)) ∙ rows k low_k);
   };
 }
 
@@ -136,8 +141,10 @@ module _ (eta : StoredEta) (w : WholeEta) (h : IsWholeOf eta.pivot eta.entries.i
       ap (λ y. (x *ℚ w.scale) /ℚ y) h.is_pivot ∙ same_factor x eta.pivot w.scale some_pivot h.apart
       ∙ by_ring2 x (inverse_ℚ eta.pivot) (λ x i. x ⊗ i ≐ i ⊗ x) refl ∙ ap (λ i. i *ℚ x) (sym (one-mul (inverse_ℚ eta.pivot)))
 
-  pub left_whole : (placed : List ℚ) → 1 ≤ eta.p → eta.p ≤ length placed → 1 ≤ eta.q → eta.q ≤ length placed → (low : List ℚ) → low ≡ set placed (eta.p - 1) w.pivot
-      → (new : List ℚ) → new ≡ set low (eta.q - 1) w.scale → length low ≡ length placed → length new ≡ length placed → IsScaled eta.p one_ℚ w.entries.items placed → Represent (IsLeaving eta) w.pivot new
+  pub left_whole : (placed : List ℚ) → 1 ≤ eta.p → eta.p ≤ length placed → 1 ≤ eta.q → eta.q ≤ length placed → (low : List ℚ)
+      → low ≡ set placed (eta.p - 1) w.pivot
+      → (new : List ℚ) → new ≡ set low (eta.q - 1) w.scale → length low ≡ length placed → length new ≡ length placed
+      → IsScaled eta.p one_ℚ w.entries.items placed → Represent (IsLeaving eta) w.pivot new
   left_whole placed p_low p_high q_low q_high low is_low new is_new low_counted counted scaled_by = record {
     apart = pivot_apart;
     holds = record {
@@ -149,7 +156,9 @@ module _ (eta : StoredEta) (w : WholeEta) (h : IsWholeOf eta.pivot eta.entries.i
           ∙ mul-inverse w.pivot pivot_apart;
       entering_variable =
           value_at-quotients w.pivot new eta.q
-          ∙ ap (λ x. x /ℚ w.pivot) (ap (λ xs. value_at xs eta.q) is_new ∙ written_same low eta.q eta.q w.scale q_low (omega (arith, q_high, low_counted)) refl ∙ sym (one-mul w.scale))
+          ∙ ap (λ x. x /ℚ w.pivot)
+          (ap (λ xs. value_at xs eta.q) is_new ∙ written_same low eta.q eta.q w.scale q_low (omega (arith, q_high, low_counted)) refl
+          ∙ sym (one-mul w.scale))
           ∙ over_pivot one_ℚ ∙ mul-one (one_ℚ /ℚ eta.pivot);
       each = λ k low_k high other also.
           let same_length = length-quotients w.pivot new in
@@ -157,7 +166,8 @@ module _ (eta : StoredEta) (w : WholeEta) (h : IsWholeOf eta.pivot eta.entries.i
           ∙ ap (λ x. x /ℚ w.pivot)
           (ap (λ xs. value_at xs k) is_new ∙ written_other low eta.q k w.scale q_low low_k (λ e. also (sym e))
           ∙ ap (λ xs. value_at xs k) is_low ∙ written_other placed eta.p k w.pivot p_low low_k (λ e. other (sym e))
-          ∙ scaled_by.each k low_k (omega (arith, high, same_length, counted)) other ∙ one-mul (sum_rate w.entries.items k) ∙ whole_sum eta.pivot eta.entries.items w h k)
+          ∙ scaled_by.each k low_k (omega (arith, high, same_length, counted)) other ∙ one-mul (sum_rate w.entries.items k)
+          ∙ whole_sum eta.pivot eta.entries.items w h k)
           ∙ over_pivot (sum_rate eta.entries.items k);
     };
   }
@@ -195,7 +205,10 @@ exchanged_by p q c w old mid u v p_low p_high q_low q_high counted h is_u is_v =
 
 -- nothing is taken where the leaver's number is 0
 pub untouched_whole : (eta : StoredEta) (d : ℚ) (xs : List ℚ) → d ≢ zero_ℚ → value_at xs eta.p ≡ zero_ℚ → Represent (IsTransformed eta (quotients d xs)) d xs
-untouched_whole eta d xs apart none = record { apart = apart; holds = untouched (value_at-quotients d xs eta.p ∙ ap (λ x. x /ℚ d) none ∙ zero-mul (inverse_ℚ d)) refl }
+untouched_whole eta d xs apart none =
+    record { apart = apart; holds = untouched (value_at-quotients d xs eta.p ∙ ap (λ x. x /ℚ d) none ∙ zero-mul (inverse_ℚ d)) refl }
 
 pub minus_one_apart : whole (negsuc 0) ≢ zero_ℚ
-minus_one_apart e = one_apart (by_ring1 zero_ℚ (λ x. number (pos 1) ≐ number (negsuc 0) ⊗ number (negsuc 0)) refl ∙ ap (λ u. u *ℚ whole (negsuc 0)) e ∙ zero-mul (whole (negsuc 0)))
+minus_one_apart e =
+    one_apart (by_ring1 zero_ℚ (λ x. number (pos 1) ≐ number (negsuc 0) ⊗ number (negsuc 0)) refl ∙ ap (λ u. u *ℚ whole (negsuc 0)) e
+    ∙ zero-mul (whole (negsuc 0)))

@@ -33,7 +33,8 @@ pub data IsTransformed (eta : StoredEta) (old new : List ℚ) : Type 0 where
   untouched : value_at old eta.p ≡ zero_ℚ → new ≡ old → IsTransformed eta old new
   changed : value_at new eta.p ≡ (if nat_eq eta.p eta.q then neg_ℚ (value_at old eta.p /ℚ eta.pivot) else zero_ℚ) →
       value_at new eta.q ≡ neg_ℚ (value_at old eta.p /ℚ eta.pivot) →
-      ((k : ℕ) → 1 ≤ k → k ≤ length old → k ≢ eta.p → k ≢ eta.q → value_at new k ≡ value_at old k -ℚ (value_at old eta.p /ℚ eta.pivot) *ℚ sum_rate eta.entries.items k) →
+      ((k : ℕ) → 1 ≤ k → k ≤ length old → k ≢ eta.p → k ≢ eta.q →
+      value_at new k ≡ value_at old k -ℚ (value_at old eta.p /ℚ eta.pivot) *ℚ sum_rate eta.entries.items k) →
       IsTransformed eta old new
 
 pub record IsExchanged (p q : ℕ) (c : ℚ) (w : WholeEta) (old new : List ℚ) : Type 0 where

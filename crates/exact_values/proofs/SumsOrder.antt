@@ -62,7 +62,8 @@ below_somewhere (suc n) f g h = by_case (below_somewhere n f g) (lt_or_le (f n) 
     earlier : SomeBelow n f g → SomeBelow (suc n) f g
     earlier s = record { place = s.place; within = (let h = s.within in omega arith); below = s.below }
 
-    by_case : (sum_to n f <ℚ sum_to n g → SomeBelow n f g) → (f n <ℚ g n) ⊎ (g n ≤ℚ f n) → (sum_to n f <ℚ sum_to n g) ⊎ (sum_to n g ≤ℚ sum_to n f) → SomeBelow (suc n) f g
+    by_case : (sum_to n f <ℚ sum_to n g → SomeBelow n f g) → (f n <ℚ g n) ⊎ (g n ≤ℚ f n) → (sum_to n f <ℚ sum_to n g) ⊎ (sum_to n g ≤ℚ sum_to n f) →
+        SomeBelow (suc n) f g
     by_case before (inl last) rest = record { place = n; within = omega arith; below = last }
     by_case before (inr last) (inl rest) = earlier (before rest)
     by_case before (inr last) (inr rest) = absurd (lt_not_le h (add-le-add rest last))
@@ -124,7 +125,8 @@ module _ (test : ℕ → Bool) where
 -- ---- sums of products in two indices
 
 -- the sum over i of x i times the sum over j of a i j times y j, taken the other way round
-pub sum_to-bilinear : (m n : ℕ) (x y : ℕ → ℚ) (a : ℕ → ℕ → ℚ) → sum_to m (λ i. x i *ℚ sum_to n (λ j. a i j *ℚ y j)) ≡ sum_to n (λ j. sum_to m (λ i. x i *ℚ a i j) *ℚ y j)
+pub sum_to-bilinear : (m n : ℕ) (x y : ℕ → ℚ) (a : ℕ → ℕ → ℚ) →
+    sum_to m (λ i. x i *ℚ sum_to n (λ j. a i j *ℚ y j)) ≡ sum_to n (λ j. sum_to m (λ i. x i *ℚ a i j) *ℚ y j)
 sum_to-bilinear m n x y a =
     sum_to-same m _ _ (λ i h. sym (sum_to-mul_left n (x i) (λ j. a i j *ℚ y j)))
     ∙ sum_to-exchange m n (λ i j. x i *ℚ (a i j *ℚ y j))
@@ -142,7 +144,8 @@ sum_over-zero (k ∷ ks) f none = ap₂ ◌+ℚ◌ (none 0 0 (omega arith)) (sum
 pub sum_over-neg : (ks : List ℕ) (f : ℕ → ℚ) → sum_over ks (λ k. neg_ℚ (f k)) ≡ neg_ℚ (sum_over ks f)
 unfolding sum_over
 sum_over-neg [] f = by_ring1 zero_ℚ (λ z. number (pos 0) ≐ opposite (number (pos 0))) refl
-sum_over-neg (k ∷ ks) f = ap (λ s. neg_ℚ (f k) +ℚ s) (sum_over-neg ks f) ∙ by_ring2 (f k) (sum_over ks f) (λ a b. opposite a ⊕ opposite b ≐ opposite (a ⊕ b)) refl
+sum_over-neg (k ∷ ks) f =
+    ap (λ s. neg_ℚ (f k) +ℚ s) (sum_over-neg ks f) ∙ by_ring2 (f k) (sum_over ks f) (λ a b. opposite a ⊕ opposite b ≐ opposite (a ⊕ b)) refl
 
 pub sum_over-sub : (ks : List ℕ) (f g : ℕ → ℚ) → sum_over ks (λ k. f k -ℚ g k) ≡ sum_over ks f -ℚ sum_over ks g
 sum_over-sub ks f g = sum_over-add ks f (λ k. neg_ℚ (g k)) ∙ ap (λ s. sum_over ks f +ℚ s) (sum_over-neg ks g)
@@ -150,12 +153,14 @@ sum_over-sub ks f g = sum_over-add ks f (λ k. neg_ℚ (g k)) ∙ ap (λ s. sum_
 pub sum_over-mul_right : (ks : List ℕ) (c : ℚ) (f : ℕ → ℚ) → sum_over ks (λ k. f k *ℚ c) ≡ sum_over ks f *ℚ c
 unfolding sum_over
 sum_over-mul_right [] c f = by_ring1 c (λ c. number (pos 0) ≐ number (pos 0) ⊗ c) refl
-sum_over-mul_right (k ∷ ks) c f = ap (λ s. f k *ℚ c +ℚ s) (sum_over-mul_right ks c f) ∙ by_ring3 c (f k) (sum_over ks f) (λ c a b. a ⊗ c ⊕ b ⊗ c ≐ (a ⊕ b) ⊗ c) refl
+sum_over-mul_right (k ∷ ks) c f =
+    ap (λ s. f k *ℚ c +ℚ s) (sum_over-mul_right ks c f) ∙ by_ring3 c (f k) (sum_over ks f) (λ c a b. a ⊗ c ⊕ b ⊗ c ≐ (a ⊕ b) ⊗ c) refl
 
 pub sum_over-exchange : (ks js : List ℕ) (f : ℕ → ℕ → ℚ) → sum_over ks (λ i. sum_over js (λ j. f i j)) ≡ sum_over js (λ j. sum_over ks (λ i. f i j))
 unfolding sum_over
 sum_over-exchange [] js f = sym (sum_over-zero js (λ j. zero_ℚ) (λ i d below. refl))
-sum_over-exchange (k ∷ ks) js f = ap (λ s. sum_over js (λ j. f k j) +ℚ s) (sum_over-exchange ks js f) ∙ sym (sum_over-add js (λ j. f k j) (λ j. sum_over ks (λ i. f i j)))
+sum_over-exchange (k ∷ ks) js f =
+    ap (λ s. sum_over js (λ j. f k j) +ℚ s) (sum_over-exchange ks js f) ∙ sym (sum_over-add js (λ j. f k j) (λ j. sum_over ks (λ i. f i j)))
 
 pub sum_over-le : (ks : List ℕ) (f g : ℕ → ℚ) → All (λ k. f k ≤ℚ g k) ks → sum_over ks f ≤ℚ sum_over ks g
 unfolding sum_over

@@ -29,7 +29,8 @@ append_holds (c ∷ cs) ds x = by (append_holds cs ds x)
   where
     by : (AllHold (cs ++ ds) x ↔ (AllHold cs x × AllHold ds x)) → AllHold (c ∷ cs ++ ds) x ↔ (AllHold (c ∷ cs) x × AllHold ds x)
     by rest = (
-      (λ all. let split = rest.0 (All-tail (λ c. Holds c x) c (cs ++ ds) all) in (All-cons (λ c. Holds c x) c cs (All-head (λ c. Holds c x) c (cs ++ ds) all) split.0, split.1)),
+      (λ all. let split = rest.0 (All-tail (λ c. Holds c x) c (cs ++ ds) all) in
+          (All-cons (λ c. Holds c x) c cs (All-head (λ c. Holds c x) c (cs ++ ds) all) split.0, split.1)),
       (λ both. All-cons (λ c. Holds c x) c (cs ++ ds) (All-head (λ c. Holds c x) c cs both.0) (rest.1 (All-tail (λ c. Holds c x) c cs both.0, both.1))),
     )
 
@@ -55,7 +56,8 @@ module _ (sides : ℕ → Sides) (x : ℚ) where
   up_to_hold zero = ((λ all k low high. absurd (omega arith)), (λ _. All-nil (λ c. Holds c x)))
   up_to_hold (suc n) = by (append_holds (conditions_of (sides (suc n))) (conditions_up_to sides n) x) (sides_hold (sides (suc n)) x) (up_to_hold n)
     where
-      by : (AllHold (conditions_of (sides (suc n)) ++ conditions_up_to sides n) x ↔ (AllHold (conditions_of (sides (suc n))) x × AllHold (conditions_up_to sides n) x)) →
+      by : (AllHold (conditions_of (sides (suc n)) ++ conditions_up_to sides n) x ↔
+          (AllHold (conditions_of (sides (suc n))) x × AllHold (conditions_up_to sides n) x)) →
           (AllHold (conditions_of (sides (suc n))) x ↔ SidesHold (sides (suc n)) x) → (AllHold (conditions_up_to sides n) x ↔ HoldUpTo n) →
           AllHold (conditions_of (sides (suc n)) ++ conditions_up_to sides n) x ↔ HoldUpTo (suc n)
       by split own rest = (
@@ -63,7 +65,8 @@ module _ (sides : ℕ → Sides) (x : ℚ) where
         (λ each. split.1 (own.1 (each (suc n) (omega arith) (omega arith)), rest.1 (λ k low high. each k low (omega arith)))),
       )
         where
-          at : SidesHold (sides (suc n)) x → HoldUpTo n → (k : ℕ) → 1 ≤ k → k ≤ suc n → (((eqb k (suc n) ≡ true) × (k ≡ suc n)) ⊎ ((eqb k (suc n) ≡ false) × (k ≢ suc n))) → SidesHold (sides k) x
+          at : SidesHold (sides (suc n)) x → HoldUpTo n → (k : ℕ) → 1 ≤ k → k ≤ suc n →
+              (((eqb k (suc n) ≡ true) × (k ≡ suc n)) ⊎ ((eqb k (suc n) ≡ false) × (k ≢ suc n))) → SidesHold (sides k) x
           at last earlier k low high (inl same) = subst (λ k. SidesHold (sides k) x) (sym same.1) last
           at last earlier k low high (inr other) = earlier k low (let apart = other.1 in omega (arith, apart))
 

@@ -66,7 +66,9 @@ module _ (c : Condition) (cs : List Condition) (from : ℚ) (here : Holds c from
     low = rest.low;
     high = rest.high;
     exact = λ x. (
-      (λ within. both x (holds_by_sides c from x here (λ rises. absurd (lt_irrefl (lt_of_lt_of_le rises most))) (λ falls. absurd (lt_irrefl (lt_of_lt_of_le falls least)))) ((rest.exact x).0 within)),
+      (λ within. both x
+          (holds_by_sides c from x here (λ rises. absurd (lt_irrefl (lt_of_lt_of_le rises most))) (λ falls. absurd (lt_irrefl (lt_of_lt_of_le falls least))))
+          ((rest.exact x).0 within)),
       (λ all. (rest.exact x).1 (tail x all)),
     );
   }

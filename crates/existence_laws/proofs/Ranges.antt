@@ -29,7 +29,8 @@ use Rattle.existence_laws.proofs.Conditions.{conditions_of, conditions_up_to, ap
 -- ---- lists of intervals
 
 -- where each of the numbers has an interval, they have a list of them
-pub listed_intervals : (Claim : ℕ → ℚ → Type 0) (numbers : List ℕ) → All (λ k. HasEnds (Claim k)) numbers → (list : List Interval) × AreIntervals numbers Claim list
+pub listed_intervals : (Claim : ℕ → ℚ → Type 0) (numbers : List ℕ) → All (λ k. HasEnds (Claim k)) numbers →
+    (list : List Interval) × AreIntervals numbers Claim list
 listed_intervals Claim [] ends = ([], record { whole = refl; exact = All-nil (λ (e : Interval). (t : ℚ) → IsBetween e t ↔ Claim e.variable t) })
 listed_intervals Claim (k ∷ numbers) ends =
     with (All-head (λ k. HasEnds (Claim k)) k numbers ends) (listed_intervals Claim numbers (All-tail (λ k. HasEnds (Claim k)) k numbers ends))
@@ -47,7 +48,8 @@ listed_intervals Claim (k ∷ numbers) ends =
 numbers_between : (P : ℕ → Type 0) (first n : ℕ) → ((k : ℕ) → first ≤ k → k < first + n → P k) → All P (numbers_from first n)
 numbers_between P first zero each = All-nil P
 numbers_between P first (suc n) each =
-    All-cons P first (numbers_from (suc first) n) (each first (omega arith) (omega arith)) (numbers_between P (suc first) n (λ k low high. each k (omega (arith, low)) (omega (arith, high))))
+    All-cons P first (numbers_from (suc first) n) (each first (omega arith) (omega arith))
+    (numbers_between P (suc first) n (λ k low high. each k (omega (arith, low)) (omega (arith, high))))
 
 -- of those that pass a test
 passed : (P : ℕ → Type 0) (test : ℕ → Bool) (numbers : List ℕ) → All (λ k. test k ≡ true → P k) numbers → All P (filter test numbers)
@@ -78,7 +80,8 @@ module _ (p : LinearProgram) (s : List Status) (t : Tableau) (present : IsPresen
 
   pub rates_have_ends : (v : Vector) → HasEnds (RatesStay p s (worths p t) v)
   rates_have_ends v =
-      ends_of (RatesStay p s (worths p t) v) (conditions_up_to (rate_sides p s (worths p t) v) (size p.matrix)) (λ x. each_holds (rate_sides p s (worths p t) v) x p.matrix) zero_ℚ (rates_now v)
+      ends_of (RatesStay p s (worths p t) v) (conditions_up_to (rate_sides p s (worths p t) v) (size p.matrix))
+      (λ x. each_holds (rate_sides p s (worths p t) v) x p.matrix) zero_ℚ (rates_now v)
 
   -- ---- rows and costs
 
@@ -117,7 +120,11 @@ module _ (p : LinearProgram) (s : List Status) (t : Tableau) (present : IsPresen
         let split = append_holds (conditions_of (own_sides p s t.point k)) (conditions_up_to (λ i. basic_sides (is_in (basics_of s) i) i) (size p.matrix)) x in
         let own = sides_hold (own_sides p s t.point k) x in
         let each = each_holds (λ i. basic_sides (is_in (basics_of s) i) i) x p.matrix in (
-          (λ all. let both = split.0 all in record { basics = λ i basic. (same_basic i x (is_in (basics_of s) i)).0 (each.0 both.1 i basic.0) basic.1; own = own.0 both.0 }),
+          (λ all. let both = split.0 all in record {
+            basics = λ i basic. (same_basic i x (is_in (basics_of s) i)).0
+                (each.0 both.1 i basic.0) basic.1;
+            own = own.0 both.0;
+          }),
           (λ stay. split.1 (own.1 stay.own, each.1 (λ i is. (same_basic i x (is_in (basics_of s) i)).1 (λ mark. stay.basics i (is, mark))))),
         )
 
@@ -126,8 +133,10 @@ module _ (p : LinearProgram) (s : List Status) (t : Tableau) (present : IsPresen
     unfolding no_sides
     own_now true st low high z above below = (tt, tt)
     own_now false Bs low high z above below = (tt, tt)
-    own_now false Ll low high z above below = (sides_of_value None high z z one_ℚ zero_ℚ (by_ring2 z one_ℚ (λ z v. z ≐ z ⊕ number (pos 0) ⊗ v) refl)).0 (tt, below)
-    own_now false Ul low high z above below = (sides_of_value low None z z one_ℚ zero_ℚ (by_ring2 z one_ℚ (λ z v. z ≐ z ⊕ number (pos 0) ⊗ v) refl)).0 (above, tt)
+    own_now false Ll low high z above below =
+        (sides_of_value None high z z one_ℚ zero_ℚ (by_ring2 z one_ℚ (λ z v. z ≐ z ⊕ number (pos 0) ⊗ v) refl)).0 (tt, below)
+    own_now false Ul low high z above below =
+        (sides_of_value low None z z one_ℚ zero_ℚ (by_ring2 z one_ℚ (λ z v. z ≐ z ⊕ number (pos 0) ⊗ v) refl)).0 (above, tt)
     own_now false Fr low high z above below = (tt, tt)
 
     limit_now : LimitStays p s t k zero_ℚ
@@ -171,7 +180,8 @@ ranges_exist p s lawful no_change optimal = (
         column : (k : ℕ) → p.rows + 1 ≤ k → k < p.rows + 1 + p.cols → HasEnds (λ t. IsOptimalBasis (with_cost p k t) s)
         column k low high =
             let there : p.rows + (k - p.rows) ≡ k = omega (arith, low) in
-            subst (λ k. HasEnds (λ t. IsOptimalBasis (with_cost p k t) s)) there (cost_has p s optimal.tableau present (k - p.rows) (omega (arith, low), omega (arith, low, high)))
+            subst (λ k. HasEnds (λ t. IsOptimalBasis (with_cost p k t) s)) there
+            (cost_has p s optimal.tableau present (k - p.rows) (omega (arith, low), omega (arith, low, high)))
 
     rows : (list : List Interval) × AreIntervals (intermediate_rows p s) (λ i t. IsOptimalBasis (with_row p i t) s) list
     rows =

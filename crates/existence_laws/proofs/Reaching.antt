@@ -56,7 +56,8 @@ same_marks : (b w : Basics) → length b ≡ length w → ((i : ℕ) → get_or 
 same_marks [] [] counted within least = refl
 same_marks [] (m ∷ w) counted within least = absurd (omega (arith, counted))
 same_marks (m ∷ b) [] counted within least = absurd (omega (arith, counted))
-same_marks (true ∷ b) (true ∷ w) counted within least = ap (λ ms. true ∷ ms) (same_marks b w (omega (arith, counted)) (λ i. within (suc i)) (omega (arith, least)))
+same_marks (true ∷ b) (true ∷ w) counted within least =
+    ap (λ ms. true ∷ ms) (same_marks b w (omega (arith, counted)) (λ i. within (suc i)) (omega (arith, least)))
 same_marks (true ∷ b) (false ∷ w) counted within least = absurd (clash (sym (within 0 refl)))
 same_marks (false ∷ b) (true ∷ w) counted within least =
     let rest = marks_within b w (omega (arith, counted)) (λ i. within (suc i)) in absurd (omega (arith, rest, least))
@@ -120,7 +121,8 @@ module _ (a : Matrix) (b : Basics) where
       not_yet = λ k past high. r.not_yet k (omega arith) high;
     }
       where
-        at : (k : ℕ) → 1 ≤ k → k ≤ suc n → is_in b k ≡ true → (((eqb k (suc n) ≡ true) × (k ≡ suc n)) ⊎ ((eqb k (suc n) ≡ false) × (k ≢ suc n))) → is_in r.basics k ≡ true
+        at : (k : ℕ) → 1 ≤ k → k ≤ suc n → is_in b k ≡ true → (((eqb k (suc n) ≡ true) × (k ≡ suc n)) ⊎ ((eqb k (suc n) ≡ false) × (k ≢ suc n))) →
+            is_in r.basics k ≡ true
         at k low high is (inl same) = absurd (clash (sym is ∙ ap (is_in b) same.1 ∙ out))
         at k low high is (inr other) = r.taken k low (let apart = other.1 in omega (arith, apart)) is
 
@@ -141,8 +143,10 @@ module _ (a : Matrix) (b : Basics) where
           leaver : IsBasic a r.basics p
           leaver = (is, may.inside)
 
-          at : (k : ℕ) → 1 ≤ k → k ≤ suc n → is_in b k ≡ true → (((eqb k (suc n) ≡ true) × (k ≡ suc n)) ⊎ ((eqb k (suc n) ≡ false) × (k ≢ suc n))) → is_in (exchanged r.basics p (suc n)) k ≡ true
-          at k low high mine (inl same) = ap (is_in (exchanged r.basics p (suc n))) same.1 ∙ entering_in a r.basics r.nonsingular.counted p (suc n) leaver enters
+          at : (k : ℕ) → 1 ≤ k → k ≤ suc n → is_in b k ≡ true → (((eqb k (suc n) ≡ true) × (k ≡ suc n)) ⊎ ((eqb k (suc n) ≡ false) × (k ≢ suc n))) →
+              is_in (exchanged r.basics p (suc n)) k ≡ true
+          at k low high mine (inl same) =
+              ap (is_in (exchanged r.basics p (suc n))) same.1 ∙ entering_in a r.basics r.nonsingular.counted p (suc n) leaver enters
           at k low high mine (inr other) =
               let not_p : k ≢ p = λ e. clash (sym mine ∙ ap (is_in b) e ∙ may.outside) in
               let apart = other.1 in
@@ -160,14 +164,17 @@ module _ (a : Matrix) (b : Basics) where
           later = λ k past basic. (r.are_rates (suc n) enters).others k (basic.0, r.not_yet k (omega arith) basic.0.1) (λ e. omega arith);
           outside = λ k out. by_mark k out (is_in r.basics k) refl;
         };
-        first = λ j before e other. one_apart (sym other.own ∙ r.nonsingular.only_zero e other.keeps (λ k out. vanishes j before e other k out (is_in b k) refl) j other.basic.0);
+        first =
+            λ j before e other. one_apart
+            (sym other.own ∙ r.nonsingular.only_zero e other.keeps (λ k out. vanishes j before e other k out (is_in b k) refl) j other.basic.0);
       }
         where
           by_mark : (k : ℕ) → IsNonbasic a b k → (mark : Bool) → is_in r.basics k ≡ mark → r.rate k (suc n) ≡ zero_ℚ
           by_mark k out true is = stays b r.basics r.rate (suc n) k (none k out.0.0 out.0.1) is out.1
           by_mark k out false is = (r.are_rates (suc n) enters).others k (out.0, is) (λ e. clash (sym is_mine ∙ ap (is_in b) (sym e) ∙ out.1))
 
-          vanishes : (j : ℕ) → j < suc n → (e : Vector) → IsCombination a b j e → (k : ℕ) → IsNonbasic a r.basics k → (mark : Bool) → is_in b k ≡ mark → e k ≡ zero_ℚ
+          vanishes : (j : ℕ) → j < suc n → (e : Vector) → IsCombination a b j e → (k : ℕ) → IsNonbasic a r.basics k → (mark : Bool) → is_in b k ≡ mark →
+              e k ≡ zero_ℚ
           vanishes j before e other k out false is = other.outside k (out.0, is)
           vanishes j before e other k out true is = other.later k (by_order (cases_lt n k)) (out.0, is)
             where
@@ -178,7 +185,9 @@ module _ (a : Matrix) (b : Basics) where
     next_reached : Reached (suc n) ⊎ HasDependency a b
     next_reached = by_mark (is_in b (suc n)) refl
       where
-        by_search : (is_mine : is_in b (suc n) ≡ true) → (((p : ℕ) × (1 ≤ p) × (p ≤ size a) × (may_leave b r.basics r.rate (suc n) p ≡ true)) ⊎ ((p : ℕ) → 1 ≤ p → p ≤ size a → may_leave b r.basics r.rate (suc n) p ≡ false)) → Reached (suc n) ⊎ HasDependency a b
+        by_search : (is_mine : is_in b (suc n) ≡ true) →
+            (((p : ℕ) × (1 ≤ p) × (p ≤ size a) × (may_leave b r.basics r.rate (suc n) p ≡ true)) ⊎
+            ((p : ℕ) → 1 ≤ p → p ≤ size a → may_leave b r.basics r.rate (suc n) p ≡ false)) → Reached (suc n) ⊎ HasDependency a b
         by_search is_mine (inl found) = inl (exchanges is_mine found.0 (found.1, found.2) (leaves b r.basics r.rate (suc n) found.0 found.3))
         by_search is_mine (inr none) = inr (suc n, (λ i. r.rate i (suc n)), depends is_mine none)
 
@@ -248,7 +257,8 @@ pub tableau_of : (p : LinearProgram) (s : List Status) → IsNonsingularBasis p 
 tableau_of p s at = let has = rates_of p.matrix (basics_of s) at.nonsingular in tableau_from p s at has.rate has.are_rates
 
 pub nonsingular_or_dependency : (p : LinearProgram) (s : List Status) → IsBasis p s → IsNonsingularBasis p s ⊎ HasDependency p.matrix (basics_of s)
-nonsingular_or_dependency p s basis = by (rates_or_dependency p.matrix (basics_of s) (length-map s is_basic ∙ basis.counted) (marked-basics_of s ∙ basis.m_basics))
+nonsingular_or_dependency p s basis =
+    by (rates_or_dependency p.matrix (basics_of s) (length-map s is_basic ∙ basis.counted) (marked-basics_of s ∙ basis.m_basics))
   where
     by : (HasTableOfRates p.matrix (basics_of s) ⊎ HasDependency p.matrix (basics_of s)) → IsNonsingularBasis p s ⊎ HasDependency p.matrix (basics_of s)
     by (inl has) = inl (record { is_basis = basis; nonsingular = has.nonsingular })

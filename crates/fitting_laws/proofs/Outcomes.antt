@@ -41,7 +41,8 @@ record PrintsFit (move : StatementMove) : Type 0 where
 
 -- ---- faults and selections
 
-unless_fault : {X : Type 0} (card : ℕ) (fault : VerbFault) (o : Option X) (go : X → StatementMove) → ((x : X) → PrintsFit (go x)) → PrintsFit (or_fault card fault o go)
+unless_fault : {X : Type 0} (card : ℕ) (fault : VerbFault) (o : Option X) (go : X → StatementMove) → ((x : X) → PrintsFit (go x)) →
+    PrintsFit (or_fault card fault o go)
 unless_fault card fault None go fit = record { of = tt }
 unless_fault card fault (Some x) go fit = fit x
 
@@ -49,14 +50,16 @@ unless_deck_fault : {X : Type 0} (r : Result X DeckFault) (go : X → StatementM
 unless_deck_fault (Err fault) go fit = record { of = tt }
 unless_deck_fault (Ok x) go fit = fit x
 
-unless_selection_fault : (card : ℕ) (r : Result LinearProgram SelectionFault) (go : LinearProgram → StatementMove) → ((lp : LinearProgram) → PrintsFit (go lp)) → PrintsFit (or_selection_fault card r go)
+unless_selection_fault : (card : ℕ) (r : Result LinearProgram SelectionFault) (go : LinearProgram → StatementMove) →
+    ((lp : LinearProgram) → PrintsFit (go lp)) → PrintsFit (or_selection_fault card r go)
 unless_selection_fault card (Err fault) go fit = record { of = tt }
 unless_selection_fault card (Ok lp) go fit = fit lp
 
 may_stop : (refusals : Refusals) (move : StatementMove) → PrintsFit move → PrintsFit (MayStop refusals move)
 may_stop refusals move fit = record { of = fit.of }
 
-selecting : (card : ℕ) (problem : Problem ℕ) (choice : Choice) (go : LinearProgram → StatementMove) → ((lp : LinearProgram) → PrintsFit (go lp)) → PrintsFit (selects card problem choice go)
+selecting : (card : ℕ) (problem : Problem ℕ) (choice : Choice) (go : LinearProgram → StatementMove) → ((lp : LinearProgram) → PrintsFit (go lp)) →
+    PrintsFit (selects card problem choice go)
 selecting card problem choice go fit = unless_selection_fault card (selected problem choice) _ (λ lp. may_stop _ (go lp) (fit lp))
 
 -- ---- verdicts
@@ -72,19 +75,23 @@ verdict_fits Unbounded report state fit = demanded_fits state.cells.xdounb 2 rep
 
 -- ---- statements
 
-path_fits : (solver : Solver) (limit : Option ℕ) (card : ℕ) (present : Present) (state : State) (end : PathEnd) → AnswerFits (OfPath solver limit) end → GainFits (gain_of (after_path solver card present state end))
+path_fits : (solver : Solver) (limit : Option ℕ) (card : ℕ) (present : Present) (state : State) (end : PathEnd) → AnswerFits (OfPath solver limit) end →
+    GainFits (gain_of (after_path solver card present state end))
 path_fits solver limit card present state (Reached bases verdict check) fit =
     verdict_fits (mark_of verdict) (Solved solver verdict check) (record state { setup = Some (gone_through bases present); mark = Some (mark_of verdict) }) fit
 path_fits solver limit card present state PathLimit fit = tt
 path_fits solver limit card present state (PricesWrong j) fit = tt
 
-run_fits : (card : ℕ) (parametric_run : ParametricRun) (present : Present) (state : State) (end : ParametricRunEnd) → AnswerFits (OfParametricRun parametric_run) end → GainFits (gain_of (after_parametric_run card parametric_run present state end))
+run_fits : (card : ℕ) (parametric_run : ParametricRun) (present : Present) (state : State) (end : ParametricRunEnd) →
+    AnswerFits (OfParametricRun parametric_run) end → GainFits (gain_of (after_parametric_run card parametric_run present state end))
 run_fits card parametric_run present state (Opening bases verdict check) fit =
-    verdict_fits (mark_of verdict) (Solved (parametric_solver parametric_run.changing) verdict check) (record state { setup = Some (gone_through bases present); mark = None }) fit
+    verdict_fits (mark_of verdict) (Solved (parametric_solver parametric_run.changing) verdict check)
+    (record state { setup = Some (gone_through bases present); mark = None }) fit
 run_fits card parametric_run present state (Chained bases intervals end) fit = fit
 run_fits card parametric_run present state ParametricRunLimit fit = tt
 
-install_fits : (card : ℕ) (lp : LinearProgram) (t : Basis) (taken : List Card × List (List Card)) (present : Present) (state : State) (end : InstallEnd) → GainFits (gain_of (after_install card lp t taken present state end))
+install_fits : (card : ℕ) (lp : LinearProgram) (t : Basis) (taken : List Card × List (List Card)) (present : Present) (state : State) (end : InstallEnd) →
+    GainFits (gain_of (after_install card lp t taken present state end))
 install_fits card lp t taken present state Installed = tt
 install_fits card lp t taken present state (DependsBy lines) = tt
 
@@ -103,13 +110,17 @@ module _ (card : ℕ) (state : State) where
 
   setting_up : (options : SetupOptions) → PrintsFit (sets_up card options state)
   setting_up options =
-      unless_fault card VerbFault.NoProblem (problem_of state.cells.xpbname state.file) _ (λ problem. selecting card problem (choice_of state.cells options) _ (λ lp. record { of = tt }))
+      unless_fault card VerbFault.NoProblem (problem_of state.cells.xpbname state.file) _
+      (λ problem. selecting card problem (choice_of state.cells options) _ (λ lp. record { of = tt }))
 
   punching : PrintsFit (punches card state)
   punching = unless_fault card VerbFault.NoProblem (problem_of state.cells.xpbname state.file) _ (λ problem. record { of = tt })
 
-  set_up : (go : Present → LinearProgram → StatementMove) → ((present : Present) (lp : LinearProgram) → PrintsFit (go present lp)) → PrintsFit (or_fault card VerbFault.NoSetup state.setup (λ present. selects_present card state present (go present)))
-  set_up go fit = unless_fault card VerbFault.NoSetup state.setup _ (λ present. selecting card present.problem (choice_of state.cells present.options) (go present) (fit present))
+  set_up : (go : Present → LinearProgram → StatementMove) → ((present : Present) (lp : LinearProgram) → PrintsFit (go present lp)) →
+      PrintsFit (or_fault card VerbFault.NoSetup state.setup (λ present. selects_present card state present (go present)))
+  set_up go fit =
+      unless_fault card VerbFault.NoSetup state.setup _
+      (λ present. selecting card present.problem (choice_of state.cells present.options) (go present) (fit present))
 
   solving : (solver : Solver) (limit : Option ℕ) → PrintsFit (solves solver limit card state)
   solving solver limit = set_up _ (λ present lp. record { of = path_fits solver limit card present state })
@@ -169,7 +180,8 @@ module _ (card : ℕ) (state : State) where
 
 -- ---- what a statement comes to
 
-answer_fits : (question : Question) (sheet : Sheet) (s : Basis) (answer : AnswerTo question) → IsRight linear_programming_of_128_bits question sheet s answer → AnswerFits question answer
+answer_fits : (question : Question) (sheet : Sheet) (s : Basis) (answer : AnswerTo question) → IsRight linear_programming_of_128_bits question sheet s answer →
+    AnswerFits question answer
 unfolding linear_programming_of_128_bits
 answer_fits (OfPath solver limit) sheet s answer right = right.1
 answer_fits (OfSolution mark) sheet s answer right = right.1
@@ -178,12 +190,14 @@ answer_fits (OfParametricRun parametric_run) sheet s answer right = right.1
 answer_fits OfPunch sheet s answer right = tt
 answer_fits (OfInstall t) sheet s answer right = tt
 
-given_fits : (card : ℕ) (move : StatementMove) (outcome : StatementOutcome) → EachFits move → Gives linear_programming_of_128_bits card move outcome → GainFits (gain_of outcome)
+given_fits : (card : ℕ) (move : StatementMove) (outcome : StatementOutcome) → EachFits move → Gives linear_programming_of_128_bits card move outcome →
+    GainFits (gain_of outcome)
 given_fits card (Does other) outcome fit given = subst (λ (o : StatementOutcome). GainFits (gain_of o)) (sym given) fit
 given_fits card (MayStop refusals move) outcome fit (inl given) = given_fits card move outcome fit given
 given_fits card (MayStop refusals move) outcome fit (inr stop) = subst (λ (o : StatementOutcome). GainFits (gain_of o)) (sym stop.3) tt
 given_fits card (Asks question sheet s go) outcome fit given =
     subst (λ (o : StatementOutcome). GainFits (gain_of o)) (sym given.2) (fit given.0 (answer_fits question sheet s given.0 given.1))
 
-pub outcome_fits : (verb : Verb ℕ) (card : ℕ) (state : State) (outcome : StatementOutcome) → Gives linear_programming_of_128_bits card (verb_move verb card state) outcome → GainFits (gain_of outcome)
+pub outcome_fits : (verb : Verb ℕ) (card : ℕ) (state : State) (outcome : StatementOutcome) →
+    Gives linear_programming_of_128_bits card (verb_move verb card state) outcome → GainFits (gain_of outcome)
 outcome_fits verb card state outcome given = given_fits card (verb_move verb card state) outcome (each_fits card state verb).of given

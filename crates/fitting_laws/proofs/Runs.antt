@@ -20,7 +20,8 @@ use Rattle.fitting_laws.proofs.Outcomes.{outcome_fits}
 
 -- ---- it is a run
 
-pub right_too : (question : Question) (sheet : Sheet) (s : Basis) (answer : AnswerTo question) → IsRight linear_programming_of_128_bits question sheet s answer → IsRight linear_programming question sheet s answer
+pub right_too : (question : Question) (sheet : Sheet) (s : Basis) (answer : AnswerTo question) →
+    IsRight linear_programming_of_128_bits question sheet s answer → IsRight linear_programming question sheet s answer
 unfolding linear_programming linear_programming_of_128_bits
 right_too (OfPath solver limit) sheet s answer right = right.0
 right_too (OfSolution mark) sheet s answer right = right.0
@@ -29,17 +30,22 @@ right_too (OfParametricRun parametric_run) sheet s answer right = right.0
 right_too OfPunch sheet s answer right = right
 right_too (OfInstall t) sheet s answer right = right
 
-overflows_too : (question : Question) (sheet : Sheet) (bases : List Basis) (e : Evidence) (place : Option Place) → linear_programming_of_128_bits.Overflows question sheet bases e place → linear_programming.Overflows question sheet bases e place
+overflows_too : (question : Question) (sheet : Sheet) (bases : List Basis) (e : Evidence) (place : Option Place) →
+    linear_programming_of_128_bits.Overflows question sheet bases e place → linear_programming.Overflows question sheet bases e place
 unfolding linear_programming linear_programming_of_128_bits
 overflows_too question sheet bases e place shown = shown.0
 
-pub gives_too : (card : ℕ) (move : StatementMove) (outcome : StatementOutcome) → Gives linear_programming_of_128_bits card move outcome → Gives linear_programming card move outcome
+pub gives_too : (card : ℕ) (move : StatementMove) (outcome : StatementOutcome) → Gives linear_programming_of_128_bits card move outcome →
+    Gives linear_programming card move outcome
 gives_too = gives linear_programming_of_128_bits linear_programming right_too overflows_too
 
-pub reaches_too : (program : Program) (decks : List (List Card)) (reports : List Report) (cards : List (List ℕ)) (s : State) → Reaches linear_programming_of_128_bits program decks reports cards s → Reaches linear_programming program decks reports cards s
+pub reaches_too : (program : Program) (decks : List (List Card)) (reports : List Report) (cards : List (List ℕ)) (s : State) →
+    Reaches linear_programming_of_128_bits program decks reports cards s → Reaches linear_programming program decks reports cards s
 reaches_too = reaches linear_programming_of_128_bits linear_programming right_too overflows_too
 
-pub answered_too : (job : Job) (failures : Failures) (status : ℕ) (PrintGains PunchGains : List ℕ → Type 0) → IsAnswered linear_programming_of_128_bits job failures status PrintGains PunchGains → IsAnswered linear_programming job failures status PrintGains PunchGains
+pub answered_too : (job : Job) (failures : Failures) (status : ℕ) (PrintGains PunchGains : List ℕ → Type 0) →
+    IsAnswered linear_programming_of_128_bits job failures status PrintGains PunchGains →
+    IsAnswered linear_programming job failures status PrintGains PunchGains
 answered_too = is_answered linear_programming_of_128_bits linear_programming right_too overflows_too
 
 pub are_runs : AreRuns
@@ -61,12 +67,14 @@ module _ (program : Program) where
   step_fits s outcome step = outcome_fits step.statement.verb step.statement.card (counted s) outcome step.gives
 
   module _ (decks : List (List Card)) where
-    so_far_fit : (reports : List Report) (cards : List (List ℕ)) (s : State) → Reaches linear_programming_of_128_bits program decks reports cards s → ReportsFit reports
+    so_far_fit : (reports : List Report) (cards : List (List ℕ)) (s : State) → Reaches linear_programming_of_128_bits program decks reports cards s →
+        ReportsFit reports
     so_far_fit _ _ _ begun = tt
     so_far_fit _ _ _ (stepped {reports} {cards} {state} gain after before step) =
         fit_both reports (printed_by gain) (so_far_fit reports cards state before) (printed_fit gain (step_fits state _ step))
 
-    run_fits : (reports : List Report) (cards : List (List ℕ)) (ending : Ending) → IsRun linear_programming_of_128_bits program decks reports cards ending → ReportsFit reports
+    run_fits : (reports : List Report) (cards : List (List ℕ)) (ending : Ending) → IsRun linear_programming_of_128_bits program decks reports cards ending →
+        ReportsFit reports
     run_fits _ _ _ (is_over {reports} {cards} {state} before is) = so_far_fit reports cards state before
     run_fits _ _ _ (is_ended {reports} {cards} {state} gain before step) =
         fit_both reports (printed_by gain) (so_far_fit reports cards state before) (printed_fit gain (step_fits state _ step))

@@ -10,7 +10,11 @@ use Rattle.fitting_answers.specs.Fitting.{ReportsFit}
 use Rattle.fitting_answers.specs.Real.{linear_programming_of_128_bits}
 
 abbrev pub AreRuns : Type 0
-AreRuns = (bytes : List ℕ) (reports : List Report) (cards : List (List ℕ)) (ending : Ending) → IsJobRun linear_programming_of_128_bits bytes reports cards ending → IsJobRun linear_programming bytes reports cards ending
+AreRuns =
+    (bytes : List ℕ) (reports : List Report) (cards : List (List ℕ)) (ending : Ending) → IsJobRun linear_programming_of_128_bits bytes reports cards ending →
+    IsJobRun linear_programming bytes reports cards ending
 
 abbrev pub PrintsFitting : Type 0
-PrintsFitting = (bytes : List ℕ) (reports : List Report) (cards : List (List ℕ)) (ending : Ending) → IsJobRun linear_programming_of_128_bits bytes reports cards ending → ReportsFit reports
+PrintsFitting =
+    (bytes : List ℕ) (reports : List Report) (cards : List (List ℕ)) (ending : Ending) → IsJobRun linear_programming_of_128_bits bytes reports cards ending →
+    ReportsFit reports

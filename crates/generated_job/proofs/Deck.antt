@@ -46,7 +46,8 @@ from_destinations n = card_text (destination_cards n) ++ from_columns n
 abbrev pub from_sources : ℕ → List ℕ
 from_sources n = card_text (source_cards n) ++ from_destinations n
 
-head_lines : codes "NAME          TRANSP\nROWS\n N  COST\n" ≡ line (codes "NAME          TRANSP") ++ (line (codes "ROWS") ++ line (row_card (plain_row N (codes "COST"))))
+head_lines : codes "NAME          TRANSP\nROWS\n N  COST\n" ≡ line (codes "NAME          TRANSP") ++
+    (line (codes "ROWS") ++ line (row_card (plain_row N (codes "COST"))))
 unfolding data_card
 head_lines = refl
 
@@ -59,7 +60,8 @@ parts n r k c s e ls gs cs ss ds = simp (flat_map-append, append_assoc, append-n
 pub deck_text : (n : ℕ) → codes "NAME          TRANSP\nROWS\n N  COST\n" ++ from_sources n ≡ card_text (deck_fields n)
 deck_text n =
     ap (λ head. head ++ from_sources n) head_lines
-    ∙ parts (codes "NAME          TRANSP") (codes "ROWS") (row_card (plain_row N (codes "COST"))) (codes "COLUMNS") (codes "RHS") (codes "ENDATA") (source_cards n) (destination_cards n) (column_cards n) (supply_cards n) (demand_cards n)
+    ∙ parts (codes "NAME          TRANSP") (codes "ROWS") (row_card (plain_row N (codes "COST"))) (codes "COLUMNS") (codes "RHS") (codes "ENDATA")
+    (source_cards n) (destination_cards n) (column_cards n) (supply_cards n) (demand_cards n)
 
 -- the text of the job
 pub job_text : (n : ℕ) → card_text program_cards ++ card_text (deck_fields n) ≡ made_job n

@@ -39,11 +39,13 @@ abbrev GoesOn : (List ℕ → List ℕ) → Type 0
 GoesOn text = (a b : List ℕ) → text (a ++ b) ≡ text a ++ text b
 
 -- the text of the numbers up to i, and then that of the next
-numbers_then : {T U : Type 0} {a b c : SinkState} {r : Result T WriteStop} {done : U} (text : List ℕ → List ℕ) → GoesOn text → (i : ℕ) → Writes a b (Ok done) (text (up_to i)) → Writes b c r (text ((i + 1) ∷ [])) → Writes a c r (text (up_to (i + 1)))
+numbers_then : {T U : Type 0} {a b c : SinkState} {r : Result T WriteStop} {done : U} (text : List ℕ → List ℕ) → GoesOn text → (i : ℕ) →
+    Writes a b (Ok done) (text (up_to i)) → Writes b c r (text ((i + 1) ∷ [])) → Writes a c r (text (up_to (i + 1)))
 numbers_then text goes_on i so_far next = writes_same (sym (goes_on (up_to i) ((i + 1) ∷ [])) ∙ ap text (one_more i)) (writes_then so_far next)
 
 -- a stop in the text of the next is one in the text of all
-numbers_stop : {T U : Type 0} {a b c : SinkState} {stop : WriteStop} {done : U} (text : List ℕ → List ℕ) → GoesOn text → (i n : ℕ) → i < n → Writes a b (Ok done) (text (up_to i)) → Writes {T = T} b c (Err stop) (text ((i + 1) ∷ [])) → Writes {T = T} a c (Err stop) (text (up_to n))
+numbers_stop : {T U : Type 0} {a b c : SinkState} {stop : WriteStop} {done : U} (text : List ℕ → List ℕ) → GoesOn text → (i n : ℕ) → i < n →
+    Writes a b (Ok done) (text (up_to i)) → Writes {T = T} b c (Err stop) (text ((i + 1) ∷ [])) → Writes {T = T} a c (Err stop) (text (up_to n))
 numbers_stop text goes_on i n inside so_far stopped =
     let prefix = first_numbers (i + 1) n (omega (arith, inside)) in
     writes_same (sym (goes_on (up_to (i + 1)) prefix.0) ∙ ap text prefix.1) (writes_more (text prefix.0) (numbers_then text goes_on i so_far stopped))
@@ -53,11 +55,16 @@ numbers_stop text goes_on i n inside so_far stopped =
 each_goes_on : (f : ℕ → List ℕ) → GoesOn (λ numbers. card_text (map f numbers))
 each_goes_on f a b = ap card_text (map-append f a b) ∙ cards_then (map f a) (map f b)
 
-pub writes_one : {T U : Type 0} {a b c : SinkState} {r : Result T WriteStop} {done : U} (f : ℕ → List ℕ) (i : ℕ) → Writes a b (Ok done) (card_text (map f (up_to i))) → Writes b c r (line (f (i + 1))) → Writes a c r (card_text (map f (up_to (i + 1))))
-writes_one f i so_far next = numbers_then (λ numbers. card_text (map f numbers)) (each_goes_on f) i so_far (writes_same (sym (append-nil (line (f (i + 1))))) next)
+pub writes_one : {T U : Type 0} {a b c : SinkState} {r : Result T WriteStop} {done : U} (f : ℕ → List ℕ) (i : ℕ) →
+    Writes a b (Ok done) (card_text (map f (up_to i))) → Writes b c r (line (f (i + 1))) → Writes a c r (card_text (map f (up_to (i + 1))))
+writes_one f i so_far next =
+    numbers_then (λ numbers. card_text (map f numbers)) (each_goes_on f) i so_far (writes_same (sym (append-nil (line (f (i + 1))))) next)
 
-pub stops_at_one : {T U : Type 0} {a b c : SinkState} {stop : WriteStop} {done : U} (f : ℕ → List ℕ) (i n : ℕ) → i < n → Writes a b (Ok done) (card_text (map f (up_to i))) → Writes {T = T} b c (Err stop) (line (f (i + 1))) → Writes {T = T} a c (Err stop) (card_text (map f (up_to n)))
-stops_at_one f i n inside so_far stopped = numbers_stop (λ numbers. card_text (map f numbers)) (each_goes_on f) i n inside so_far (writes_same (sym (append-nil (line (f (i + 1))))) stopped)
+pub stops_at_one : {T U : Type 0} {a b c : SinkState} {stop : WriteStop} {done : U} (f : ℕ → List ℕ) (i n : ℕ) → i < n →
+    Writes a b (Ok done) (card_text (map f (up_to i))) → Writes {T = T} b c (Err stop) (line (f (i + 1))) →
+    Writes {T = T} a c (Err stop) (card_text (map f (up_to n)))
+stops_at_one f i n inside so_far stopped =
+    numbers_stop (λ numbers. card_text (map f numbers)) (each_goes_on f) i n inside so_far (writes_same (sym (append-nil (line (f (i + 1))))) stopped)
 
 -- ---- some cards for each number
 
@@ -67,8 +74,12 @@ some_go_on f a b = ap card_text (flat_map-append f a b) ∙ cards_then (flat_map
 one_alone : (f : ℕ → List (List ℕ)) (i : ℕ) → card_text (f i) ≡ card_text (flat_map f (i ∷ []))
 one_alone f i = ap card_text (sym (append-nil (f i)))
 
-pub writes_some : {T U : Type 0} {a b c : SinkState} {r : Result T WriteStop} {done : U} (f : ℕ → List (List ℕ)) (i : ℕ) → Writes a b (Ok done) (card_text (flat_map f (up_to i))) → Writes b c r (card_text (f (i + 1))) → Writes a c r (card_text (flat_map f (up_to (i + 1))))
+pub writes_some : {T U : Type 0} {a b c : SinkState} {r : Result T WriteStop} {done : U} (f : ℕ → List (List ℕ)) (i : ℕ) →
+    Writes a b (Ok done) (card_text (flat_map f (up_to i))) → Writes b c r (card_text (f (i + 1))) → Writes a c r (card_text (flat_map f (up_to (i + 1))))
 writes_some f i so_far next = numbers_then (λ numbers. card_text (flat_map f numbers)) (some_go_on f) i so_far (writes_same (one_alone f (i + 1)) next)
 
-pub stops_at_some : {T U : Type 0} {a b c : SinkState} {stop : WriteStop} {done : U} (f : ℕ → List (List ℕ)) (i n : ℕ) → i < n → Writes a b (Ok done) (card_text (flat_map f (up_to i))) → Writes {T = T} b c (Err stop) (card_text (f (i + 1))) → Writes {T = T} a c (Err stop) (card_text (flat_map f (up_to n)))
-stops_at_some f i n inside so_far stopped = numbers_stop (λ numbers. card_text (flat_map f numbers)) (some_go_on f) i n inside so_far (writes_same (one_alone f (i + 1)) stopped)
+pub stops_at_some : {T U : Type 0} {a b c : SinkState} {stop : WriteStop} {done : U} (f : ℕ → List (List ℕ)) (i n : ℕ) → i < n →
+    Writes a b (Ok done) (card_text (flat_map f (up_to i))) → Writes {T = T} b c (Err stop) (card_text (f (i + 1))) →
+    Writes {T = T} a c (Err stop) (card_text (flat_map f (up_to n)))
+stops_at_some f i n inside so_far stopped =
+    numbers_stop (λ numbers. card_text (flat_map f numbers)) (some_go_on f) i n inside so_far (writes_same (one_alone f (i + 1)) stopped)

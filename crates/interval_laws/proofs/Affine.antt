@@ -10,8 +10,10 @@ module _ (from x to : ℚ) (after : from ≤ℚ x) (before : x ≤ℚ to) where
   nonnegative_between a b first last = by (le_total zero_ℚ b)
     where
       by : (zero_ℚ ≤ℚ b) ⊎ (b ≤ℚ zero_ℚ) → zero_ℚ ≤ℚ a +ℚ x *ℚ b
-      by (inl rising) = le_trans first (le_by_product after rising (by_ring4 a b from x (λ a b f x. a ⊕ x ⊗ b ≐ a ⊕ f ⊗ b ⊕ (x ⊖ f) ⊗ (b ⊖ number (pos 0))) refl))
-      by (inr falling) = le_trans last (le_by_product before falling (by_ring4 a b to x (λ a b t x. a ⊕ x ⊗ b ≐ a ⊕ t ⊗ b ⊕ (t ⊖ x) ⊗ (number (pos 0) ⊖ b)) refl))
+      by (inl rising) =
+          le_trans first (le_by_product after rising (by_ring4 a b from x (λ a b f x. a ⊕ x ⊗ b ≐ a ⊕ f ⊗ b ⊕ (x ⊖ f) ⊗ (b ⊖ number (pos 0))) refl))
+      by (inr falling) =
+          le_trans last (le_by_product before falling (by_ring4 a b to x (λ a b t x. a ⊕ x ⊗ b ≐ a ⊕ t ⊗ b ⊕ (t ⊖ x) ⊗ (number (pos 0) ⊖ b)) refl))
 
   -- one that isn't above the other at the ends isn't between them
   pub le_between : (a b c d : ℚ) → a +ℚ from *ℚ b ≤ℚ c +ℚ from *ℚ d → a +ℚ to *ℚ b ≤ℚ c +ℚ to *ℚ d → a +ℚ x *ℚ b ≤ℚ c +ℚ x *ℚ d

@@ -19,7 +19,8 @@ use Rattle.interval_laws.proofs.Affine.{same_between, positive_at, negative_at}
 use Rattle.interval_laws.proofs.Limits.{above_between, below_between, stands_between}
 
 -- the sum of multiples of a vector that is linear in theta
-sum_along : (n : ℕ) (e v r : ℕ → ℚ) (theta : ℚ) → sum_up_to n (λ j. e j *ℚ (v j +ℚ theta *ℚ r j)) ≡ sum_up_to n (λ j. e j *ℚ v j) +ℚ theta *ℚ sum_up_to n (λ j. e j *ℚ r j)
+sum_along : (n : ℕ) (e v r : ℕ → ℚ) (theta : ℚ) →
+    sum_up_to n (λ j. e j *ℚ (v j +ℚ theta *ℚ r j)) ≡ sum_up_to n (λ j. e j *ℚ v j) +ℚ theta *ℚ sum_up_to n (λ j. e j *ℚ r j)
 sum_along n e v r theta =
     sum_to-same n (λ k. e (suc k) *ℚ (v (suc k) +ℚ theta *ℚ r (suc k))) (λ k. e (suc k) *ℚ v (suc k) +ℚ theta *ℚ (e (suc k) *ℚ r (suc k)))
     (λ k _. by_ring4 (e (suc k)) (v (suc k)) theta (r (suc k)) (λ e v t r. e ⊗ (v ⊕ t ⊗ r) ≐ e ⊗ v ⊕ t ⊗ (e ⊗ r)) refl)
@@ -71,10 +72,12 @@ module _ (p : LinearProgram) (lows highs : ℚ → List (Option ℚ)) (change : 
         (first : IsBestBy (family from) (along v from r) (along q from w)) (last : IsBestBy (family to) (along v to r) (along q to w))
         (first_prices : StandAtBoth (family from) (family to) (along v from r) (along v to r) (along q from w))
         (last_prices : StandAtBoth (family from) (family to) (along v from r) (along v to r) (along q to w)) where
-      above : (theta : ℚ) → IsFeasible (family theta) (along v theta r) → (k : ℕ) → IsVariable p.matrix k → IfSome (moved theta (slope k) (lower_of p k)) (λ l. l ≤ℚ along v theta r k)
+      above : (theta : ℚ) → IsFeasible (family theta) (along v theta r) → (k : ℕ) → IsVariable p.matrix k →
+          IfSome (moved theta (slope k) (lower_of p k)) (λ l. l ≤ℚ along v theta r k)
       above theta feasible k is = subst (λ low. IfSome low (λ l. l ≤ℚ along v theta r k)) (linear.low theta k is) (feasible.within k is).0
 
-      below : (theta : ℚ) → IsFeasible (family theta) (along v theta r) → (k : ℕ) → IsVariable p.matrix k → IfSome (moved theta (slope k) (upper_of p k)) (λ u. along v theta r k ≤ℚ u)
+      below : (theta : ℚ) → IsFeasible (family theta) (along v theta r) → (k : ℕ) → IsVariable p.matrix k →
+          IfSome (moved theta (slope k) (upper_of p k)) (λ u. along v theta r k ≤ℚ u)
       below theta feasible k is = subst (λ high. IfSome high (λ u. along v theta r k ≤ℚ u)) (linear.high theta k is) (feasible.within k is).1
 
       feasible : IsFeasible (family x) (along v x r)
@@ -82,9 +85,11 @@ module _ (p : LinearProgram) (lows highs : ℚ → List (Option ℚ)) (change : 
         keeps = keeps_between p.matrix v r from x to after before first.best.feasible.keeps last.best.feasible.keeps;
         within = λ k is. (
           subst (λ low. IfSome low (λ l. l ≤ℚ along v x r k)) (sym (linear.low x k is))
-              (above_between from x to after before (v k) (r k) (slope k) (lower_of p k) (above from first.best.feasible k is) (above to last.best.feasible k is)),
+              (above_between from x to after before (v k) (r k) (slope k) (lower_of p k) (above from first.best.feasible k is)
+              (above to last.best.feasible k is)),
           subst (λ high. IfSome high (λ u. along v x r k ≤ℚ u)) (sym (linear.high x k is))
-              (below_between from x to after before (v k) (r k) (slope k) (upper_of p k) (below from first.best.feasible k is) (below to last.best.feasible k is)),
+              (below_between from x to after before (v k) (r k) (slope k) (upper_of p k) (below from first.best.feasible k is)
+              (below to last.best.feasible k is)),
         );
       }
 
@@ -102,7 +107,8 @@ module _ (p : LinearProgram) (lows highs : ℚ → List (Option ℚ)) (change : 
           (λ h. last_prices.lower k is (subst (λ y. zero_ℚ <ℚ y) (sym (for_min-add p.sense (q k) to (w k))) h))
           (subst (λ y. zero_ℚ <ℚ y) (for_min-add p.sense (q k) x (w k)) positive) in
           linear.low x k is
-          ∙ stands_between from x to after before (v k) (r k) (slope k) (lower_of p k) (sym (linear.low from k is) ∙ stood.0) (sym (linear.low to k is) ∙ stood.1)
+          ∙ stands_between from x to after before (v k) (r k) (slope k) (lower_of p k) (sym (linear.low from k is) ∙ stood.0)
+          (sym (linear.low to k is) ∙ stood.1)
 
       at_upper : (k : ℕ) → IsVariable p.matrix k → for_min p.sense (along q x w k) <ℚ zero_ℚ → upper_of (family x) k ≡ Some (along v x r k)
       at_upper k is negative =
@@ -111,7 +117,8 @@ module _ (p : LinearProgram) (lows highs : ℚ → List (Option ℚ)) (change : 
           (λ h. last_prices.upper k is (subst (λ y. y <ℚ zero_ℚ) (sym (for_min-add p.sense (q k) to (w k))) h))
           (subst (λ y. y <ℚ zero_ℚ) (for_min-add p.sense (q k) x (w k)) negative) in
           linear.high x k is
-          ∙ stands_between from x to after before (v k) (r k) (slope k) (upper_of p k) (sym (linear.high from k is) ∙ stood.0) (sym (linear.high to k is) ∙ stood.1)
+          ∙ stands_between from x to after before (v k) (r k) (slope k) (upper_of p k) (sym (linear.high from k is) ∙ stood.0)
+          (sym (linear.high to k is) ∙ stood.1)
 
       certificate : IsDualCertificate (family x) (along v x r) (along q x w)
       certificate = record { reduced = reduced; at_lower = at_lower; at_upper = at_upper }

@@ -39,8 +39,10 @@ objective_between p h lawful row free max part within ends = record {
   forward = ends.forward;
   within = within;
   solved = λ theta after before.
-      solved_between p (λ _. p.lower) (λ _. p.upper) (λ theta. Some (record { row = h; theta = theta })) (λ k. zero_ℚ) (λ j. entry p.matrix p.objective j) (λ j. entry p.matrix h j)
-      (objective_linear p h) (value_at part.value) (value_at part.value_rate) (value_at part.price) (value_at part.price_rate) part.from theta part.to after before
+      solved_between p (λ _. p.lower) (λ _. p.upper) (λ theta. Some (record { row = h; theta = theta })) (λ k. zero_ℚ) (λ j. entry p.matrix p.objective j)
+      (λ j. entry p.matrix h j)
+      (objective_linear p h) (value_at part.value) (value_at part.value_rate) (value_at part.price)
+      (value_at part.price_rate) part.from theta part.to after before
       ends.first ends.last ends.first_prices ends.last_prices (lawful_objective p h lawful row free theta);
 }
 
@@ -49,8 +51,10 @@ rhs_between p shift lawful max part within ends = record {
   forward = ends.forward;
   within = within;
   solved = λ theta after before.
-      solved_between p (λ theta. shifted p.matrix shift theta (lower_of p)) (λ theta. shifted p.matrix shift theta (upper_of p)) (λ _. p.change) (shift_of p.matrix shift) (cost p) (λ j. zero_ℚ)
-      (rhs_linear p shift) (value_at part.value) (value_at part.value_rate) (value_at part.price) (value_at part.price_rate) part.from theta part.to after before
+      solved_between p (λ theta. shifted p.matrix shift theta (lower_of p)) (λ theta. shifted p.matrix shift theta (upper_of p)) (λ _. p.change)
+      (shift_of p.matrix shift) (cost p) (λ j. zero_ℚ)
+      (rhs_linear p shift) (value_at part.value) (value_at part.value_rate) (value_at part.price)
+      (value_at part.price_rate) part.from theta part.to after before
       ends.first ends.last ends.first_prices ends.last_prices (lawful_rhs p shift lawful theta);
 }
 

@@ -23,7 +23,8 @@ negative_past : (a b t theta : ℚ) → t <ℚ theta → a +ℚ t *ℚ b ≤ℚ 
 negative_past a b t theta past at_t falls =
     lt_of_lt_of_le (lt_by_product past falls (by_ring4 a b t theta (λ a b t x. a ⊕ t ⊗ b ≐ a ⊕ x ⊗ b ⊕ (x ⊖ t) ⊗ (number (pos 0) ⊖ b)) refl)) at_t
 
-unbounded_past : (p : LinearProgram) (h : ℕ) (t theta : ℚ) (z d : Vector) → ClosesUnbounded p h t z d → t <ℚ theta → IsUnboundedBy (objective_family p h theta) z d
+unbounded_past : (p : LinearProgram) (h : ℕ) (t theta : ℚ) (z d : Vector) → ClosesUnbounded p h t z d → t <ℚ theta →
+    IsUnboundedBy (objective_family p h theta) z d
 unbounded_past p h t theta z d closes past = record { proof = proof; unbounded = unbounded_by_direction (objective_family p h theta) z d proof }
   where
     proof : ProvesUnbounded (objective_family p h theta) z d
@@ -40,7 +41,8 @@ unbounded_past p h t theta z d closes past = record { proof = proof; unbounded =
 -- ---- limits that are met
 
 -- a multiplier times a limit at theta
-met : (w slope theta : ℚ) (limit : Option ℚ) → (w ≡ zero_ℚ) ⊎ IsSome limit → w *ℚ unwrap_or (moved theta slope limit) zero_ℚ ≡ w *ℚ unwrap_or limit zero_ℚ +ℚ theta *ℚ (w *ℚ slope)
+met : (w slope theta : ℚ) (limit : Option ℚ) → (w ≡ zero_ℚ) ⊎ IsSome limit →
+    w *ℚ unwrap_or (moved theta slope limit) zero_ℚ ≡ w *ℚ unwrap_or limit zero_ℚ +ℚ theta *ℚ (w *ℚ slope)
 met w slope theta (Some l) is = by_ring4 w slope theta l (λ w s x l. w ⊗ (l ⊕ x ⊗ s) ≐ w ⊗ l ⊕ x ⊗ (w ⊗ s)) refl
 met w slope theta None (inl e) =
     ap (λ y. y *ℚ zero_ℚ) e ∙ by_ring2 slope theta (λ s x. number (pos 0) ⊗ number (pos 0) ≐ number (pos 0) ⊗ number (pos 0) ⊕ x ⊗ (number (pos 0) ⊗ s)) refl
@@ -58,10 +60,13 @@ still_there slope theta (Some l) is = refl
 
 module _ (p : LinearProgram) (shift : List ℚ) (w : Vector) where
   -- which limit a multiplier meets doesn't depend on theta
-  against_is : (theta : ℚ) (k : ℕ) → IsVariable p.matrix k → limit_against (rhs_family p shift theta) w k ≡ moved theta (shift_of p.matrix shift k) (limit_against p w k)
+  against_is : (theta : ℚ) (k : ℕ) → IsVariable p.matrix k →
+      limit_against (rhs_family p shift theta) w k ≡ moved theta (shift_of p.matrix shift k) (limit_against p w k)
   against_is theta k is = by (lt_ℚ zero_ℚ (w k))
     where
-      by : (test : Bool) → cond test (upper_of (rhs_family p shift theta) k) (lower_of (rhs_family p shift theta) k) ≡ moved theta (shift_of p.matrix shift k) (cond test (upper_of p k) (lower_of p k))
+      by : (test : Bool) →
+          cond test (upper_of (rhs_family p shift theta) k) (lower_of (rhs_family p shift theta) k) ≡ moved theta (shift_of p.matrix shift k)
+          (cond test (upper_of p k) (lower_of p k))
       by true = upper_is p shift theta k is
       by false = lower_is p shift theta k is
 
@@ -88,13 +93,16 @@ module _ (p : LinearProgram) (shift : List ℚ) (w : Vector) where
       among k is = grind (arith, is)
 
   module _ (meets : (k : ℕ) → IsVariable p.matrix k → (w k ≡ zero_ℚ) ⊎ IsSome (limit_against p w k)) where
-    sum_is : (theta : ℚ) → limit_sum theta ≡ sum_up_to (size p.matrix) (λ k. w k *ℚ unwrap_or (limit_against p w k) zero_ℚ) +ℚ theta *ℚ sum_up_to p.rows (λ i. w i *ℚ value_at shift i)
+    sum_is : (theta : ℚ) →
+        limit_sum theta ≡ sum_up_to (size p.matrix) (λ k. w k *ℚ unwrap_or (limit_against p w k) zero_ℚ) +ℚ theta *ℚ sum_up_to p.rows
+        (λ i. w i *ℚ value_at shift i)
     sum_is theta =
         sum_to-same (size p.matrix) (λ k. w (suc k) *ℚ unwrap_or (limit_against (rhs_family p shift theta) w (suc k)) zero_ℚ)
         (λ k. w (suc k) *ℚ unwrap_or (limit_against p w (suc k)) zero_ℚ +ℚ theta *ℚ (w (suc k) *ℚ shift_of p.matrix shift (suc k)))
         (λ k below. ap (λ limit. w (suc k) *ℚ unwrap_or limit zero_ℚ) (against_is theta (suc k) (variable k below))
         ∙ met (w (suc k)) (shift_of p.matrix shift (suc k)) theta (limit_against p w (suc k)) (meets (suc k) (variable k below)))
-        ∙ sum_to-add (size p.matrix) (λ k. w (suc k) *ℚ unwrap_or (limit_against p w (suc k)) zero_ℚ) (λ k. theta *ℚ (w (suc k) *ℚ shift_of p.matrix shift (suc k)))
+        ∙ sum_to-add (size p.matrix) (λ k. w (suc k) *ℚ unwrap_or (limit_against p w (suc k)) zero_ℚ)
+        (λ k. theta *ℚ (w (suc k) *ℚ shift_of p.matrix shift (suc k)))
         ∙ ap (λ s. sum_to (size p.matrix) (λ k. w (suc k) *ℚ unwrap_or (limit_against p w (suc k)) zero_ℚ) +ℚ s)
         (sum_to-mul_left (size p.matrix) theta (λ k. w (suc k) *ℚ shift_of p.matrix shift (suc k)) ∙ ap (λ s. theta *ℚ s) of_rows)
       where
@@ -102,29 +110,40 @@ module _ (p : LinearProgram) (shift : List ℚ) (w : Vector) where
         variable k below = (omega arith, omega (arith, below))
 
 -- each multiplier is 0 or meets a limit
-meets : (p : LinearProgram) (shift : List ℚ) (t : ℚ) (w : Vector) → ClosesInfeasible p shift t w → (k : ℕ) → IsVariable p.matrix k → (w k ≡ zero_ℚ) ⊎ IsSome (limit_against p w k)
+meets : (p : LinearProgram) (shift : List ℚ) (t : ℚ) (w : Vector) → ClosesInfeasible p shift t w → (k : ℕ) → IsVariable p.matrix k →
+    (w k ≡ zero_ℚ) ⊎ IsSome (limit_against p w k)
 meets p shift t w closes k is = by (lt_or_le zero_ℚ (w k)) (lt_or_le (w k) zero_ℚ)
   where
     by : (zero_ℚ <ℚ w k) ⊎ (w k ≤ℚ zero_ℚ) → (w k <ℚ zero_ℚ) ⊎ (zero_ℚ ≤ℚ w k) → (w k ≡ zero_ℚ) ⊎ IsSome (limit_against p w k)
-    by (inl positive) _ = inr (subst IsSome (sym (limit_of_positive p w k positive)) (there (shift_of p.matrix shift k) t (upper_of p k) (subst IsSome (upper_is p shift t k is) (closes.meets_upper k is positive))))
-    by (inr not_positive) (inl negative) = inr (subst IsSome (sym (limit_of_negative p w k negative)) (there (shift_of p.matrix shift k) t (lower_of p k) (subst IsSome (lower_is p shift t k is) (closes.meets_lower k is negative))))
+    by (inl positive) _ =
+        inr (subst IsSome (sym (limit_of_positive p w k positive))
+        (there (shift_of p.matrix shift k) t (upper_of p k) (subst IsSome (upper_is p shift t k is) (closes.meets_upper k is positive))))
+    by (inr not_positive) (inl negative) =
+        inr (subst IsSome (sym (limit_of_negative p w k negative))
+        (there (shift_of p.matrix shift k) t (lower_of p k) (subst IsSome (lower_is p shift t k is) (closes.meets_lower k is negative))))
     by (inr not_positive) (inr not_negative) = inl (le_antisymm not_positive not_negative)
 
-refuted_past : (p : LinearProgram) (shift : List ℚ) (t theta : ℚ) (w : Vector) → ClosesInfeasible p shift t w → t <ℚ theta → IsRefutedBy (rhs_family p shift theta) w
+refuted_past : (p : LinearProgram) (shift : List ℚ) (t theta : ℚ) (w : Vector) → ClosesInfeasible p shift t w → t <ℚ theta →
+    IsRefutedBy (rhs_family p shift theta) w
 refuted_past p shift t theta w closes past = record { ray = ray; infeasible = infeasible_by_ray (rhs_family p shift theta) w ray }
   where
-    met_is : (x : ℚ) → limit_sum p shift w x ≡ sum_up_to (size p.matrix) (λ k. w k *ℚ unwrap_or (limit_against p w k) zero_ℚ) +ℚ x *ℚ sum_up_to p.rows (λ i. w i *ℚ value_at shift i)
+    met_is : (x : ℚ) →
+        limit_sum p shift w x ≡ sum_up_to (size p.matrix) (λ k. w k *ℚ unwrap_or (limit_against p w k) zero_ℚ) +ℚ x *ℚ sum_up_to p.rows
+        (λ i. w i *ℚ value_at shift i)
     met_is x = sum_is p shift w (meets p shift t w closes) x
 
     ray : IsRay (rhs_family p shift theta) w
     ray = record {
       vanishes = closes.vanishes;
       meets_upper = λ k is positive. subst IsSome (sym (upper_is p shift theta k is))
-          (still_there (shift_of p.matrix shift k) theta (upper_of p k) (there (shift_of p.matrix shift k) t (upper_of p k) (subst IsSome (upper_is p shift t k is) (closes.meets_upper k is positive))));
+          (still_there (shift_of p.matrix shift k) theta (upper_of p k)
+          (there (shift_of p.matrix shift k) t (upper_of p k) (subst IsSome (upper_is p shift t k is) (closes.meets_upper k is positive))));
       meets_lower = λ k is negative. subst IsSome (sym (lower_is p shift theta k is))
-          (still_there (shift_of p.matrix shift k) theta (lower_of p k) (there (shift_of p.matrix shift k) t (lower_of p k) (subst IsSome (lower_is p shift t k is) (closes.meets_lower k is negative))));
+          (still_there (shift_of p.matrix shift k) theta (lower_of p k)
+          (there (shift_of p.matrix shift k) t (lower_of p k) (subst IsSome (lower_is p shift t k is) (closes.meets_lower k is negative))));
       negative = subst (λ s. s <ℚ zero_ℚ) (sym (met_is theta))
-          (negative_past (sum_up_to (size p.matrix) (λ k. w k *ℚ unwrap_or (limit_against p w k) zero_ℚ)) (sum_up_to p.rows (λ i. w i *ℚ value_at shift i)) t theta past
+          (negative_past (sum_up_to (size p.matrix) (λ k. w k *ℚ unwrap_or (limit_against p w k) zero_ℚ))
+          (sum_up_to p.rows (λ i. w i *ℚ value_at shift i)) t theta past
           (subst (λ s. s ≤ℚ zero_ℚ) (met_is t) closes.not_positive) closes.falls);
     }
 

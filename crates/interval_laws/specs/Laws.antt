@@ -71,6 +71,8 @@ pub record ClosesInfeasible (p : LinearProgram) (shift : List ℚ) (t : ℚ) (w 
 
 pub record PastLaws : Type 0 where
   -- theta times row h is added to the objective
-  pub unbounded : (p : LinearProgram) (h : ℕ) (t theta : ℚ) (z d : Vector) → ClosesUnbounded p h t z d → t <ℚ theta → IsUnboundedBy (objective_family p h theta) z d
+  pub unbounded : (p : LinearProgram) (h : ℕ) (t theta : ℚ) (z d : Vector) → ClosesUnbounded p h t z d → t <ℚ theta →
+      IsUnboundedBy (objective_family p h theta) z d
   -- theta times its shift is added to the limits of each row
-  pub infeasible : (p : LinearProgram) (shift : List ℚ) (t theta : ℚ) (w : Vector) → ClosesInfeasible p shift t w → t <ℚ theta → IsRefutedBy (rhs_family p shift theta) w
+  pub infeasible : (p : LinearProgram) (shift : List ℚ) (t theta : ℚ) (w : Vector) → ClosesInfeasible p shift t w → t <ℚ theta →
+      IsRefutedBy (rhs_family p shift theta) w

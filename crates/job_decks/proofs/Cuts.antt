@@ -15,17 +15,21 @@ module _ {X : Type 0} (p : X → Bool) where
   onto_part x n xs e = let next : 1 + n + 1 ≡ suc (n + 1) = omega arith in rw (e, next) refl
 
   -- The first part ends with the first element that passes, or with the last element.
-  pub first_part : (x : X) (xs : List X) → parts_ended_by p (x ∷ xs) ≡ take (position_or_len p (x ∷ xs) + 1) (x ∷ xs) ∷ parts_ended_by p (drop (position_or_len p (x ∷ xs) + 1) (x ∷ xs))
+  pub first_part : (x : X) (xs : List X) →
+      parts_ended_by p (x ∷ xs) ≡ take (position_or_len p (x ∷ xs) + 1) (x ∷ xs) ∷ parts_ended_by p (drop (position_or_len p (x ∷ xs) + 1) (x ∷ xs))
   first_part x [] = by (p x)
     where
-      by : (b : Bool) → cond b ((x ∷ []) ∷ []) ((x ∷ []) ∷ []) ≡ take (cond (not b) (1 + 0) 0 + 1) (x ∷ []) ∷ parts_ended_by p (drop (cond (not b) (1 + 0) 0 + 1) (x ∷ []))
+      by : (b : Bool) →
+          cond b ((x ∷ []) ∷ []) ((x ∷ []) ∷ []) ≡ take (cond (not b) (1 + 0) 0 + 1) (x ∷ []) ∷ parts_ended_by p (drop (cond (not b) (1 + 0) 0 + 1) (x ∷ []))
       by true = refl
       by false = refl
   first_part x (y ∷ xs) = by (p x) (first_part y xs)
     where
-      by : (b : Bool) → parts_ended_by p (y ∷ xs) ≡ take (position_or_len p (y ∷ xs) + 1) (y ∷ xs) ∷ parts_ended_by p (drop (position_or_len p (y ∷ xs) + 1) (y ∷ xs))
+      by : (b : Bool)
+          → parts_ended_by p (y ∷ xs) ≡ take (position_or_len p (y ∷ xs) + 1) (y ∷ xs) ∷ parts_ended_by p (drop (position_or_len p (y ∷ xs) + 1) (y ∷ xs))
           → cond b ((x ∷ []) ∷ parts_ended_by p (y ∷ xs)) (onto_first x (parts_ended_by p (y ∷ xs)))
-          ≡ take (cond (not b) (1 + position_or_len p (y ∷ xs)) 0 + 1) (x ∷ y ∷ xs) ∷ parts_ended_by p (drop (cond (not b) (1 + position_or_len p (y ∷ xs)) 0 + 1) (x ∷ y ∷ xs))
+          ≡ take (cond (not b) (1 + position_or_len p (y ∷ xs)) 0 + 1) (x ∷ y ∷ xs) ∷ parts_ended_by p
+          (drop (cond (not b) (1 + position_or_len p (y ∷ xs)) 0 + 1) (x ∷ y ∷ xs))
       by true e = refl
       by false e = onto_part x (position_or_len p (y ∷ xs)) (y ∷ xs) e
 
@@ -51,7 +55,8 @@ cut_skipped card cards e =
 cut_live : (card : Card) (cards : List Card) → is_skipped card.bytes ≡ false → cut (card ∷ cards) ≡ card ∷ cards
 cut_live card cards e = rw e refl
 
-decks_onto : (card : Card) (parts : List (List Card)) → is_skipped card.bytes ≡ true → filter some (map cut (onto_first card parts)) ≡ filter some (map cut parts)
+decks_onto : (card : Card) (parts : List (List Card)) → is_skipped card.bytes ≡ true →
+    filter some (map cut (onto_first card parts)) ≡ filter some (map cut parts)
 decks_onto card [] e = rw (cut_skipped card [] e) refl
 decks_onto card (part ∷ parts) e = rw (cut_skipped card part e) refl
 
@@ -59,7 +64,8 @@ decks_onto card (part ∷ parts) e = rw (cut_skipped card part e) refl
 pub decks_after_skipped : (card : Card) (cards : List Card) → is_skipped card.bytes ≡ true → decks_of (card ∷ cards) ≡ decks_of cards
 unfolding decks_of
 decks_after_skipped card cards e =
-    ap (λ b. filter some (map cut (cond b ((card ∷ []) ∷ parts_ended_by (begins Endata) cards) (onto_first card (parts_ended_by (begins Endata) cards))))) (no_end card.number card.bytes e)
+    ap (λ b. filter some (map cut (cond b ((card ∷ []) ∷ parts_ended_by (begins Endata) cards) (onto_first card (parts_ended_by (begins Endata) cards)))))
+    (no_end card.number card.bytes e)
     ∙ decks_onto card (parts_ended_by (begins Endata) cards) e
 
 pub no_decks : decks_of [] ≡ []
@@ -68,7 +74,8 @@ no_decks = refl
 
 -- A card that isn't skipped begins a deck, which ends with the first ENDATA card or with the last card.
 pub first_deck : (card : Card) (cards : List Card) → is_skipped card.bytes ≡ false
-    → decks_of (card ∷ cards) ≡ take (position_or_len (begins Endata) (card ∷ cards) + 1) (card ∷ cards) ∷ decks_of (drop (position_or_len (begins Endata) (card ∷ cards) + 1) (card ∷ cards))
+    → decks_of (card ∷ cards) ≡ take (position_or_len (begins Endata) (card ∷ cards) + 1) (card ∷ cards) ∷ decks_of
+    (drop (position_or_len (begins Endata) (card ∷ cards) + 1) (card ∷ cards))
 unfolding decks_of
 first_deck card cards e =
     let n = position_or_len (begins Endata) (card ∷ cards) in

@@ -41,22 +41,28 @@ abbrev word_begins : Section → List ℕ → Bool
 word_begins section word = unwrap_or (option_map (is_section section) (named section_words word)) false
 
 header_word : (word : List ℕ) → word_begins Header word ≡ bytes_eq (codes "NAME") word
-header_word word = header_chosen (bytes_eq (codes "NAME") word) (bytes_eq (codes "ROWS") word) (bytes_eq (codes "COLUMNS") word) (bytes_eq (codes "RHS") word) (bytes_eq (codes "RANGES") word) (bytes_eq (codes "BOUNDS") word) (bytes_eq (codes "ENDATA") word)
+header_word word =
+    header_chosen (bytes_eq (codes "NAME") word) (bytes_eq (codes "ROWS") word) (bytes_eq (codes "COLUMNS") word) (bytes_eq (codes "RHS") word)
+    (bytes_eq (codes "RANGES") word) (bytes_eq (codes "BOUNDS") word) (bytes_eq (codes "ENDATA") word)
 
 end_word : (word : List ℕ) → word_begins Endata word ≡ bytes_eq (codes "ENDATA") word
 end_word word = by (bytes_eq (codes "ENDATA") word) refl
   where
     by : (b : Bool) → bytes_eq (codes "ENDATA") word ≡ b → word_begins Endata word ≡ b
     by true e = subst (λ w. word_begins Endata w ≡ true) ((bytes_eq-Decides (codes "ENDATA") word).0 e) refl
-    by false e = ap (chosen Endata (bytes_eq (codes "NAME") word) (bytes_eq (codes "ROWS") word) (bytes_eq (codes "COLUMNS") word) (bytes_eq (codes "RHS") word) (bytes_eq (codes "RANGES") word) (bytes_eq (codes "BOUNDS") word)) e
-        ∙ none_chosen (bytes_eq (codes "NAME") word) (bytes_eq (codes "ROWS") word) (bytes_eq (codes "COLUMNS") word) (bytes_eq (codes "RHS") word) (bytes_eq (codes "RANGES") word) (bytes_eq (codes "BOUNDS") word)
+    by false e =
+        ap (chosen Endata (bytes_eq (codes "NAME") word) (bytes_eq (codes "ROWS") word) (bytes_eq (codes "COLUMNS") word) (bytes_eq (codes "RHS") word)
+        (bytes_eq (codes "RANGES") word) (bytes_eq (codes "BOUNDS") word)) e
+        ∙ none_chosen (bytes_eq (codes "NAME") word) (bytes_eq (codes "ROWS") word) (bytes_eq (codes "COLUMNS") word) (bytes_eq (codes "RHS") word)
+        (bytes_eq (codes "RANGES") word) (bytes_eq (codes "BOUNDS") word)
 
 -- a card that is no section card has neither word
 no_word : (first : ℕ) (rest card : List ℕ) → eqb first 42 ≡ false → is_section_card card ≡ false → bytes_eq (first ∷ rest) (section_word card) ≡ false
 no_word first rest [] other e = refl
 no_word first rest (byte ∷ bytes) other e = by (is_blank byte) (eqb byte 42) refl e
   where
-    by : (b c : Bool) → eqb byte 42 ≡ c → not (b || c) ≡ false → bytes_eq (first ∷ rest) (take (cond (not b) (1 + position_or_len is_blank bytes) 0) (byte ∷ bytes)) ≡ false
+    by : (b c : Bool) → eqb byte 42 ≡ c → not (b || c) ≡ false →
+        bytes_eq (first ∷ rest) (take (cond (not b) (1 + position_or_len is_blank bytes) 0) (byte ∷ bytes)) ≡ false
     by true c is e = refl
     by false true is e =
         let next : 1 + position_or_len is_blank bytes ≡ suc (position_or_len is_blank bytes) = omega arith in
@@ -66,10 +72,12 @@ no_word first rest (byte ∷ bytes) other e = by (is_blank byte) (eqb byte 42) r
 
 -- whether a card begins a section is decided by its word, where no other card has it
 by_word : (section : Section) (word : List ℕ) (number : ℕ) (card : List ℕ) → word_begins section (section_word card) ≡ bytes_eq word (section_word card)
-    → (is_section_card card ≡ false → bytes_eq word (section_word card) ≡ false) → bytes_eq word (section_word card) ≡ begins section (record { number = number; bytes = card })
+    → (is_section_card card ≡ false → bytes_eq word (section_word card) ≡ false)
+    → bytes_eq word (section_word card) ≡ begins section (record { number = number; bytes = card })
 by_word section word number card same else = by (is_section_card card) refl
   where
-    by : (b : Bool) → is_section_card card ≡ b → bytes_eq word (section_word card) ≡ unwrap_or (option_map (is_section section) (cond b (named section_words (section_word card)) None)) false
+    by : (b : Bool) → is_section_card card ≡ b →
+        bytes_eq word (section_word card) ≡ unwrap_or (option_map (is_section section) (cond b (named section_words (section_word card)) None)) false
     by true e = sym same
     by false e = else e
 

@@ -37,7 +37,8 @@ card_at number cards card from_one at =
 
 -- there is none after the last
 pub none_from : (number : ℕ) (cards : List (List ℕ)) → length cards < number → cards_from number cards ≡ []
-none_from number cards past = let beyond : length (numbered_cards cards) ≤ number - 1 = omega (arith, length-numbered 1 cards) in drop_of_length-le (numbered_cards cards) beyond
+none_from number cards past =
+    let beyond : length (numbered_cards cards) ≤ number - 1 = omega (arith, length-numbered 1 cards) in drop_of_length-le (numbered_cards cards) beyond
 
 -- a card is skipped
 pub skip_card : (number : ℕ) (cards : List (List ℕ)) (card : List ℕ) → 1 ≤ number → slice_get cards (number - 1) ≡ Some card → is_skipped card ≡ true
@@ -82,12 +83,14 @@ to_end first cards = position_or_len (begins Endata) (cards_from first cards)
 
 -- A card that isn't skipped is the first of a deck.
 cut_here : (first : ℕ) (cards : List (List ℕ)) → 1 ≤ first → first ≤ length cards → IsLiveAt first cards
-    → decks_of (cards_from first cards) ≡ take (to_end first cards + 1) (cards_from first cards) ∷ decks_of (drop (to_end first cards + 1) (cards_from first cards))
+    → decks_of (cards_from first cards) ≡ take (to_end first cards + 1) (cards_from first cards) ∷ decks_of
+    (drop (to_end first cards + 1) (cards_from first cards))
 cut_here first cards from_one within live =
     let inside : first - 1 < length cards = omega arith in
     let here = element (first - 1) cards inside in
     let is = card_at first cards here.0 from_one here.1 in
-    subst (λ (xs : List Card). decks_of xs ≡ take (position_or_len (begins Endata) xs + 1) xs ∷ decks_of (drop (position_or_len (begins Endata) xs + 1) xs)) (sym is)
+    subst (λ (xs : List Card). decks_of xs ≡ take (position_or_len (begins Endata) xs + 1) xs ∷ decks_of (drop (position_or_len (begins Endata) xs + 1) xs))
+    (sym is)
     (first_deck (record { number = first; bytes = here.0 }) (cards_from (first + 1) cards) (live here.0 here.1))
 
 -- It goes to the first ENDATA card or to the last card.
@@ -100,26 +103,31 @@ deck_at first last cards from_one within live is = cut_here first cards from_one
     count = length-drop (first - 1) (numbered_cards cards) ∙ ap (λ n. n - (first - 1)) (length-numbered 1 cards)
 
     by : (length cards < first + to_end first cards) ⊎ (first + to_end first cards ≤ length cards)
-        → take (to_end first cards + 1) (cards_from first cards) ∷ decks_of (drop (to_end first cards + 1) (cards_from first cards)) ≡ cards_between first last cards ∷ decks_of (drop last (numbered_cards cards))
+        → take (to_end first cards + 1) (cards_from first cards) ∷ decks_of
+        (drop (to_end first cards + 1) (cards_from first cards)) ≡ cards_between first last cards ∷ decks_of (drop last (numbered_cards cards))
     by (inl past) =
         let xs = cards_from first cards in
         let long : length xs ≤ to_end first cards + 1 = omega (arith, count) in
         let whole : length xs ≤ last + 1 - first = omega (arith, count) in
         let none : length (numbered_cards cards) ≤ last = omega (arith, length-numbered 1 cards) in
-        ap (λ part. part ∷ decks_of (drop (to_end first cards + 1) xs)) (all_taken (to_end first cards + 1) xs long ∙ sym (all_taken (last + 1 - first) xs whole))
+        ap (λ part. part ∷ decks_of (drop (to_end first cards + 1) xs))
+        (all_taken (to_end first cards + 1) xs long ∙ sym (all_taken (last + 1 - first) xs whole))
         ∙ ap (λ rest. cards_between first last cards ∷ decks_of rest) (drop_of_length-le xs long ∙ sym (drop_of_length-le (numbered_cards cards) none))
     by (inr inside) =
         let size : to_end first cards + 1 ≡ last + 1 - first = omega arith in
         let place : first - 1 + (to_end first cards + 1) ≡ last = omega arith in
         ap (λ part. part ∷ decks_of (drop (to_end first cards + 1) (cards_from first cards))) (ap (λ n. take n (cards_from first cards)) size)
-        ∙ ap (λ rest. cards_between first last cards ∷ decks_of rest) (drop-drop (to_end first cards + 1) (first - 1) (numbered_cards cards) ∙ ap (λ n. drop n (numbered_cards cards)) place)
+        ∙ ap (λ rest. cards_between first last cards ∷ decks_of rest)
+        (drop-drop (to_end first cards + 1) (first - 1) (numbered_cards cards) ∙ ap (λ n. drop n (numbered_cards cards)) place)
 
 -- The first deck is taken if it is wanted, and else it is gone.
-pub take_first : (name : Option Name) (deck : List Card) (decks : List (List Card)) → is_wanted name deck ≡ true → deck_taken name (deck ∷ decks) ≡ Some (deck, decks)
+pub take_first : (name : Option Name) (deck : List Card) (decks : List (List Card)) → is_wanted name deck ≡ true →
+    deck_taken name (deck ∷ decks) ≡ Some (deck, decks)
 unfolding deck_taken
 take_first name deck decks wanted = rw wanted refl
 
-pub pass_first : (name : Option Name) (deck : List Card) (decks : List (List Card)) → is_wanted name deck ≡ false → deck_taken name (deck ∷ decks) ≡ deck_taken name decks
+pub pass_first : (name : Option Name) (deck : List Card) (decks : List (List Card)) → is_wanted name deck ≡ false →
+    deck_taken name (deck ∷ decks) ≡ deck_taken name decks
 unfolding deck_taken
 pass_first name deck decks unwanted =
     let n = prefix_len (λ (other : List Card). not (is_wanted name other)) decks in

@@ -24,13 +24,15 @@ module _ (most : ℕ) where
   pub prefix_of_whole : (old new : Option (List ℕ)) → ReadsWhole most old new → ReadsUpTo most old new
   prefix_of_whole None new read = ([], omega arith, tt)
   prefix_of_whole (Some bytes) None read = absurd read
-  prefix_of_whole (Some bytes) (Some rest) read = (take most bytes, omega (arith, length-take most bytes), sym (take-append-drop most bytes) ∙ ap (λ w. take most bytes ++ w) (sym read))
+  prefix_of_whole (Some bytes) (Some rest) read =
+      (take most bytes, omega (arith, length-take most bytes), sym (take-append-drop most bytes) ∙ ap (λ w. take most bytes ++ w) (sym read))
 
   -- the kept bytes are the prefix up to the limit
   abbrev pub IsKept : Option (List ℕ) → List ℕ → Type 0
   IsKept old bytes = IfSome old (λ left. bytes ≡ take most left)
 
-  pub kept_at_end : (old new : Option (List ℕ)) (bytes : List ℕ) → Consumes old new bytes → IsAtEnd new → length bytes ≤ most → IsKept old bytes × ReadsWhole most old new
+  pub kept_at_end : (old new : Option (List ℕ)) (bytes : List ℕ) → Consumes old new bytes → IsAtEnd new → length bytes ≤ most →
+      IsKept old bytes × ReadsWhole most old new
   kept_at_end None new bytes read end short = (tt, tt)
   kept_at_end (Some left) None bytes read end short = absurd read
   kept_at_end (Some left) (Some rest) bytes read end short =

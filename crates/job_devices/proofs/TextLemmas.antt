@@ -53,7 +53,8 @@ moves_on prefix rest piece n e =
     (append_assoc prefix (take n rest) (drop n rest) ∙ ap (λ w. prefix ++ w) (take-append-drop n rest) ∙ e)
 
 -- a call that writes a text, and then one that writes the next
-pub writes_then : {T U : Type 0} {a b c : SinkState} {r : Result T WriteStop} {done : U} {x y : List ℕ} → Writes a b (Ok done) x → Writes b c r y → Writes a c r (x ++ y)
+pub writes_then : {T U : Type 0} {a b c : SinkState} {r : Result T WriteStop} {done : U} {x y : List ℕ} → Writes a b (Ok done) x → Writes b c r y →
+    Writes a c r (x ++ y)
 writes_then {a = a} {b = b} {c = c} {r = Ok v} {x = x} {y = y} p q = record {
   bytes = Puts-then {E = WriteStop} a.written b.written c.written (Ok v) x y p.bytes q.bytes;
   cause = record {
@@ -84,7 +85,8 @@ writes_then {T = T} {a = a} {b = b} {c = c} {r = Err e} {x = x} {y = y} p q = re
 }
 
 -- a stop in a text is one in that text with more after it
-pub writes_more : {T : Type 0} {a b : SinkState} {stop : WriteStop} {x : List ℕ} (y : List ℕ) → Writes {T = T} a b (Err stop) x → Writes {T = T} a b (Err stop) (x ++ y)
+pub writes_more : {T : Type 0} {a b : SinkState} {stop : WriteStop} {x : List ℕ} (y : List ℕ) → Writes {T = T} a b (Err stop) x →
+    Writes {T = T} a b (Err stop) (x ++ y)
 writes_more {a = a} {b = b} {x = x} y p = record {
   bytes = AppendsPrefix-more a.written b.written x y p.bytes;
   cause = p.cause;
@@ -99,7 +101,18 @@ writes_same {a = a} {b = b} {r = r} e p = let Goal : List ℕ → Type 0 = λ w.
 pub writes_nothing : {T : Type 0} (a : SinkState) (done : T) → Writes a a (Ok done) []
 writes_nothing a done = record {
   bytes = nothing a.written;
-  cause = record { later = omega arith; later_refusals = omega arith; failed = λ h. (cc); no_memory = λ h. (cc); no_fault = refl; no_refusal = refl; failed_alone = λ h. refl; wanted_alone = λ h. refl };
+  cause =
+      record {
+        later = omega arith;
+        later_refusals = omega arith;
+        failed = λ h. (cc);
+        no_memory = λ h.
+            (cc);
+        no_fault = refl;
+        no_refusal = refl;
+        failed_alone = λ h. refl;
+        wanted_alone = λ h. refl;
+      };
   stopped = refl;
 }
   where
@@ -108,7 +121,8 @@ writes_nothing a done = record {
     nothing (Some xs) = sym (append-nil xs)
 
 -- the texts of the items before one, its text, and the texts of those after it
-pub flat_map_around : {X : Type 0} (f : X → List ℕ) (xs : List X) (i : ℕ) (d : X) → i < length xs → (flat_map f (take i xs) ++ f (get_or xs i d)) ++ flat_map f (drop (suc i) xs) ≡ flat_map f xs
+pub flat_map_around : {X : Type 0} (f : X → List ℕ) (xs : List X) (i : ℕ) (d : X) → i < length xs →
+    (flat_map f (take i xs) ++ f (get_or xs i d)) ++ flat_map f (drop (suc i) xs) ≡ flat_map f xs
 flat_map_around f xs i d inside =
     append_assoc (flat_map f (take i xs)) (f (get_or xs i d)) (flat_map f (drop (suc i) xs))
     ∙ ap (λ w. flat_map f (take i xs) ++ w) (sym (flat_map-cons f (get_or xs i d) (drop (suc i) xs)))
@@ -117,5 +131,7 @@ flat_map_around f xs i d inside =
     ∙ ap (flat_map f) (take-append-drop i xs)
 
 -- a stop in the text of one item, after the texts of those before it
-pub writes_item : {T U X : Type 0} {a b c : SinkState} {stop : WriteStop} {done : U} (f : X → List ℕ) (xs : List X) (i : ℕ) (d : X) → i < length xs → Writes a b (Ok done) (flat_map f (take i xs)) → Writes {T = T} b c (Err stop) (f (get_or xs i d)) → Writes {T = T} a c (Err stop) (flat_map f xs)
-writes_item f xs i d inside so_far stopped = writes_same (flat_map_around f xs i d inside) (writes_more (flat_map f (drop (suc i) xs)) (writes_then so_far stopped))
+pub writes_item : {T U X : Type 0} {a b c : SinkState} {stop : WriteStop} {done : U} (f : X → List ℕ) (xs : List X) (i : ℕ) (d : X) → i < length xs →
+    Writes a b (Ok done) (flat_map f (take i xs)) → Writes {T = T} b c (Err stop) (f (get_or xs i d)) → Writes {T = T} a c (Err stop) (flat_map f xs)
+writes_item f xs i d inside so_far stopped =
+    writes_same (flat_map_around f xs i d inside) (writes_more (flat_map f (drop (suc i) xs)) (writes_then so_far stopped))

@@ -19,4 +19,5 @@ FileGives remaining None now given buf = Unit
 FileGives remaining (Some before) None given buf = ⊥
 FileGives remaining (Some before) (Some now) None buf = Keeps (remaining (stream_reader before)) (remaining (stream_reader now))
 FileGives remaining (Some before) (Some now) (Some count) buf =
-    Consumes (remaining (stream_reader before)) (remaining (stream_reader now)) (take count buf) × (count ≡ 0 → 0 < length buf → IsAtEnd (remaining (stream_reader now)))
+    Consumes (remaining (stream_reader before)) (remaining (stream_reader now)) (take count buf) ×
+    (count ≡ 0 → 0 < length buf → IsAtEnd (remaining (stream_reader now)))

@@ -40,9 +40,15 @@ module _ (C : Checker) (sheet other : Sheet) (m : other.lp.matrix ≡ sheet.lp.m
   stated_is (claims.Unbounded objective pair) (UnboundedBy steps printed lines) check says_so = by says_so.0 says_so.1.is_point says_so.1.is_direction
     where
       by : {o : ℚ} {z d : List ℚ} → o ≡ printed → z ≡ column_of 0 lines → d ≡ column_of 1 lines →
-          in_turn (in_turn (says C (unbounded_steps other.lp (value_at z) (value_at d)) ∷ asked (eq_ℚ o (value_at z other.lp.objective)) ∷ []) ∷ asked (C.takes check) ∷ [])
-          ≡ in_turn (in_turn (says C (unbounded_steps other.lp (value_at (column_of 0 lines)) (value_at (column_of 1 lines))) ∷ asked (eq_ℚ printed (value_at (column_of 0 lines) other.lp.objective)) ∷ []) ∷ asked (C.takes check) ∷ [])
-      by eo ez ed = λ i. in_turn (in_turn (says C (unbounded_steps other.lp (value_at (ez i)) (value_at (ed i))) ∷ asked (eq_ℚ (eo i) (value_at (ez i) other.lp.objective)) ∷ []) ∷ asked (C.takes check) ∷ [])
+          in_turn (in_turn (says C (unbounded_steps other.lp (value_at z) (value_at d)) ∷ asked (eq_ℚ o (value_at z other.lp.objective)) ∷ []) ∷ asked
+          (C.takes check) ∷ [])
+          ≡ in_turn (in_turn
+          (says C (unbounded_steps other.lp (value_at (column_of 0 lines)) (value_at (column_of 1 lines))) ∷ asked
+          (eq_ℚ printed (value_at (column_of 0 lines) other.lp.objective)) ∷ []) ∷ asked (C.takes check) ∷ [])
+      by eo ez ed =
+          λ i. in_turn
+          (in_turn (says C (unbounded_steps other.lp (value_at (ez i)) (value_at (ed i))) ∷ asked
+          (eq_ℚ (eo i) (value_at (ez i) other.lp.objective)) ∷ []) ∷ asked (C.takes check) ∷ [])
   stated_is claim verdict check says_so = absurd says_so
 
   -- the claim is tested, and then its word
@@ -52,7 +58,8 @@ module _ (C : Checker) (sheet other : Sheet) (m : other.lp.matrix ≡ sheet.lp.m
         subst (λ (v : Verdict). Stops stop v) (stated_is claim verdict check says_so)
         (stops_first stop (claim_test C other.lp claim) (in_turn (word_test C claim check ∷ [])) h)
 
-    pub word_stops : (stop : Stop) → claim_test C other.lp claim ≡ Checked → Stops stop (word_test C claim check) → Stops stop (verdict_test C other verdict check)
+    pub word_stops : (stop : Stop) → claim_test C other.lp claim ≡ Checked → Stops stop (word_test C claim check) →
+        Stops stop (verdict_test C other verdict check)
     word_stops stop passed h =
         subst (λ (v : Verdict). Stops stop v) (stated_is claim verdict check says_so)
         (stops_next stop (claim_test C other.lp claim) (in_turn (word_test C claim check ∷ [])) passed (stops_first stop (word_test C claim check) Checked h))
@@ -72,27 +79,33 @@ joined Checked (Unchecked refused) w = refl
 joined (Failed part number) v w = refl
 joined (Unchecked refused) v w = refl
 
-module _ (C : Checker) (sheet other : Sheet) (m : other.lp.matrix ≡ sheet.lp.matrix) (making : Verdict) (claim : declared.Claim) (verdict : PathVerdict) (check : Check) (says_so : Says sheet claim verdict) where
+module _ (C : Checker) (sheet other : Sheet) (m : other.lp.matrix ≡ sheet.lp.matrix) (making : Verdict) (claim : declared.Claim) (verdict : PathVerdict)
+    (check : Check) (says_so : Says sheet claim verdict) where
   abbrev opens : Verdict
   opens = in_turn (making ∷ claim_test C other.lp claim ∷ [])
 
   opened_is : followed_by opens (in_turn (word_test C claim check ∷ [])) ≡ in_turn (making ∷ verdict_test C other verdict check ∷ [])
   opened_is =
-      sym (joined making (claim_test C other.lp claim) (word_test C claim check)) ∙ ap (λ (v : Verdict). in_turn (making ∷ v ∷ [])) (stated_is C sheet other m claim verdict check says_so)
+      sym (joined making (claim_test C other.lp claim) (word_test C claim check))
+      ∙ ap (λ (v : Verdict). in_turn (making ∷ v ∷ [])) (stated_is C sheet other m claim verdict check says_so)
 
   pub opening_stops : (stop : Stop) → Stops stop opens → Stops stop (in_turn (making ∷ verdict_test C other verdict check ∷ []))
   opening_stops stop h = subst (λ (v : Verdict). Stops stop v) opened_is (stops_first stop opens (in_turn (word_test C claim check ∷ [])) h)
 
-  pub opening_word_stops : (stop : Stop) → opens ≡ Checked → Stops stop (word_test C claim check) → Stops stop (in_turn (making ∷ verdict_test C other verdict check ∷ []))
+  pub opening_word_stops : (stop : Stop) → opens ≡ Checked → Stops stop (word_test C claim check) →
+      Stops stop (in_turn (making ∷ verdict_test C other verdict check ∷ []))
   opening_word_stops stop passed h =
-      subst (λ (v : Verdict). Stops stop v) opened_is (stops_next stop opens (in_turn (word_test C claim check ∷ [])) passed (stops_first stop (word_test C claim check) Checked h))
+      subst (λ (v : Verdict). Stops stop v) opened_is
+      (stops_next stop opens (in_turn (word_test C claim check ∷ [])) passed (stops_first stop (word_test C claim check) Checked h))
 
   pub opening_passes : opens ≡ Checked → word_test C claim check ≡ Checked → in_turn (making ∷ verdict_test C other verdict check ∷ []) ≡ Checked
-  opening_passes passed also = sym opened_is ∙ both_pass opens (in_turn (word_test C claim check ∷ [])) passed (both_pass (word_test C claim check) Checked also refl)
+  opening_passes passed also =
+      sym opened_is ∙ both_pass opens (in_turn (word_test C claim check ∷ [])) passed (both_pass (word_test C claim check) Checked also refl)
 
 -- ---- what it comes to
 
-pub concluded : (sheet : Sheet) (claim : declared.Claim) (is_checked : Bool) (verdict : PathVerdict) (check : Check) → Says sheet claim verdict → is_checked ≡ says_checked check → conclusion_by claim is_checked ≡ conclusion_of verdict check
+pub concluded : (sheet : Sheet) (claim : declared.Claim) (is_checked : Bool) (verdict : PathVerdict) (check : Check) → Says sheet claim verdict →
+    is_checked ≡ says_checked check → conclusion_by claim is_checked ≡ conclusion_of verdict check
 concluded sheet (claims.Optimal objective) b (OptimalAt steps printed) check says_so e = λ i. Optimal (says_so i) (e i)
 concluded sheet (claims.Crossed k) b (CrossedAt number) check says_so e = refl
 concluded sheet (claims.Infeasible ray) b (InfeasibleBy steps lines) check says_so e = refl
@@ -112,9 +125,11 @@ family_matrix sheet (Row name) theta = refl
 family_matrix sheet (Set name) theta = refl
 
 -- the test of an interval that was read
-pub part_tested : (C : Checker) (sheet : Sheet) (changing : Changing) (is_first : Bool) (max from : ℚ) (part : Part) (interval : ParametricInterval) → IsPart sheet from part interval →
+pub part_tested : (C : Checker) (sheet : Sheet) (changing : Changing) (is_first : Bool) (max from : ℚ) (part : Part) (interval : ParametricInterval) →
+    IsPart sheet from part interval →
     part_verdict C sheet changing from part.to part.columns is_first max ≡ interval_test C sheet changing is_first max interval
 part_tested C sheet changing is_first max from part interval shows =
     let begins = sym shows.begins in
     let ends = sym shows.ends in
-    λ i. part_test C sheet changing (begins i) (ends i) (shows.columns.value i) (shows.columns.value_rate i) (shows.columns.price i) (shows.columns.price_rate i) is_first max
+    λ i. part_test C sheet changing (begins i) (ends i) (shows.columns.value i) (shows.columns.value_rate i) (shows.columns.price i)
+    (shows.columns.price_rate i) is_first max

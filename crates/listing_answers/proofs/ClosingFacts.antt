@@ -30,15 +30,25 @@ module _ (of : List ℕ → Option ℚ) (sheet : Sheet) (second : List ℕ → P
   end_first t e = record { answer = EndsAt t; is_found = ap (λ o. option_or o (second old)) e; shows = refl }
 
   module _ (last : List ℕ) (missing : (end_in of old ≡ None) × (new ≡ old)) where
-    end_second : (found : Option declared.Closing) → Found (Closes sheet) (second new) last found → Found (Closes sheet) (option_or (end_in of old) (second old)) last found
+    end_second : (found : Option declared.Closing) → Found (Closes sheet) (second new) last found →
+        Found (Closes sheet) (option_or (end_in of old) (second old)) last found
     end_second None none = ap (λ o. option_or o (second old)) missing.0 ∙ ap second (sym missing.1) ∙ none
-    end_second (Some closing) found = record { answer = found.answer; is_found = ap (λ o. option_or o (second old)) missing.0 ∙ ap second (sym missing.1) ∙ found.is_found; shows = found.shows }
+    end_second (Some closing) found =
+        record {
+          answer = found.answer;
+          is_found = ap (λ o. option_or o (second old)) missing.0 ∙ ap second (sym missing.1)
+              ∙ found.is_found;
+          shows = found.shows;
+        }
 
-    pub end_then : (result : Result (Option declared.Closing) NoMemory) → IfOk result (Found (Closes sheet) (second new) last) → IfOk result (Found (Closes sheet) (option_or (end_in of old) (second old)) last)
+    pub end_then : (result : Result (Option declared.Closing) NoMemory) → IfOk result (Found (Closes sheet) (second new) last) →
+        IfOk result (Found (Closes sheet) (option_or (end_in of old) (second old)) last)
     end_then (Ok found) h = end_second found h
     end_then (Err none) h = h
 
-pub close_taken : (of : List ℕ → Option ℚ) (sheet : Sheet) (changing : Changing) (old left : List ℕ) → left_after (solver_text (parametric_solver changing)) old ≡ Some left → close_in of sheet (parametric_solver changing) old ≡ close_after_in of sheet changing left
+pub close_taken : (of : List ℕ → Option ℚ) (sheet : Sheet) (changing : Changing) (old left : List ℕ) →
+    left_after (solver_text (parametric_solver changing)) old ≡ Some left →
+    close_in of sheet (parametric_solver changing) old ≡ close_after_in of sheet changing left
 close_taken of sheet (Row name) old left e = ap (option_and_then (close_after_in of sheet (Row name))) e
 close_taken of sheet (Set name) old left e = ap (option_and_then (close_after_in of sheet (Set name))) e
 
@@ -56,11 +66,13 @@ closing_value sheet (closings.Unbounded t pair) (UnboundedPast printed lines) cl
 closing_value sheet (closings.Infeasible t ray) (InfeasiblePast printed lines) closes = closes.0
 closing_value sheet closing end closes = absurd closes
 
-pub closing_tested : (C : Checker) (sheet : Sheet) (changing : Changing) (max last : ℚ) (closing : declared.Closing) (end : ChainEnd) → Closes sheet closing end → closing_test C sheet changing max last closing ≡ close_test C sheet changing max last end
+pub closing_tested : (C : Checker) (sheet : Sheet) (changing : Changing) (max last : ℚ) (closing : declared.Closing) (end : ChainEnd) →
+    Closes sheet closing end → closing_test C sheet changing max last closing ≡ close_test C sheet changing max last end
 closing_tested C sheet (Row name) max last (closings.At t) (EndsAt printed) closes = ap (λ t. in_turn (asked (eq_ℚ t last) ∷ asked (eq_ℚ t max) ∷ [])) closes
 closing_tested C sheet (Set name) max last (closings.At t) (EndsAt printed) closes = ap (λ t. in_turn (asked (eq_ℚ t last) ∷ asked (eq_ℚ t max) ∷ [])) closes
 closing_tested C sheet (Row name) max last (closings.Unbounded t pair) (UnboundedPast printed lines) closes =
-    λ i. past_test max last (closes.0 i) (unbounded_past C sheet (Row name) (row_of sheet.problem name) (closes.0 i) (value_at (closes.1.is_point i)) (value_at (closes.1.is_direction i)))
+    λ i. past_test max last (closes.0 i)
+    (unbounded_past C sheet (Row name) (row_of sheet.problem name) (closes.0 i) (value_at (closes.1.is_point i)) (value_at (closes.1.is_direction i)))
 closing_tested C sheet (Set name) max last (closings.Unbounded t pair) (UnboundedPast printed lines) closes = refl
 closing_tested C sheet (Row name) max last (closings.Infeasible t ray) (InfeasiblePast printed lines) closes = refl
 closing_tested C sheet (Set name) max last (closings.Infeasible t ray) (InfeasiblePast printed lines) closes =

@@ -23,7 +23,8 @@ module _ (C : Checker) (sheet : Sheet) (parametric_run : ParametricRun) (old : L
     opens : whole ≡ opening_in C sheet parametric_run old
     opens = ap (parametric_run_in C sheet parametric_run old) missing
 
-    pub parametric_run_opened : (mark : Mark) (new : List ℕ) → Taken IsOpened (opening_in C sheet parametric_run old) new (Ok mark) → Taken IsParametricRunAnswer whole new (Ok (Opened mark))
+    pub parametric_run_opened : (mark : Mark) (new : List ℕ) → Taken IsOpened (opening_in C sheet parametric_run old) new (Ok mark) →
+        Taken IsParametricRunAnswer whole new (Ok (Opened mark))
     parametric_run_opened mark new taken = record { answer = taken.answer; is_right = opens ∙ taken.is_right; shows = taken.shows }
 
     opening_stops : (stop : Stop) → IsStopped (opening_in C sheet parametric_run old) stop → IsStopped whole stop
@@ -31,7 +32,8 @@ module _ (C : Checker) (sheet : Sheet) (parametric_run : ParametricRun) (old : L
     opening_stops stops.Unchecked refused = opens ∙ refused
     opening_stops stops.NoMemory none = tt
 
-    pub parametric_run_opening_stops : (stop : Stop) (new : List ℕ) (result : Result ParametricRunAnswer Stop) → IsStopped (opening_in C sheet parametric_run old) stop → IsErrAnd result (λ y. y ≡ stop) → Taken IsParametricRunAnswer whole new result
+    pub parametric_run_opening_stops : (stop : Stop) (new : List ℕ) (result : Result ParametricRunAnswer Stop) →
+        IsStopped (opening_in C sheet parametric_run old) stop → IsErrAnd result (λ y. y ≡ stop) → Taken IsParametricRunAnswer whole new result
     parametric_run_opening_stops stop new result h handed = handed_on IsParametricRunAnswer whole new result stop (opening_stops stop h) handed
 
   module _ (after : List ℕ) (stands : left_after (parametric_run_head parametric_run) old ≡ Some after) where
@@ -53,5 +55,6 @@ module _ (C : Checker) (sheet : Sheet) (parametric_run : ParametricRun) (old : L
     run_stops stops.Unchecked refused = goes ∙ ap (judged_map (λ run. Chained [] run.0 run.1)) refused
     run_stops stops.NoMemory none = tt
 
-    pub parametric_run_stops : (stop : Stop) (new : List ℕ) (result : Result ParametricRunAnswer Stop) → IsStopped run stop → IsErrAnd result (λ y. y ≡ stop) → Taken IsParametricRunAnswer whole new result
+    pub parametric_run_stops : (stop : Stop) (new : List ℕ) (result : Result ParametricRunAnswer Stop) → IsStopped run stop → IsErrAnd result (λ y. y ≡ stop) →
+        Taken IsParametricRunAnswer whole new result
     parametric_run_stops stop new result h handed = handed_on IsParametricRunAnswer whole new result stop (run_stops stop h) handed

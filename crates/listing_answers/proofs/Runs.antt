@@ -25,7 +25,8 @@ after_none (Right run left) = refl
 after_none Fails = refl
 after_none Refuses = refl
 
-after_more : (intervals : List ParametricInterval) (interval : ParametricInterval) (rest : Judged Run) → after intervals (judged_map (λ run. (interval ∷ run.0, run.1)) rest) ≡ after (intervals ++ interval ∷ []) rest
+after_more : (intervals : List ParametricInterval) (interval : ParametricInterval) (rest : Judged Run) →
+    after intervals (judged_map (λ run. (interval ∷ run.0, run.1)) rest) ≡ after (intervals ++ interval ∷ []) rest
 after_more intervals interval (Right run left) = ap (λ all. Right (all, run.1) left) (sym (append_assoc intervals (interval ∷ []) run.0))
 after_more intervals interval Fails = refl
 after_more intervals interval Refuses = refl
@@ -48,14 +49,19 @@ module _ (C : Checker) (sheet : Sheet) (parametric_run : ParametricRun) where
 
   -- ---- the first interval
 
-  run_by_first : (byte : ℕ) (room rest : List ℕ) → run_in C sheet parametric_run (byte ∷ room) 1 parametric_run.from rest ≡ onward (run_in C sheet parametric_run room (1 + 1)) (first_in C sheet parametric_run rest)
+  run_by_first : (byte : ℕ) (room rest : List ℕ) →
+      run_in C sheet parametric_run (byte ∷ room) 1 parametric_run.from rest ≡ onward (run_in C sheet parametric_run room (1 + 1))
+      (first_in C sheet parametric_run rest)
   run_by_first byte room rest = by (left_after (codes "INTERVAL ") rest)
     where
-      by : (o : Option (List ℕ)) → part_in C sheet parametric_run (run_in C sheet parametric_run room (1 + 1)) 1 parametric_run.from rest o ≡ onward (run_in C sheet parametric_run room (1 + 1)) (first_by C sheet parametric_run rest o)
+      by : (o : Option (List ℕ)) →
+          part_in C sheet parametric_run (run_in C sheet parametric_run room (1 + 1)) 1 parametric_run.from rest o ≡ onward
+          (run_in C sheet parametric_run room (1 + 1)) (first_by C sheet parametric_run rest o)
       by None = refl
       by (Some left) = refl
 
-  pub run_begins : (bytes : List ℕ) (to : ℚ) (new : List ℕ) → Taken EndsPart (first_in C sheet parametric_run bytes) new (Ok to) → IsRunSoFar (run_in C sheet parametric_run bytes 1 parametric_run.from bytes) (drop 1 bytes) (1 + 1) to new
+  pub run_begins : (bytes : List ℕ) (to : ℚ) (new : List ℕ) → Taken EndsPart (first_in C sheet parametric_run bytes) new (Ok to) →
+      IsRunSoFar (run_in C sheet parametric_run bytes 1 parametric_run.from bytes) (drop 1 bytes) (1 + 1) to new
   run_begins [] to new taken = absurd (cc taken.is_right)
   run_begins (byte ∷ room) to new taken = record {
     intervals = taken.answer ∷ [];
@@ -66,7 +72,8 @@ module _ (C : Checker) (sheet : Sheet) (parametric_run : ParametricRun) where
         ∙ ap (λ t. after (taken.answer ∷ []) (run_in C sheet parametric_run room (1 + 1) t new)) (sym taken.shows);
   }
 
-  pub first_stops : (bytes : List ℕ) (stop : Stop) → IsStopped (first_in C sheet parametric_run bytes) stop → IsStopped (run_in C sheet parametric_run bytes 1 parametric_run.from bytes) stop
+  pub first_stops : (bytes : List ℕ) (stop : Stop) → IsStopped (first_in C sheet parametric_run bytes) stop →
+      IsStopped (run_in C sheet parametric_run bytes 1 parametric_run.from bytes) stop
   first_stops [] stops.Wrong wrong = refl
   first_stops [] stops.Unchecked refused = absurd (cc refused)
   first_stops [] stops.NoMemory none = tt
@@ -77,21 +84,28 @@ module _ (C : Checker) (sheet : Sheet) (parametric_run : ParametricRun) where
   -- ---- those after it
 
   -- each interval takes a byte of room
-  pub room_left : (whole : Judged Run) (bytes : List ℕ) (i : ℕ) (last : ℚ) (rest : List ℕ) → i < length bytes → IsRunSoFar whole (drop i bytes) (i + 1) last rest → IsRunSoFar whole (get_or bytes i 0 ∷ drop (i + 1) bytes) (i + 1) last rest
+  pub room_left : (whole : Judged Run) (bytes : List ℕ) (i : ℕ) (last : ℚ) (rest : List ℕ) → i < length bytes →
+      IsRunSoFar whole (drop i bytes) (i + 1) last rest → IsRunSoFar whole (get_or bytes i 0 ∷ drop (i + 1) bytes) (i + 1) last rest
   room_left whole bytes i last rest below so_far =
-      subst (λ (room : List ℕ). IsRunSoFar whole room (i + 1) last rest) (drop-cons bytes i 0 below ∙ ap (λ j. get_or bytes i 0 ∷ drop j bytes) (sym (add-one i))) so_far
+      subst (λ (room : List ℕ). IsRunSoFar whole room (i + 1) last rest)
+      (drop-cons bytes i 0 below ∙ ap (λ j. get_or bytes i 0 ∷ drop j bytes) (sym (add-one i))) so_far
 
   abbrev part_judged : ℕ → ℚ → List ℕ → Judged ParametricInterval
-  part_judged number last rest = tested_by C (interval_test C sheet parametric_run.changing (nat_eq number 1) parametric_run.to) (λ of. interval_in of sheet number last) rest
+  part_judged number last rest =
+      tested_by C (interval_test C sheet parametric_run.changing (nat_eq number 1) parametric_run.to) (λ of. interval_in of sheet number last) rest
 
   abbrev close_judged : ℚ → List ℕ → Judged ChainEnd
-  close_judged last rest = tested_by C (close_test C sheet parametric_run.changing parametric_run.to last) (λ of. close_in of sheet (parametric_solver parametric_run.changing)) rest
+  close_judged last rest =
+      tested_by C (close_test C sheet parametric_run.changing parametric_run.to last) (λ of. close_in of sheet (parametric_solver parametric_run.changing)) rest
 
-  module _ (whole : Judged Run) (byte : ℕ) (room : List ℕ) (number : ℕ) (last : ℚ) (rest : List ℕ) (so_far : IsRunSoFar whole (byte ∷ room) number last rest) where
+  module _ (whole : Judged Run) (byte : ℕ) (room : List ℕ) (number : ℕ) (last : ℚ) (rest : List ℕ)
+      (so_far : IsRunSoFar whole (byte ∷ room) number last rest) where
     -- an interval stands here
     module _ (left : List ℕ) (stands : left_after (codes "INTERVAL ") rest ≡ Some left) where
       here : whole ≡ after so_far.intervals (onward (run_in C sheet parametric_run room (number + 1)) (part_judged number last rest))
-      here = so_far.decides ∙ ap (λ o. after so_far.intervals (part_in C sheet parametric_run (run_in C sheet parametric_run room (number + 1)) number last rest o)) stands
+      here =
+          so_far.decides
+          ∙ ap (λ o. after so_far.intervals (part_in C sheet parametric_run (run_in C sheet parametric_run room (number + 1)) number last rest o)) stands
 
       pub run_goes_on : (to : ℚ) (new : List ℕ) → Taken EndsPart (part_judged number last rest) new (Ok to) → IsRunSoFar whole room (number + 1) to new
       run_goes_on to new taken = record {
@@ -107,20 +121,24 @@ module _ (C : Checker) (sheet : Sheet) (parametric_run : ParametricRun) where
       stops_by stops.Unchecked refused = here ∙ ap (λ j. after so_far.intervals (onward (run_in C sheet parametric_run room (number + 1)) j)) refused
       stops_by stops.NoMemory none = tt
 
-      pub run_stops : (stop : Stop) (new : List ℕ) (result : Result ℚ Stop) → IsStopped (part_judged number last rest) stop → IsErrAnd result (λ y. y ≡ stop) → Taken EndsRun whole new result
+      pub run_stops : (stop : Stop) (new : List ℕ) (result : Result ℚ Stop) → IsStopped (part_judged number last rest) stop → IsErrAnd result (λ y. y ≡ stop) →
+          Taken EndsRun whole new result
       run_stops stop new result h handed = handed_on EndsRun whole new result stop (stops_by stop h) handed
 
     -- none stands here
     module _ (missing : left_after (codes "INTERVAL ") rest ≡ None) where
       over : whole ≡ after so_far.intervals (if nat_eq number 1 then Fails else judged_map (λ end. ([], end)) (close_judged last rest))
-      over = so_far.decides ∙ ap (λ o. after so_far.intervals (part_in C sheet parametric_run (run_in C sheet parametric_run room (number + 1)) number last rest o)) missing
+      over =
+          so_far.decides
+          ∙ ap (λ o. after so_far.intervals (part_in C sheet parametric_run (run_in C sheet parametric_run room (number + 1)) number last rest o)) missing
 
       closing : 1 < number → whole ≡ after so_far.intervals (judged_map (λ end. ([], end)) (close_judged last rest))
       closing later =
           let is : nat_eq number 1 ≡ false = grind (arith, nat_tests, later) in
           over ∙ ap (λ b. after so_far.intervals (if b then Fails else judged_map (λ end. ([], end)) (close_judged last rest))) is
 
-      pub run_closes : 1 < number → (new : List ℕ) (result : Result ℚ Stop) → Taken EndsChain (close_judged last rest) new result → Taken EndsRun whole new result
+      pub run_closes : 1 < number → (new : List ℕ) (result : Result ℚ Stop) → Taken EndsChain (close_judged last rest) new result →
+          Taken EndsRun whole new result
       run_closes later new (Ok x) taken = record {
         answer = (so_far.intervals ++ [], taken.answer);
         is_right = closing later ∙ ap (λ j. after so_far.intervals (judged_map (λ end. ([], end)) j)) taken.is_right;

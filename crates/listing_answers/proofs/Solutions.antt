@@ -21,22 +21,30 @@ use Rattle.listing_answers.specs.Solutions.{rows_head, columns_head, AreLines, I
 use Rattle.listing_answers.proofs.Tables.{column_is}
 
 abbrev with_columns : (List ℕ → Option ℚ) → (sheet : Sheet) → List Line × List ℕ → Parsed SolutionLines
-with_columns of sheet got = option_map (λ more. (record { rows = got.0; columns = more.0 }, more.1)) (with_text columns_head (table_in of sheet (column_slots sheet) (column_numbers sheet.lp)) got.1)
+with_columns of sheet got =
+    option_map (λ more. (record { rows = got.0; columns = more.0 }, more.1))
+    (with_text columns_head (table_in of sheet (column_slots sheet) (column_numbers sheet.lp)) got.1)
 
-pub solution_read : (of : List ℕ → Option ℚ) (sheet : Sheet) (mark : Mark) (old first middle second new : List ℕ) (rows columns : List Line) → left_after (rows_head mark) old ≡ Some first → table_in of sheet (row_slots sheet) (row_numbers sheet.lp) first ≡ Some (rows, middle) →
-    left_after columns_head middle ≡ Some second → table_in of sheet (column_slots sheet) (column_numbers sheet.lp) second ≡ Some (columns, new) → solution_in of sheet mark old ≡ Some (record { rows = rows; columns = columns }, new)
+pub solution_read : (of : List ℕ → Option ℚ) (sheet : Sheet) (mark : Mark) (old first middle second new : List ℕ) (rows columns : List Line) →
+    left_after (rows_head mark) old ≡ Some first → table_in of sheet (row_slots sheet) (row_numbers sheet.lp) first ≡ Some (rows, middle) →
+    left_after columns_head middle ≡ Some second → table_in of sheet (column_slots sheet) (column_numbers sheet.lp) second ≡ Some (columns, new) →
+    solution_in of sheet mark old ≡ Some (record { rows = rows; columns = columns }, new)
 solution_read of sheet mark old first middle second new rows columns head are_rows heads are_columns =
     ap (option_and_then (with_columns of sheet)) (ap (option_and_then (table_in of sheet (row_slots sheet) (row_numbers sheet.lp))) head ∙ are_rows)
-    ∙ ap (option_map {U = SolutionLines × List ℕ} (λ more. (record { rows = rows; columns = more.0 }, more.1))) (ap (option_and_then (table_in of sheet (column_slots sheet) (column_numbers sheet.lp))) heads ∙ are_columns)
+    ∙ ap (option_map {U = SolutionLines × List ℕ} (λ more. (record { rows = rows; columns = more.0 }, more.1)))
+    (ap (option_and_then (table_in of sheet (column_slots sheet) (column_numbers sheet.lp))) heads ∙ are_columns)
 
-module _ (sheet : Sheet) (read : Lines) (lines : SolutionLines) (printed : Printed) (are : AreLines sheet read lines) (is : IsPrinted read.rows.items read.columns.items printed) where
+module _ (sheet : Sheet) (read : Lines) (lines : SolutionLines) (printed : Printed) (are : AreLines sheet read lines)
+    (is : IsPrinted read.rows.items read.columns.items printed) where
   pub printed_shows : Shows printed lines
   printed_shows = record {
     point =
-        is.point ∙ ap₂ (λ a b. a ++ b) (column_is Row (λ n. n.first) read.rows.items lines.rows _ are.rows refl) (column_is Column (λ n. n.first) read.columns.items lines.columns _ are.columns refl)
+        is.point ∙ ap₂ (λ a b. a ++ b) (column_is Row (λ n. n.first) read.rows.items lines.rows _ are.rows refl)
+        (column_is Column (λ n. n.first) read.columns.items lines.columns _ are.columns refl)
         ∙ sym (map-append (number_at 1) lines.rows lines.columns);
     prices =
-        is.prices ∙ ap₂ (λ a b. a ++ b) (column_is Row (λ n. n.second) read.rows.items lines.rows _ are.rows refl) (column_is Column (λ n. n.second) read.columns.items lines.columns _ are.columns refl)
+        is.prices ∙ ap₂ (λ a b. a ++ b) (column_is Row (λ n. n.second) read.rows.items lines.rows _ are.rows refl)
+        (column_is Column (λ n. n.second) read.columns.items lines.columns _ are.columns refl)
         ∙ sym (map-append (number_at 5) lines.rows lines.columns);
     slacks = is.slacks ∙ column_is Row (λ n. n.third) read.rows.items lines.rows _ are.rows refl;
   }
@@ -53,4 +61,5 @@ module _ (sheet : Sheet) (read : Lines) (lines : SolutionLines) (printed : Print
 
 pub printed_tested : (C : Checker) (sheet : Sheet) (mark : Mark) (printed : Printed) (lines : SolutionLines) → Shows printed lines →
     printed_test C sheet mark (value_at printed.point.items) (value_at printed.prices.items) (value_at printed.slacks.items) ≡ solution_test C sheet mark lines
-printed_tested C sheet mark printed lines shows = λ i. printed_test C sheet mark (value_at (shows.point i)) (value_at (shows.prices i)) (value_at (shows.slacks i))
+printed_tested C sheet mark printed lines shows =
+    λ i. printed_test C sheet mark (value_at (shows.point i)) (value_at (shows.prices i)) (value_at (shows.slacks i))

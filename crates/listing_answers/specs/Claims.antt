@@ -41,7 +41,8 @@ pub record IsPair (sheet : Sheet) (pair : Pair) (lines : List Line) : Type 0 whe
 
 abbrev pub IsPairRead : (List ℕ → Option ℚ) → Sheet → List ℕ → List ℕ → Option Pair → Type 0
 IsPairRead of sheet old new None = table_in of sheet pair_slots (variables sheet.lp.matrix) old ≡ None
-IsPairRead of sheet old new (Some pair) = (lines : List Line) × (table_in of sheet pair_slots (variables sheet.lp.matrix) old ≡ Some (lines, new)) × IsPair sheet pair lines
+IsPairRead of sheet old new (Some pair) =
+    (lines : List Line) × (table_in of sheet pair_slots (variables sheet.lp.matrix) old ≡ Some (lines, new)) × IsPair sheet pair lines
 
 abbrev pub Says : Sheet → declared.Claim → PathVerdict → Type 0
 Says sheet (claims.Optimal objective) (OptimalAt steps printed) = objective ≡ printed

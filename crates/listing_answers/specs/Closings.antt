@@ -35,10 +35,14 @@ module _ (of : List ℕ → Option ℚ) where
 
   module _ (sheet : Sheet) where
     abbrev pub unbounded_in : List ℕ → Parsed ChainEnd
-    unbounded_in = value_line_in (codes " UNBOUNDED PAST ") (λ t after. option_map (λ got. (UnboundedPast t got.0, got.1)) (table_in of sheet pair_slots (variables sheet.lp.matrix) after))
+    unbounded_in =
+        value_line_in (codes " UNBOUNDED PAST ")
+        (λ t after. option_map (λ got. (UnboundedPast t got.0, got.1)) (table_in of sheet pair_slots (variables sheet.lp.matrix) after))
 
     abbrev pub infeasible_in : List ℕ → Parsed ChainEnd
-    infeasible_in = value_line_in (codes " INFEASIBLE PAST ") (λ t after. option_map (λ got. (InfeasiblePast t got.0, got.1)) (ray_in of sheet (variables sheet.lp.matrix) after))
+    infeasible_in =
+        value_line_in (codes " INFEASIBLE PAST ")
+        (λ t after. option_map (λ got. (InfeasiblePast t got.0, got.1)) (ray_in of sheet (variables sheet.lp.matrix) after))
 
     -- a run of the objective may go past its end unbounded, and one of the right-hand side infeasible
     abbrev pub past_in : Changing → List ℕ → Parsed ChainEnd

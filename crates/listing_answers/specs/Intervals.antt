@@ -41,7 +41,8 @@ module _ (of : List ℕ → Option ℚ) where
 
   abbrev pub AreColumnsRead : Sheet → List ℕ → List ℕ → Option Columns → Type 0
   AreColumnsRead sheet old new None = table_in of sheet part_slots (variables sheet.lp.matrix) old ≡ None
-  AreColumnsRead sheet old new (Some columns) = (lines : List Line) × (table_in of sheet part_slots (variables sheet.lp.matrix) old ≡ Some (lines, new)) × AreColumns sheet columns lines
+  AreColumnsRead sheet old new (Some columns) =
+      (lines : List Line) × (table_in of sheet part_slots (variables sheet.lp.matrix) old ≡ Some (lines, new)) × AreColumns sheet columns lines
 
 pub record IsPart (sheet : Sheet) (from : ℚ) (part : Part) (interval : ParametricInterval) : Type 0 where
   pub begins : interval.from ≡ from
@@ -52,7 +53,8 @@ pub record IsPart (sheet : Sheet) (from : ℚ) (part : Part) (interval : Paramet
 module _ (C : Checker) (sheet : Sheet) (parametric_run : ParametricRun) where
   abbrev pub first_by : List ℕ → Option (List ℕ) → Judged ParametricInterval
   first_by rest None = Fails
-  first_by rest (Some after) = tested_by C (interval_test C sheet parametric_run.changing (nat_eq 1 1) parametric_run.to) (λ of. interval_in of sheet 1 parametric_run.from) rest
+  first_by rest (Some after) =
+      tested_by C (interval_test C sheet parametric_run.changing (nat_eq 1 1) parametric_run.to) (λ of. interval_in of sheet 1 parametric_run.from) rest
 
   abbrev pub first_in : List ℕ → Judged ParametricInterval
   first_in rest = first_by rest (left_after (codes "INTERVAL ") rest)

@@ -32,7 +32,9 @@ labelled text of rest = with_text text (with_word of (λ x left. Some (x, left))
 
 abbrev pub refusal_in : List ℕ → Parsed Refused
 refusal_in = with_text (codes "UNCHECKED ") (with_word (named all_operations) (λ op. with_text (codes " ") (with_word (fraction_in checker_of_128_bits) (λ left.
-    with_text (codes " ") (with_word (fraction_in checker_of_128_bits) (λ right. with_text (codes "\n") (λ rest. Some (record { op = op; left = left; right = right }, rest))))))))
+    with_text (codes " ")
+    (with_word (fraction_in checker_of_128_bits)
+    (λ right. with_text (codes "\n") (λ rest. Some (record { op = op; left = left; right = right }, rest))))))))
 
 -- whatever is read after it
 pub record IsCheck (reading : (Check → List ℕ → Parsed Claim) → List ℕ → Parsed Claim) (old new : List ℕ) (is_checked : Bool) : Type 0 where
@@ -54,7 +56,9 @@ IsCheckAfter text = IsCheckIn (λ next. with_text text (with_check next))
 
 -- a number of steps, and the word of the check of a ray
 abbrev pub ray_head_in : (ℕ → Check → List ℕ → Parsed Claim) → List ℕ → Parsed Claim
-ray_head_in next = with_text (codes "INFEASIBLE STEPS ") (with_word (count_in max_count) (λ steps. with_text (codes " RAY ") (with_check (λ check rest. next steps check rest))))
+ray_head_in next =
+    with_text (codes "INFEASIBLE STEPS ")
+    (with_word (count_in max_count) (λ steps. with_text (codes " RAY ") (with_check (λ check rest. next steps check rest))))
 
 pub record IsRayHead (old new : List ℕ) (is_checked : Bool) : Type 0 where
   pub steps : ℕ

@@ -77,7 +77,9 @@ pub fn answer_to_path<'a, T: Checks>(
     requires sheet { IsSheet sheet }
     requires lawful { IsLinearProgram sheet.lp.now }
     requires no_change { sheet.lp.now.change ≡ None }
-    ensures { (limit : Option ℕ) → Taken IsConclusion (judged T.checker (OfPath solver limit) (sheet_view sheet.entry) cursor.old)
+    ensures { (limit : Option ℕ) →
+        Taken IsConclusion
+        (judged T.checker (OfPath solver limit) (sheet_view sheet.entry) cursor.old)
         cursor.new result }
 {
     let stated = verdict::<T>(alloc, cursor, sheet, solver)?;
@@ -96,7 +98,9 @@ pub fn answer_to_solution<'a, T: Checks>(
     requires sheet { IsSheet sheet }
     requires lawful { IsLinearProgram sheet.lp.now }
     requires no_change { sheet.lp.now.change ≡ None }
-    ensures { Taken (λ objective lines. objective ≡ point_of (sheet_view sheet.entry) lines sheet.entry.lp.now.objective)
+    ensures { Taken
+        (λ objective lines. objective ≡
+        point_of (sheet_view sheet.entry) lines sheet.entry.lp.now.objective)
         (judged T.checker (OfSolution mark) (sheet_view sheet.entry) cursor.old) cursor.new result }
 {
     let lines = solution_lines::<T>(alloc, cursor, sheet, mark)?;
@@ -116,7 +120,10 @@ pub fn answer_to_parametric_run<'a, T: Checks>(
     requires lawful { IsLinearProgram sheet.lp.now }
     requires no_change { sheet.lp.now.change ≡ None }
     requires serves { ServesChange sheet.problem.now sheet.lp.now request.now.name request.now.change }
-    ensures { (limit : ℕ) → Taken IsParametricRunAnswer (judged T.checker (OfParametricRun (parametric_run_of limit request.now)) (sheet_view sheet.entry) cursor.old)
+    ensures { (limit : ℕ) →
+        Taken IsParametricRunAnswer
+        (judged T.checker (OfParametricRun (parametric_run_of limit request.now))
+        (sheet_view sheet.entry) cursor.old)
         cursor.new result }
 {
     let mut ahead = Cursor::new(cursor.left());

@@ -41,7 +41,8 @@ pub fn read_pair<'a, T: Checks>(
     sheet: Sheet<'_>,
 ) -> Result<Option<Pair<'a>>, NoMemory>
     requires { IsSheet sheet }
-    ensures { IfOk result (IsPairRead (number_in T.checker by) (sheet_view sheet.entry) cursor.old cursor.new) }
+    ensures { IfOk result
+        (IsPairRead (number_in T.checker by) (sheet_view sheet.entry) cursor.old cursor.new) }
 {
     let count = sheet.lp.number_of_variables();
     let Some(numbers) = table::<T>(alloc, cursor, by, sheet, Shape::Pair, 0, count)? else {
@@ -59,7 +60,9 @@ fn optimal<'a, T: Checks>(
     by: By,
     sheet: Sheet<'_>,
 ) -> Result<Option<Stated<'a>>, NoMemory>
-    ensures { IfOk result (Found (IsStated (sheet_view sheet.entry)) (optimal_in (number_in T.checker by) (sheet_view sheet.entry) cursor.old) cursor.new) }
+    ensures { IfOk result
+        (Found (IsStated (sheet_view sheet.entry))
+        (optimal_in (number_in T.checker by) (sheet_view sheet.entry) cursor.old) cursor.new) }
 {
     let Some(head) = read_head::<T>(alloc, cursor, by, b"OPTIMAL STEPS ")? else {
         return Ok(None);
@@ -72,7 +75,8 @@ fn optimal<'a, T: Checks>(
 
 // That limits are crossed.
 fn crossed<'a>(cursor: &mut Cursor<'a>, sheet: Sheet<'_>) -> Option<Stated<'a>>
-    ensures { Found (IsStated (sheet_view sheet.entry)) (crossed_in (sheet_view sheet.entry) cursor.old) cursor.new result }
+    ensures { Found (IsStated (sheet_view sheet.entry))
+        (crossed_in (sheet_view sheet.entry) cursor.old) cursor.new result }
 {
     let size = sheet.lp.number_of_variables();
     let k = count_after(cursor, b"INFEASIBLE STEPS 0 CROSSED ", size)?;
@@ -102,7 +106,9 @@ fn infeasible<'a, T: Checks>(
     sheet: Sheet<'_>,
 ) -> Result<Option<Stated<'a>>, NoMemory>
     requires { IsSheet sheet }
-    ensures { IfOk result (Found (IsStated (sheet_view sheet.entry)) (infeasible_in (number_in T.checker by) (sheet_view sheet.entry) cursor.old) cursor.new) }
+    ensures { IfOk result
+        (Found (IsStated (sheet_view sheet.entry))
+        (infeasible_in (number_in T.checker by) (sheet_view sheet.entry) cursor.old) cursor.new) }
 {
     let Some(is_checked) = ray_head(cursor) else {
         return Ok(None);
@@ -124,7 +130,9 @@ fn unbounded<'a, T: Checks>(
     sheet: Sheet<'_>,
 ) -> Result<Option<Stated<'a>>, NoMemory>
     requires { IsSheet sheet }
-    ensures { IfOk result (Found (IsStated (sheet_view sheet.entry)) (unbounded_in (number_in T.checker by) (sheet_view sheet.entry) cursor.old) cursor.new) }
+    ensures { IfOk result
+        (Found (IsStated (sheet_view sheet.entry))
+        (unbounded_in (number_in T.checker by) (sheet_view sheet.entry) cursor.old) cursor.new) }
 {
     let Some(head) = read_head::<T>(alloc, cursor, by, b"UNBOUNDED STEPS ")? else {
         return Ok(None);
@@ -147,7 +155,9 @@ fn try_optimal<'a, T: Checks>(
     by: By,
     sheet: Sheet<'_>,
 ) -> Result<Option<Stated<'a>>, NoMemory>
-    ensures { IfOk result (Tried (sheet_view sheet.entry) (optimal_in (number_in T.checker by)) cursor.old cursor.new) }
+    ensures { IfOk result
+        (Tried (sheet_view sheet.entry)
+        (optimal_in (number_in T.checker by)) cursor.old cursor.new) }
 {
     let mut ahead = Cursor::new(cursor.left());
     let Some(stated) = optimal::<T>(alloc, &mut ahead, by, sheet)? else {
@@ -175,7 +185,9 @@ fn try_infeasible<'a, T: Checks>(
     sheet: Sheet<'_>,
 ) -> Result<Option<Stated<'a>>, NoMemory>
     requires { IsSheet sheet }
-    ensures { IfOk result (Tried (sheet_view sheet.entry) (infeasible_in (number_in T.checker by)) cursor.old cursor.new) }
+    ensures { IfOk result
+        (Tried (sheet_view sheet.entry)
+        (infeasible_in (number_in T.checker by)) cursor.old cursor.new) }
 {
     let mut ahead = Cursor::new(cursor.left());
     let Some(stated) = infeasible::<T>(alloc, &mut ahead, by, sheet)? else {
@@ -193,7 +205,9 @@ fn try_optimum<'a, T: Checks>(
     sheet: Sheet<'_>,
     solver: Solver,
 ) -> Result<Option<Stated<'a>>, NoMemory>
-    ensures { IfOk result (Tried (sheet_view sheet.entry) (λ sheet. optimum_in (number_in T.checker by) sheet solver) cursor.old cursor.new) }
+    ensures { IfOk result
+        (Tried (sheet_view sheet.entry)
+        (λ sheet. optimum_in (number_in T.checker by) sheet solver) cursor.old cursor.new) }
 {
     match solver {
         Solver::Primal | Solver::Dual => try_optimal::<T>(alloc, cursor, by, sheet),
@@ -209,7 +223,9 @@ fn infeasible_or_unbounded<'a, T: Checks>(
     sheet: Sheet<'_>,
 ) -> Result<Option<Stated<'a>>, NoMemory>
     requires { IsSheet sheet }
-    ensures { IfOk result (Found (IsStated (sheet_view sheet.entry)) (option_or (infeasible_in (number_in T.checker by) (sheet_view sheet.entry) cursor.old)
+    ensures { IfOk result
+        (Found (IsStated (sheet_view sheet.entry))
+        (option_or (infeasible_in (number_in T.checker by) (sheet_view sheet.entry) cursor.old)
         (unbounded_in (number_in T.checker by) (sheet_view sheet.entry) cursor.old)) cursor.new) }
 {
     if let Some(stated) = try_infeasible::<T>(alloc, cursor, by, sheet)? {
@@ -227,7 +243,9 @@ fn shown<'a, T: Checks>(
     solver: Solver,
 ) -> Result<Option<Stated<'a>>, NoMemory>
     requires { IsSheet sheet }
-    ensures { IfOk result (Found (IsStated (sheet_view sheet.entry)) (shown_in (number_in T.checker by) (sheet_view sheet.entry) solver cursor.old) cursor.new) }
+    ensures { IfOk result
+        (Found (IsStated (sheet_view sheet.entry))
+        (shown_in (number_in T.checker by) (sheet_view sheet.entry) solver cursor.old) cursor.new) }
 {
     match solver {
         Solver::Dual => infeasible::<T>(alloc, cursor, by, sheet),
@@ -246,7 +264,9 @@ fn read_claim<'a, T: Checks>(
     solver: Solver,
 ) -> Result<Option<Stated<'a>>, NoMemory>
     requires { IsSheet sheet }
-    ensures { IfOk result (Found (IsStated (sheet_view sheet.entry)) (claim_in (number_in T.checker by) (sheet_view sheet.entry) solver cursor.old) cursor.new) }
+    ensures { IfOk result
+        (Found (IsStated (sheet_view sheet.entry))
+        (claim_in (number_in T.checker by) (sheet_view sheet.entry) solver cursor.old) cursor.new) }
 {
     if let Some(stated) = try_optimum::<T>(alloc, cursor, by, sheet, solver)? {
         return Ok(Some(stated));
@@ -274,7 +294,10 @@ fn read_verdict<'a, T: Checks>(
     solver: Solver,
 ) -> Result<Option<Stated<'a>>, NoMemory>
     requires { IsSheet sheet }
-    ensures { IfOk result (Found (IsStated (sheet_view sheet.entry)) (verdict_in (number_in T.checker by) (sheet_view sheet.entry) solver cursor.old) cursor.new) }
+    ensures { IfOk result
+        (Found (IsStated (sheet_view sheet.entry))
+        (verdict_in (number_in T.checker by)
+        (sheet_view sheet.entry) solver cursor.old) cursor.new) }
 {
     if !take_solver(cursor, solver) {
         return Ok(None);
@@ -290,7 +313,8 @@ pub fn verdict<'a, T: Checks>(
     solver: Solver,
 ) -> Result<Stated<'a>, Stop>
     requires { IsSheet sheet }
-    ensures { IsReadBy (IsStated (sheet_view sheet.entry)) T.checker (λ of. verdict_in of (sheet_view sheet.entry) solver) cursor.old cursor.new result }
+    ensures { IsReadBy (IsStated (sheet_view sheet.entry)) T.checker
+        (λ of. verdict_in of (sheet_view sheet.entry) solver) cursor.old cursor.new result }
 {
     let start = cursor.left();
     if let Some(stated) = read_verdict::<T>(alloc, cursor, By::Value, sheet, solver)? {
@@ -306,7 +330,8 @@ pub fn verdict<'a, T: Checks>(
 
 // Whether a claim may be printed with the word of its check.
 fn may_stand<T: Checks>(stated: &Stated<'_>) -> bool
-    ensures { (check : Check) → says_checked check ≡ stated.now.is_checked → word_holds T.checker stated.now.claim check ≡ result }
+    ensures { (check : Check) → says_checked check ≡ stated.now.is_checked →
+        word_holds T.checker stated.now.claim check ≡ result }
 {
     match &stated.claim {
         Claim::Optimal(_) => true,
@@ -318,7 +343,8 @@ fn may_stand<T: Checks>(stated: &Stated<'_>) -> bool
 
 /// Goes on where a claim may be printed with the word of its check. An optimal one is tested where SOLUTION shows it.
 pub fn take_word<T: Checks>(stated: &Stated<'_>) -> Result<(), Stop>
-    ensures { (check : Check) → says_checked check ≡ stated.now.is_checked → Judges (word_test T.checker stated.now.claim check) result }
+    ensures { (check : Check) → says_checked check ≡ stated.now.is_checked →
+        Judges (word_test T.checker stated.now.claim check) result }
 {
     if may_stand::<T>(stated) {
         Ok(())

@@ -67,7 +67,9 @@ fn unbounded_past<'a, T: Checks>(
     sheet: Sheet<'_>,
 ) -> Result<Option<Closing<'a>>, NoMemory>
     requires { IsSheet sheet }
-    ensures { IfOk result (Found (Closes (sheet_view sheet.entry)) (unbounded_in (number_in T.checker by) (sheet_view sheet.entry) cursor.old) cursor.new) }
+    ensures { IfOk result
+        (Found (Closes (sheet_view sheet.entry))
+        (unbounded_in (number_in T.checker by) (sheet_view sheet.entry) cursor.old) cursor.new) }
 {
     let Some(value) = value_line::<T>(alloc, cursor, by, b" UNBOUNDED PAST ")? else {
         return Ok(None);
@@ -86,7 +88,9 @@ fn infeasible_past<'a, T: Checks>(
     sheet: Sheet<'_>,
 ) -> Result<Option<Closing<'a>>, NoMemory>
     requires { IsSheet sheet }
-    ensures { IfOk result (Found (Closes (sheet_view sheet.entry)) (infeasible_in (number_in T.checker by) (sheet_view sheet.entry) cursor.old) cursor.new) }
+    ensures { IfOk result
+        (Found (Closes (sheet_view sheet.entry))
+        (infeasible_in (number_in T.checker by) (sheet_view sheet.entry) cursor.old) cursor.new) }
 {
     let Some(value) = value_line::<T>(alloc, cursor, by, b" INFEASIBLE PAST ")? else {
         return Ok(None);
@@ -106,7 +110,9 @@ fn past<'a, T: Checks>(
     request: &AskedRun<'_>,
 ) -> Result<Option<Closing<'a>>, NoMemory>
     requires { IsSheet sheet }
-    ensures { IfOk result (Found (Closes (sheet_view sheet.entry)) (past_in (number_in T.checker by) (sheet_view sheet.entry)
+    ensures { IfOk result
+        (Found (Closes (sheet_view sheet.entry))
+        (past_in (number_in T.checker by) (sheet_view sheet.entry)
         (changing_of request.now.name request.now.change) cursor.old) cursor.new) }
 {
     match &request.change {
@@ -124,7 +130,9 @@ fn close_after<'a, T: Checks>(
     request: &AskedRun<'_>,
 ) -> Result<Option<Closing<'a>>, NoMemory>
     requires { IsSheet sheet }
-    ensures { IfOk result (Found (Closes (sheet_view sheet.entry)) (close_after_in (number_in T.checker by) (sheet_view sheet.entry)
+    ensures { IfOk result
+        (Found (Closes (sheet_view sheet.entry))
+        (close_after_in (number_in T.checker by) (sheet_view sheet.entry)
         (changing_of request.now.name request.now.change) cursor.old) cursor.new) }
 {
     if let Some(value) = try_end::<T>(alloc, cursor, by)? {
@@ -142,7 +150,9 @@ fn read_closing<'a, T: Checks>(
     request: &AskedRun<'_>,
 ) -> Result<Option<Closing<'a>>, NoMemory>
     requires { IsSheet sheet }
-    ensures { IfOk result (Found (Closes (sheet_view sheet.entry)) (close_in (number_in T.checker by) (sheet_view sheet.entry) (parametric_solver
+    ensures { IfOk result
+        (Found (Closes (sheet_view sheet.entry))
+        (close_in (number_in T.checker by) (sheet_view sheet.entry) (parametric_solver
         (changing_of request.now.name request.now.change)) cursor.old) cursor.new) }
 {
     if !cursor.take(solver_word(solver_of(request))) {
@@ -160,7 +170,8 @@ fn run_closing<'a, T: Checks>(
 ) -> Result<Closing<'a>, Stop>
     requires { IsSheet sheet }
     ensures { let solver = parametric_solver (changing_of request.now.name request.now.change) in
-        IsReadBy (Closes (sheet_view sheet.entry)) T.checker (λ of. close_in of (sheet_view sheet.entry) solver) cursor.old cursor.new result }
+        IsReadBy (Closes (sheet_view sheet.entry)) T.checker
+        (λ of. close_in of (sheet_view sheet.entry) solver) cursor.old cursor.new result }
 {
     let start = cursor.left();
     if let Some(closing) = read_closing::<T>(alloc, cursor, By::Value, sheet, request)? {
@@ -196,8 +207,11 @@ pub fn read_close<'a, T: Checks>(
     requires sheet { IsSheet sheet }
     requires asked { IsAskedOf sheet request.now }
     ensures { let changing = changing_of request.now.name request.now.change in
-        Taken (λ end close. end ≡ last_value close) (tested_by T.checker (close_test T.checker (sheet_view sheet.entry) changing request.now.to last.now)
-        (λ of. close_in of (sheet_view sheet.entry) (parametric_solver changing)) cursor.old) cursor.new result }
+        Taken (λ end close. end ≡ last_value close)
+        (tested_by T.checker
+        (close_test T.checker (sheet_view sheet.entry) changing request.now.to last.now)
+        (λ of. close_in of (sheet_view sheet.entry)
+        (parametric_solver changing)) cursor.old) cursor.new result }
 {
     let closing = run_closing::<T>(alloc, cursor, sheet, request)?;
     T::test_close(alloc, sheet, request, last, &closing)?;

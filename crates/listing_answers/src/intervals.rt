@@ -41,7 +41,8 @@ fn take_both(cursor: &mut Cursor<'_>, first: &[u8], second: &[u8]) -> bool
 // Takes three texts.
 #[tactic(auto, using(walk_definitions::proofs::Texts::left_after_both))]
 fn take_three(cursor: &mut Cursor<'_>, first: &[u8], second: &[u8], third: &[u8]) -> bool
-    ensures { left_after (first.now ++ (second.now ++ third.now)) cursor.old ≡ taken result cursor.new }
+    ensures { left_after (first.now ++ (second.now ++ third.now)) cursor.old ≡
+        taken result cursor.new }
 {
     cursor.take(first) && take_both(cursor, second, third)
 }
@@ -55,7 +56,8 @@ fn take_four(
     third: &[u8],
     fourth: &[u8],
 ) -> bool
-    ensures { left_after (first.now ++ (second.now ++ (third.now ++ fourth.now))) cursor.old ≡ taken result cursor.new }
+    ensures { left_after (first.now ++ (second.now ++ (third.now ++ fourth.now))) cursor.old ≡
+        taken result cursor.new }
 {
     cursor.take(first) && take_three(cursor, second, third, fourth)
 }
@@ -70,7 +72,9 @@ fn take_five(
     value: &[u8],
     to: &[u8],
 ) -> bool
-    ensures { left_after (word.now ++ (number.now ++ (from.now ++ (value.now ++ to.now)))) cursor.old ≡ taken result cursor.new }
+    ensures { left_after
+        (word.now ++ (number.now ++ (from.now ++ (value.now ++ to.now)))) cursor.old ≡
+        taken result cursor.new }
 {
     cursor.take(word) && take_four(cursor, number, from, value, to)
 }
@@ -99,7 +103,8 @@ fn part_end<'a, T: Checks>(
     number: usize,
     from: &Number<'_>,
 ) -> Result<Option<Number<'a>>, NoMemory>
-    ensures { IfOk result (IsPartEnd (number_in T.checker by) number from.now cursor.old cursor.new) }
+    ensures { IfOk result
+        (IsPartEnd (number_in T.checker by) number from.now cursor.old cursor.new) }
 {
     if !take_part_head(cursor, number, from) {
         return Ok(None);
@@ -121,7 +126,8 @@ fn read_columns<'a, T: Checks>(
     sheet: Sheet<'_>,
 ) -> Result<Option<Columns<'a>>, NoMemory>
     requires { IsSheet sheet }
-    ensures { IfOk result (AreColumnsRead (number_in T.checker by) (sheet_view sheet.entry) cursor.old cursor.new) }
+    ensures { IfOk result
+        (AreColumnsRead (number_in T.checker by) (sheet_view sheet.entry) cursor.old cursor.new) }
 {
     let count = sheet.lp.number_of_variables();
     let Some(numbers) = table::<T>(alloc, cursor, by, sheet, Shape::Part, 0, count)? else {
@@ -145,7 +151,8 @@ fn read_interval<'a, T: Checks>(
     from: &Number<'_>,
 ) -> Result<Option<Part<'a>>, NoMemory>
     requires { IsSheet sheet }
-    ensures { IfOk result (Found (IsPart (sheet_view sheet.entry) from.now) (interval_in (number_in T.checker by)
+    ensures { IfOk result
+        (Found (IsPart (sheet_view sheet.entry) from.now) (interval_in (number_in T.checker by)
         (sheet_view sheet.entry) number from.now cursor.old) cursor.new) }
 {
     let Some(to) = part_end::<T>(alloc, cursor, by, number, from)? else {
@@ -166,7 +173,8 @@ fn interval<'a, T: Checks>(
     from: &Number<'_>,
 ) -> Result<Part<'a>, Stop>
     requires { IsSheet sheet }
-    ensures { IsReadBy (IsPart (sheet_view sheet.entry) from.now) T.checker (λ of. interval_in of (sheet_view sheet.entry) number from.now)
+    ensures { IsReadBy (IsPart (sheet_view sheet.entry) from.now) T.checker
+        (λ of. interval_in of (sheet_view sheet.entry) number from.now)
         cursor.old cursor.new result }
 {
     let start = cursor.left();
@@ -193,8 +201,11 @@ pub fn read_part<'a, T: Checks>(
     requires sheet { IsSheet sheet }
     requires asked { IsAskedOf sheet request.now }
     ensures { let changing = changing_of request.now.name request.now.change in
-        Taken (λ to interval. to ≡ interval.to) (tested_by T.checker (interval_test T.checker (sheet_view sheet.entry) changing
-        (nat_eq number 1) request.now.to) (λ of. interval_in of (sheet_view sheet.entry) number last.now) cursor.old) cursor.new result }
+        Taken (λ to interval. to ≡ interval.to)
+        (tested_by T.checker (interval_test T.checker (sheet_view sheet.entry) changing
+        (nat_eq number 1) request.now.to)
+        (λ of. interval_in of
+        (sheet_view sheet.entry) number last.now) cursor.old) cursor.new result }
 {
     let part = interval::<T>(alloc, cursor, sheet, number, last)?;
     T::test_interval(alloc, sheet, request, number == 1, last, &part)?;

@@ -39,7 +39,8 @@ fn take_last(cursor: &mut Cursor<'_>, text: &[u8]) -> bool
 // Takes a text after a label, and the end of the line.
 #[tactic(auto, using(walk_definitions::proofs::Texts::left_after_both))]
 fn take_change(cursor: &mut Cursor<'_>, label: &[u8], name: &[u8]) -> bool
-    ensures { left_after (label.now ++ (name.now ++ codes "\n")) cursor.old ≡ taken result cursor.new }
+    ensures { left_after (label.now ++ (name.now ++ codes "\n")) cursor.old ≡
+        taken result cursor.new }
 {
     cursor.take(label) && take_last(cursor, name)
 }
@@ -47,7 +48,8 @@ fn take_change(cursor: &mut Cursor<'_>, label: &[u8], name: &[u8]) -> bool
 // Takes a value, and what changes from it on.
 #[tactic(auto, using(walk_definitions::proofs::Texts::left_after_both))]
 fn take_value(cursor: &mut Cursor<'_>, value: &[u8], label: &[u8], name: &[u8]) -> bool
-    ensures { left_after (value.now ++ (label.now ++ (name.now ++ codes "\n"))) cursor.old ≡ taken result cursor.new }
+    ensures { left_after (value.now ++ (label.now ++ (name.now ++ codes "\n"))) cursor.old ≡
+        taken result cursor.new }
 {
     cursor.take(value) && take_change(cursor, label, name)
 }
@@ -55,7 +57,9 @@ fn take_value(cursor: &mut Cursor<'_>, value: &[u8], label: &[u8], name: &[u8]) 
 // Takes the first value after a label, and what changes.
 #[tactic(auto, using(walk_definitions::proofs::Texts::left_after_both))]
 fn take_from(cursor: &mut Cursor<'_>, from: &[u8], value: &[u8], label: &[u8], name: &[u8]) -> bool
-    ensures { left_after (from.now ++ (value.now ++ (label.now ++ (name.now ++ codes "\n")))) cursor.old ≡ taken result cursor.new }
+    ensures { left_after
+        (from.now ++ (value.now ++ (label.now ++ (name.now ++ codes "\n")))) cursor.old ≡
+        taken result cursor.new }
 {
     cursor.take(from) && take_value(cursor, value, label, name)
 }
@@ -78,7 +82,9 @@ fn take_head(
 
 /// Takes what stands before the first interval.
 pub fn take_parametric_run_head(cursor: &mut Cursor<'_>, request: &AskedRun<'_>) -> bool
-    ensures { (limit : ℕ) → left_after (parametric_run_head (parametric_run_of limit request.now)) cursor.old ≡ taken result cursor.new }
+    ensures { (limit : ℕ) →
+        left_after (parametric_run_head (parametric_run_of limit request.now)) cursor.old ≡
+        taken result cursor.new }
 {
     take_head(
         cursor,

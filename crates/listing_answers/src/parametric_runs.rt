@@ -33,7 +33,8 @@ fn first_part<'a, T: Checks>(
 ) -> Result<Number<'a>, Stop>
     requires sheet { IsSheet sheet }
     requires asked { IsAskedOf sheet request.now }
-    ensures { (limit : ℕ) → Taken (λ to interval. to ≡ interval.to) (first_in T.checker (sheet_view sheet.entry)
+    ensures { (limit : ℕ) →
+        Taken (λ to interval. to ≡ interval.to) (first_in T.checker (sheet_view sheet.entry)
         (parametric_run_of limit request.now) cursor.old) cursor.new result }
 {
     if !begins_interval(cursor) {
@@ -51,7 +52,8 @@ pub fn read_run<'a, T: Checks>(
 ) -> Result<Number<'a>, Stop>
     requires sheet { IsSheet sheet }
     requires asked { IsAskedOf sheet request.now }
-    ensures { (limit : ℕ) → Taken (λ last run. last ≡ last_value run.1) (run_in T.checker (sheet_view sheet.entry)
+    ensures { (limit : ℕ) →
+        Taken (λ last run. last ≡ last_value run.1) (run_in T.checker (sheet_view sheet.entry)
         (parametric_run_of limit request.now) cursor.old 1 request.now.from cursor.old) cursor.new result }
 {
     let room = cursor.rest().len();

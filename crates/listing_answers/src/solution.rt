@@ -31,7 +31,9 @@ pub struct Lines<'a> {
 
 // Takes the heads of the rows.
 fn take_rows_heads(cursor: &mut Cursor<'_>) -> bool
-    ensures { left_after (codes "\nSECTION 1 - ROWS\nNUMBER ROW AT ACTIVITY SLACK LOWER UPPER DUAL\n") cursor.old ≡ taken result
+    ensures { left_after
+        (codes "\nSECTION 1 - ROWS\nNUMBER ROW AT ACTIVITY SLACK LOWER UPPER DUAL\n") cursor.old ≡
+        taken result
         cursor.new }
 {
     cursor.take(b"\nSECTION 1 - ROWS\nNUMBER ROW AT ACTIVITY SLACK LOWER UPPER DUAL\n")
@@ -47,7 +49,8 @@ fn take_columns_head(cursor: &mut Cursor<'_>) -> bool
 // Takes a mark and the heads of the rows.
 #[tactic(auto, using(walk_definitions::proofs::Texts::left_after_both))]
 fn take_mark(cursor: &mut Cursor<'_>, mark: Mark) -> bool
-    ensures { left_after (mark_text mark ++ codes "\nSECTION 1 - ROWS\nNUMBER ROW AT ACTIVITY SLACK LOWER UPPER DUAL\n") cursor.old ≡
+    ensures { left_after
+        (mark_text mark ++ codes "\nSECTION 1 - ROWS\nNUMBER ROW AT ACTIVITY SLACK LOWER UPPER DUAL\n") cursor.old ≡
         taken result cursor.new }
 {
     cursor.take(mark_word(mark)) && take_rows_heads(cursor)
@@ -69,7 +72,9 @@ fn rows<'a, T: Checks>(
 ) -> Result<Option<Vec<Numbers<'a>>>, NoMemory>
     requires sheet { IsSheet sheet }
     requires lawful { IsLinearProgram sheet.lp.now }
-    ensures { IfOk result (λ found. IsTableRead (number_in T.checker by) (sheet_view sheet.entry) Shape.Row (row_numbers sheet.entry.lp.now)
+    ensures { IfOk result
+        (λ found. IsTableRead (number_in T.checker by) (sheet_view sheet.entry) Shape.Row
+        (row_numbers sheet.entry.lp.now)
         cursor.old cursor.new (option_map (λ table. table.items) found)) }
 {
     let lp = sheet.lp;
@@ -86,7 +91,9 @@ fn columns<'a, T: Checks>(
     requires sheet { IsSheet sheet }
     requires lawful { IsLinearProgram sheet.lp.now }
     requires no_change { sheet.lp.now.change ≡ None }
-    ensures { IfOk result (λ found. IsTableRead (number_in T.checker by) (sheet_view sheet.entry) Shape.Column (column_numbers sheet.entry.lp.now)
+    ensures { IfOk result
+        (λ found. IsTableRead (number_in T.checker by) (sheet_view sheet.entry) Shape.Column
+        (column_numbers sheet.entry.lp.now)
         cursor.old cursor.new (option_map (λ table. table.items) found)) }
 {
     let lp = sheet.lp;
@@ -104,7 +111,10 @@ fn read_lines<'a, T: Checks>(
     requires sheet { IsSheet sheet }
     requires lawful { IsLinearProgram sheet.lp.now }
     requires no_change { sheet.lp.now.change ≡ None }
-    ensures { IfOk result (Found (AreLines (sheet_view sheet.entry)) (solution_in (number_in T.checker by) (sheet_view sheet.entry) mark cursor.old) cursor.new) }
+    ensures { IfOk result
+        (Found (AreLines (sheet_view sheet.entry))
+        (solution_in (number_in T.checker by)
+        (sheet_view sheet.entry) mark cursor.old) cursor.new) }
 {
     if !take_rows_head(cursor, mark) {
         return Ok(None);
@@ -131,7 +141,8 @@ pub fn solution_lines<'a, T: Checks>(
     requires sheet { IsSheet sheet }
     requires lawful { IsLinearProgram sheet.lp.now }
     requires no_change { sheet.lp.now.change ≡ None }
-    ensures { IsReadBy (AreLines (sheet_view sheet.entry)) T.checker (λ of. solution_in of (sheet_view sheet.entry) mark) cursor.old cursor.new result }
+    ensures { IsReadBy (AreLines (sheet_view sheet.entry)) T.checker
+        (λ of. solution_in of (sheet_view sheet.entry) mark) cursor.old cursor.new result }
 {
     let start = cursor.left();
     if let Some(lines) = read_lines::<T>(alloc, cursor, By::Value, sheet, mark)? {
@@ -151,7 +162,9 @@ fn all_firsts<'a>(
     rows: &[Numbers<'a>],
     columns: &[Numbers<'a>],
 ) -> Result<Vec<Number<'a>>, NoMemory>
-    ensures { IfOk result (λ values. values.items ≡ map (λ numbers. numbers.first) rows.now ++ map (λ numbers. numbers.first) columns.now) }
+    ensures { IfOk result
+        (λ values. values.items ≡
+        map (λ numbers. numbers.first) rows.now ++ map (λ numbers. numbers.first) columns.now) }
 {
     let mut values = firsts(alloc, rows)?;
     let mut more = firsts(alloc, columns)?;
@@ -176,7 +189,8 @@ fn all_seconds<'a>(
 
 /// What is printed of the point.
 pub fn printed_of<'a>(alloc: Global, lines: &Lines<'a>) -> Result<Printed<'a>, NoMemory>
-    ensures { IfOk result (λ printed. IsPrinted lines.now.rows.items lines.now.columns.items printed) }
+    ensures { IfOk result
+        (λ printed. IsPrinted lines.now.rows.items lines.now.columns.items printed) }
 {
     let point = all_firsts(alloc, &lines.rows, &lines.columns)?;
     let prices = all_seconds(alloc, &lines.rows, &lines.columns)?;

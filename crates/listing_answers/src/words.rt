@@ -21,7 +21,8 @@ pub struct Head<'a> {
 
 /// A count after a text.
 pub fn count_after(cursor: &mut Cursor<'_>, text: &[u8], most: u32) -> Option<u32>
-    ensures { labelled text.now (count_in most) cursor.old ≡ option_map (λ n. (n, cursor.new)) result }
+    ensures { labelled text.now (count_in most) cursor.old ≡
+        option_map (λ n. (n, cursor.new)) result }
 {
     if !cursor.take(text) {
         return None;
@@ -36,7 +37,9 @@ pub fn number_after<'a, T: Checks>(
     by: By,
     text: &[u8],
 ) -> Result<Option<Number<'a>>, NoMemory>
-    ensures { IfOk result (λ found. labelled text.now (number_in T.checker by) cursor.old ≡ option_map (λ x. (x, cursor.new)) found) }
+    ensures { IfOk result
+        (λ found. labelled text.now (number_in T.checker by) cursor.old ≡
+        option_map (λ x. (x, cursor.new)) found) }
 {
     if !cursor.take(text) {
         return Ok(None);
@@ -46,7 +49,8 @@ pub fn number_after<'a, T: Checks>(
 
 // A fraction of 128 bits after a text.
 fn fraction_after(cursor: &mut Cursor<'_>, text: &[u8]) -> Option<Frac>
-    ensures { labelled text.now (fraction_in checker_of_128_bits) cursor.old ≡ option_map (λ x. (x, cursor.new)) result }
+    ensures { labelled text.now (fraction_in checker_of_128_bits) cursor.old ≡
+        option_map (λ x. (x, cursor.new)) result }
 {
     if !cursor.take(text) {
         return None;

@@ -21,17 +21,21 @@ module _ (C : Checker) (listing : List ℕ) (start : Start) where
   abbrev pub Finds : Result Found NoMemory → Type 0
   Finds result = IfOk result (λ found. (bytes : List ℕ) → IsStartOf bytes start → EndsIn C bytes listing (found_view found))
 
-  pub by_walk : (prepared : Prepared) → start ≡ Program prepared → (result : Result Found NoMemory) → IfOk result (IsFoundBy C prepared.program prepared.cards listing) → Finds result
+  pub by_walk : (prepared : Prepared) → start ≡ Program prepared → (result : Result Found NoMemory) →
+      IfOk result (IsFoundBy C prepared.program prepared.cards listing) → Finds result
   by_walk prepared e (Ok found) f = λ bytes is.
       let are = subst (IsStartOf bytes) e is in
-      of_walk prepared.program f.walker are.1 (subst (λ (cards : List (List ℕ)). Reaches C prepared.program (decks_after prepared.program cards) listing f.walker) are.0 f.reaches) f.finds
+      of_walk prepared.program f.walker are.1
+      (subst (λ (cards : List (List ℕ)). Reaches C prepared.program (decks_after prepared.program cards) listing f.walker) are.0 f.reaches) f.finds
   by_walk prepared e (Err none) f = tt
 
-  pub by_card : (fault : CardFault) → start ≡ Card fault → (result : Result Found NoMemory) → IfOk result (λ found. walks.closes (first_walker [] listing) (CardStop fault) ≡ walks.Finds (found_view found)) → Finds result
+  pub by_card : (fault : CardFault) → start ≡ Card fault → (result : Result Found NoMemory) →
+      IfOk result (λ found. walks.closes (first_walker [] listing) (CardStop fault) ≡ walks.Finds (found_view found)) → Finds result
   by_card fault e (Ok found) f = λ bytes is. of_cards fault (subst (IsStartOf bytes) e is) f
   by_card fault e (Err none) f = tt
 
-  pub by_control : (fault : ControlFault) → start ≡ Control fault → (result : Result Found NoMemory) → IfOk result (λ found. walks.closes (first_walker [] listing) (ControlStop fault) ≡ walks.Finds (found_view found)) → Finds result
+  pub by_control : (fault : ControlFault) → start ≡ Control fault → (result : Result Found NoMemory) →
+      IfOk result (λ found. walks.closes (first_walker [] listing) (ControlStop fault) ≡ walks.Finds (found_view found)) → Finds result
   by_control fault e (Ok found) f = λ bytes is. let are = subst (IsStartOf bytes) e is in of_control fault are.0 are.1 f
   by_control fault e (Err none) f = tt
 

@@ -17,14 +17,19 @@ length_read listing lines e within = omega (arith, within, ap length e, length-t
 pub same_bytes : (listing lines : List ℕ) → listing ≡ take (max_listing + 1) lines → length listing ≤ max_listing → listing ≡ lines
 same_bytes listing lines e within = e ∙ whole (max_listing + 1) lines (omega (arith, length_read listing lines e within))
 
-pub long_answer : (C : Checker) (bytes listing lines : List ℕ) → listing ≡ take (max_listing + 1) lines → max_listing < length listing → Answers C bytes lines None × (codes "LONG LISTING\n" ≡ answer_text lines None)
+pub long_answer : (C : Checker) (bytes listing lines : List ℕ) → listing ≡ take (max_listing + 1) lines → max_listing < length listing →
+    Answers C bytes lines None × (codes "LONG LISTING\n" ≡ answer_text lines None)
 long_answer C bytes listing lines e more = (too_long (omega (arith, more, ap length e, length-take (max_listing + 1) lines)), refl)
 
-pub found_answer : (C : Checker) (bytes listing lines : List ℕ) (found : Found) → listing ≡ take (max_listing + 1) lines → length listing ≤ max_listing → EndsIn C bytes listing found →
+pub found_answer : (C : Checker) (bytes listing lines : List ℕ) (found : Found) → listing ≡ take (max_listing + 1) lines → length listing ≤ max_listing →
+    EndsIn C bytes listing found →
     Answers C bytes lines (Some found) × (answer_text listing (Some found) ≡ answer_text lines (Some found))
 found_answer C bytes listing lines found e within comes =
-    let same = same_bytes listing lines e within in
-    (is_found (length_read listing lines e within) (subst (λ (l : List ℕ). EndsIn C bytes l found) same comes), ap (λ (l : List ℕ). answer_text l (Some found)) same)
+    let same = same_bytes listing lines e within in (
+      is_found (length_read listing lines e within) (subst (λ (l : List ℕ). EndsIn C bytes l found) same comes),
+      ap
+          (λ (l : List ℕ). answer_text l (Some found)) same,
+    )
 
 -- what holds of what is there
 pub some_of : {X : Type 0} (P : X → Type 0) (known : Option X) (x : X) → known ≡ Some x → IfSome known P → P x

@@ -61,7 +61,8 @@ keeps : (known : Option (List ℕ)) → Appends known known []
 keeps None = tt
 keeps (Some xs) = Appends-nothing (Some xs) (Some xs) refl
 
-module _ (C : Checker) (reads : Reads) (bytes lines : List ℕ) (is_job : reads.is_job bytes) (is_listing : reads.is_listing lines) (failures : CheckFailures) (job : reads.job_fails → failures.job) (listing : reads.listing_fails → failures.listing) where
+module _ (C : Checker) (reads : Reads) (bytes lines : List ℕ) (is_job : reads.is_job bytes) (is_listing : reads.is_listing lines) (failures : CheckFailures)
+    (job : reads.job_fails → failures.job) (listing : reads.listing_fails → failures.listing) where
   may_print : (text : List ℕ) (own : CheckStatus) → IsDue C reads text own → MayPrint C bytes lines failures (code_of own) text
   may_print _ _ (job_fault fails same) = job_fails (job fails)
   may_print _ _ (listing_fault quiet read fails) = listing_fails (listing fails)
@@ -70,7 +71,8 @@ module _ (C : Checker) (reads : Reads) (bytes lines : List ℕ) (is_job : reads.
       subst (λ (t : List ℕ). MayPrint C bytes lines failures (code_of (status_of answer)) t) (sym so.1)
       (subst (λ (n : ℕ). MayPrint C bytes lines failures n (answer_text lines answer)) (code_is answer) (answers answer so.0))
 
-  cut : (Prints : List ℕ → Type 0) (stop : WriteStop) → (stop ≡ Failed → failures.print) → (stop ≡ NoMemory → failures.memory) → IsPrintCut C bytes lines failures Prints →
+  cut : (Prints : List ℕ → Type 0) (stop : WriteStop) → (stop ≡ Failed → failures.print) → (stop ≡ NoMemory → failures.memory) →
+      IsPrintCut C bytes lines failures Prints →
       IsCheckAnswer C bytes lines failures (code_of (cut_status stop)) Prints
   cut Prints Failed fails wants cuts = print_fails (fails refl) refl cuts
   cut Prints NoMemory fails wants cuts = print_wants_memory (wants refl) refl cuts
@@ -80,7 +82,8 @@ module _ (C : Checker) (reads : Reads) (bytes lines : List ℕ) (is_job : reads.
     answer_of ended (no_memory is same quiet listing_quiet) =
         memory (ap code_of is) (subst (λ (p : SinkState). Appends old.written p.written []) (sym same) (keeps old.written))
     answer_of ended (says text own is (printed same w)) =
-        subst (λ (s : CheckStatus). IsCheckAnswer C bytes lines failures (code_of s) (Appends old.written new.written)) (sym same) (whole text (may_print text own is) w.bytes)
+        subst (λ (s : CheckStatus). IsCheckAnswer C bytes lines failures (code_of s) (Appends old.written new.written)) (sym same)
+        (whole text (may_print text own is) w.bytes)
     answer_of ended (says text own is (cut_off stop same w)) =
         subst (λ (s : CheckStatus). IsCheckAnswer C bytes lines failures (code_of s) (Appends old.written new.written)) (sym same)
         (cut (Appends old.written new.written) stop (λ e. print (w.cause.failed (ap (λ s. Err s) e))) (λ e. wanted (w.cause.no_memory (ap (λ s. Err s) e)))
@@ -112,7 +115,8 @@ module _ (c : Circumstances) where
       subst (HasCheckCause c) (sym same) (as_cut own why stop (λ e. print (w.cause.failed (ap (λ s. Err s) e))))
 
   -- of a check without words
-  module _ (C : Checker) (reads : Reads) (none : c.words ≡ 0) (job : reads.job_fails → c.job_fails) (read : reads.job_read → c.job_read) (listing : reads.listing_fails → c.listing_fails) (listing_read : reads.listing_read → c.listing_read) where
+  module _ (C : Checker) (reads : Reads) (none : c.words ≡ 0) (job : reads.job_fails → c.job_fails) (read : reads.job_read → c.job_read)
+      (listing : reads.listing_fails → c.listing_fails) (listing_read : reads.listing_read → c.listing_read) where
     why_found : (answer : Option Found) → reads.job_read → reads.listing_read → IsWhy c (status_of answer)
     why_found None is is_too = (none, read is, listing_read is_too)
     why_found (Some (walks.Attested reports)) is is_too = (none, read is, listing_read is_too)

@@ -67,12 +67,14 @@ fn check_read<T: Checks, L: Source, P: Sink>(
       job_read = Unit {0};
       listing_fails = Rose (L.given listing.old).faults (L.given listing.new).faults;
       listing_quiet = (L.given listing.new).faults ≡ (L.given listing.old).faults;
-      listing_read = ReadsWhole (max_listing + 1) (L.given listing.old).left (L.given listing.new).left;
+      listing_read = ReadsWhole (max_listing + 1) (L.given listing.old).left
+          (L.given listing.new).left;
       listing_same = ⊥;
       is_job = λ bytes. IsStartOf bytes start.now;
       is_listing = λ lines. (L.given listing.old).left ≡ Some lines;
     }) (P.taken print.old) (P.taken print.new) result }
-    ensures no_further { ReadsUpTo (max_listing + 1) (L.given listing.old).left (L.given listing.new).left }
+    ensures no_further { ReadsUpTo (max_listing + 1) (L.given listing.old).left
+        (L.given listing.new).left }
 {
     match read_up_to(alloc, listing, MAX_LISTING + 1) {
         Ok(bytes) => check_bytes::<T, P>(alloc, start, &bytes, print),
@@ -99,12 +101,14 @@ fn check_stopped<T: Checks, L: Source, P: Sink>(
       job_read = IsWhole stop;
       listing_fails = Rose (L.given listing.old).faults (L.given listing.new).faults;
       listing_quiet = (L.given listing.new).faults ≡ (L.given listing.old).faults;
-      listing_read = ReadsWhole (max_listing + 1) (L.given listing.old).left (L.given listing.new).left;
+      listing_read = ReadsWhole (max_listing + 1) (L.given listing.old).left
+          (L.given listing.new).left;
       listing_same = listing.new ≡ listing.old;
       is_job = λ bytes. ReportsEarlyStop (Some bytes) stop;
       is_listing = λ lines. (L.given listing.old).left ≡ Some lines;
     }) (P.taken print.old) (P.taken print.new) result }
-    ensures no_further { ReadsUpTo (max_listing + 1) (L.given listing.old).left (L.given listing.new).left }
+    ensures no_further { ReadsUpTo (max_listing + 1) (L.given listing.old).left
+        (L.given listing.new).left }
 {
     match stop {
         EarlyStop::ReadFault => end_with(print, b"STOP 24 READ FAULT\n", CheckStatus::ReadFault),
@@ -131,13 +135,15 @@ fn check_job<T: Checks, S: Source, L: Source, P: Sink>(
       job_read = ReadsJob (S.given job.old).left (S.given job.new).left;
       listing_fails = Rose (L.given listing.old).faults (L.given listing.new).faults;
       listing_quiet = (L.given listing.new).faults ≡ (L.given listing.old).faults;
-      listing_read = ReadsWhole (max_listing + 1) (L.given listing.old).left (L.given listing.new).left;
+      listing_read = ReadsWhole (max_listing + 1) (L.given listing.old).left
+          (L.given listing.new).left;
       listing_same = listing.new ≡ listing.old;
       is_job = λ bytes. (S.given job.old).left ≡ Some bytes;
       is_listing = λ lines. (L.given listing.old).left ≡ Some lines;
     }) (P.taken print.old) (P.taken print.new) result }
     ensures job { ReadsPrefix (S.given job.old).left (S.given job.new).left }
-    ensures listing { ReadsUpTo (max_listing + 1) (L.given listing.old).left (L.given listing.new).left }
+    ensures listing { ReadsUpTo (max_listing + 1) (L.given listing.old).left
+        (L.given listing.new).left }
 {
     match prepare(alloc, job) {
         Ok(prepared) => { check_read::<T, L, P>(alloc, &Start::Program(prepared), listing, print) }
@@ -192,7 +198,8 @@ pub fn check_listing<T: Checks, S: Source, L: Source, P: Sink>(
           job_fails = Rose (S.given job.old).faults (S.given job.new).faults;
           job_read = ReadsJob (S.given job.old).left (S.given job.new).left;
           listing_fails = Rose (L.given listing.old).faults (L.given listing.new).faults;
-          listing_read = ReadsWhole (max_listing + 1) (L.given listing.old).left (L.given listing.new).left;
+          listing_read = ReadsWhole (max_listing + 1) (L.given listing.old).left
+              (L.given listing.new).left;
           print_fails = Rose (P.taken print.old).faults (P.taken print.new).faults;
         })
         result }

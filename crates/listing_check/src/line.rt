@@ -122,7 +122,8 @@ pub fn end_with<P: Sink>(print: &mut P, line: &'static [u8], own: CheckStatus) -
 /// Prints what a listing is found to be, and answers the status of that. A stop of the print comes before it.
 pub fn end_found<P: Sink>(print: &mut P, listing: &[u8], found: &Found<'_>) -> CheckStatus
     ensures { EndsWith (P.taken print.old) (P.taken print.new)
-        (answer_text listing.now (Some (found_view found.now))) (status_of (Some (found_view found.now))) result }
+        (answer_text listing.now (Some (found_view found.now)))
+        (status_of (Some (found_view found.now))) result }
 {
     match put_found(print, listing, found) {
         Ok(()) => found_status(found),

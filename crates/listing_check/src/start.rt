@@ -30,7 +30,9 @@ pub fn find<'a, T: Checks>(
     start: &Start,
     listing: &'a [u8],
 ) -> Result<Found<'a>, NoMemory>
-    ensures { IfOk result (λ found. (bytes : List ℕ) → IsStartOf bytes start.now → EndsIn T.checker bytes listing.now (found_view found)) }
+    ensures { IfOk result
+        (λ found. (bytes : List ℕ) → IsStartOf bytes start.now →
+        EndsIn T.checker bytes listing.now (found_view found)) }
 {
     match start {
         Start::Program(prepared) => {

@@ -36,7 +36,8 @@ handed_on v result stop h handed =
     let p = err_from_is_err_and result handed in
     subst (λ (r : Result (Unit {0}) Stop). Judges v r) (sym p.1) (subst (λ (s : Stop). Stops s v) (sym p.2) h)
 
-pub judges_exit : (v w : Verdict) (result : Result (Unit {0}) Stop) (stop : Stop) → Stops stop v → IsErrAnd result (λ y. y ≡ stop) → Judges (followed_by v w) result
+pub judges_exit : (v w : Verdict) (result : Result (Unit {0}) Stop) (stop : Stop) → Stops stop v → IsErrAnd result (λ y. y ≡ stop) →
+    Judges (followed_by v w) result
 judges_exit v w result stop h handed = handed_on (followed_by v w) result stop (stops_first stop v w h) handed
 
 -- the first lets pass
@@ -44,7 +45,8 @@ pub judges_then : (v w : Verdict) (result : Result (Unit {0}) Stop) → v ≡ Ch
 judges_then v w result passed h = subst (λ (u : Verdict). Judges (followed_by u w) result) (sym passed) h
 
 -- where a call gave the verdict
-pub exit_by : (given v w : Verdict) (result : Result (Unit {0}) Stop) (stop : Stop) → given ≡ v → Stops stop given → IsErrAnd result (λ y. y ≡ stop) → Judges (followed_by v w) result
+pub exit_by : (given v w : Verdict) (result : Result (Unit {0}) Stop) (stop : Stop) → given ≡ v → Stops stop given → IsErrAnd result (λ y. y ≡ stop) →
+    Judges (followed_by v w) result
 exit_by given v w result stop same h handed = judges_exit v w result stop (subst (λ (u : Verdict). Stops stop u) same h) handed
 
 pub then_by : (given v w : Verdict) (result : Result (Unit {0}) Stop) → given ≡ v → given ≡ Checked → Judges w result → Judges (followed_by v w) result

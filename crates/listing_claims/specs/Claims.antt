@@ -32,7 +32,8 @@ module _ (C : Checker) (p : LinearProgram) where
   -- a point and a direction show that there is no best point, and the point has this objective
   abbrev pub pair_test : ℚ → Pair → Verdict
   pair_test objective pair =
-      in_turn (says C (unbounded_steps p (value_at pair.point.items) (value_at pair.direction.items)) ∷ asked (eq_ℚ objective (value_at pair.point.items p.objective)) ∷ [])
+      in_turn (says C (unbounded_steps p (value_at pair.point.items) (value_at pair.direction.items)) ∷ asked
+      (eq_ℚ objective (value_at pair.point.items p.objective)) ∷ [])
 
   -- an optimal claim is tested where SOLUTION shows it
   abbrev pub claim_test : Claim → Verdict

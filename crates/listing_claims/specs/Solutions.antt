@@ -22,4 +22,5 @@ pub record Counted (p : LinearProgram) (printed : Printed) : Type 0 where
 
 abbrev pub printed_test : Checker → Sheet → Mark → Vector → Vector → Vector → Verdict
 printed_test C sheet mark z y slack =
-    in_turn (says C (equations sheet.lp 1 z) ∷ says C (reduced_costs sheet.lp y) ∷ says C (flat_map (slack_steps sheet z slack) (row_numbers sheet.lp)) ∷ best_test C sheet mark z y ∷ [])
+    in_turn (says C (equations sheet.lp 1 z) ∷ says C (reduced_costs sheet.lp y) ∷ says C
+    (flat_map (slack_steps sheet z slack) (row_numbers sheet.lp)) ∷ best_test C sheet mark z y ∷ [])

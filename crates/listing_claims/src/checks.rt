@@ -49,7 +49,8 @@ pub trait Checks {
 
     /// Whether a verdict may be printed with this word of its check: CHECKED, or UNCHECKED.
     fn takes(is_checked: bool) -> bool
-        ensures { (check : Check) → says_checked check ≡ is_checked → checker.takes check ≡ result };
+        ensures { (check : Check) → says_checked check ≡ is_checked →
+            checker.takes check ≡ result };
 
     /// Tests what a verdict claims of a linear program. An optimal one passes: it is tested where SOLUTION shows it.
     fn test_claim(alloc: Global, lp: &Lp, claim: &Claim<'_>) -> Result<(), Stop>
@@ -66,7 +67,9 @@ pub trait Checks {
     ) -> Result<(), Stop>
         requires asked { IsAskedOf sheet request.now }
         requires fits { Fits sheet.lp.now claim.now }
-        ensures { Judges (opening_test checker (sheet_view sheet.entry) (changing_of request.now.name request.now.change)
+        ensures { Judges
+            (opening_test checker (sheet_view sheet.entry)
+            (changing_of request.now.name request.now.change)
             request.now.from claim.now) result };
 
     /// Tests what SOLUTION prints under a mark.
@@ -78,7 +81,8 @@ pub trait Checks {
     ) -> Result<(), Stop>
         requires lawful { IsLinearProgram sheet.lp.now }
         requires counted { Counted sheet.lp.now printed.now }
-        ensures { Judges (printed_test checker (sheet_view sheet.entry) mark (value_at printed.now.point.items)
+        ensures { Judges
+            (printed_test checker (sheet_view sheet.entry) mark (value_at printed.now.point.items)
             (value_at printed.now.prices.items) (value_at printed.now.slacks.items)) result };
 
     /// Tests an interval of a parametric run that begins at a value.
@@ -92,7 +96,9 @@ pub trait Checks {
     ) -> Result<(), Stop>
         requires asked { IsAskedOf sheet request.now }
         requires counted { AreCounted sheet.lp.now part.now.columns }
-        ensures { Judges (part_verdict checker (sheet_view sheet.entry) (changing_of request.now.name request.now.change) from.now
+        ensures { Judges
+            (part_verdict checker (sheet_view sheet.entry)
+            (changing_of request.now.name request.now.change) from.now
             part.now.to part.now.columns is_first request.now.to) result };
 
     /// Tests how a parametric run closes whose last interval ends at a value.
@@ -105,7 +111,9 @@ pub trait Checks {
     ) -> Result<(), Stop>
         requires asked { IsAskedOf sheet request.now }
         requires fits { ClosingFits sheet.lp.now closing.now }
-        ensures { Judges (closing_test checker (sheet_view sheet.entry) (changing_of request.now.name request.now.change)
+        ensures { Judges
+            (closing_test checker (sheet_view sheet.entry)
+            (changing_of request.now.name request.now.change)
             request.now.to last.now closing.now) result };
 }
 

@@ -14,8 +14,10 @@ use Rattle.listing_definitions.specs.Numbers.{digits_within, digits, integer_tex
 -- of a number above 0
 above_zero : (n : ℕ) → 0 < n → n < 10 ^ 64 → decimal n ≡ map (λ digit. 48 + digit) (digits_of 10 n)
 above_zero n some small = decimal_by_steps_wide (λ m ds. 0 < m → ds ≡ map (λ digit. 48 + digit) (digits_of 10 m))
-    (λ m l a. let z : m / 10 ≡ 0 = omega arith in let e : m % 10 ≡ m = omega arith in sym (ap (map (λ digit. 48 + digit)) (digits_of_step 10 m (omega arith) a ∙ (λ i. digits_of 10 (z i) ++ (e i ∷ [])))))
-    (λ m ds l h a. ap (λ x. x ++ ((48 + m % 10) ∷ [])) (h (omega arith)) ∙ sym (map_push (λ digit. 48 + digit) (digits_of 10 (m / 10)) (m % 10)) ∙ ap (map (λ digit. 48 + digit)) (sym (digits_of_step 10 m (omega arith) a)))
+    (λ m l a. let z : m / 10 ≡ 0 = omega arith in let e : m % 10 ≡ m = omega arith in sym
+    (ap (map (λ digit. 48 + digit)) (digits_of_step 10 m (omega arith) a ∙ (λ i. digits_of 10 (z i) ++ (e i ∷ [])))))
+    (λ m ds l h a. ap (λ x. x ++ ((48 + m % 10) ∷ [])) (h (omega arith)) ∙ sym (map_push (λ digit. 48 + digit) (digits_of 10 (m / 10)) (m % 10))
+    ∙ ap (map (λ digit. 48 + digit)) (sym (digits_of_step 10 m (omega arith) a)))
     n small some
 
 no_end : (n : ℕ) → (suc n == 0) ≡ false

@@ -24,12 +24,25 @@ testprob : listing
     Solved Primal (OptimalAt 3 (whole (pos 54))) Checked ∷
     Solution Optimal (record {
       rows = (row 1 "COST" (Code Basic ∷ Number (fraction (pos 54) 1) ∷ Number (fraction (negsuc 53) 1) ∷ Absent ∷ Absent ∷ Number (fraction (pos 0) 1) ∷ []) ∷
-          row 2 "LIM1" (Code Basic ∷ Number (fraction (pos 3) 1) ∷ Number (fraction (pos 2) 1) ∷ Absent ∷ Number (fraction (pos 5) 1) ∷ Number (fraction (pos 0) 1) ∷ []) ∷
-          row 3 "LIM2" (Code Lower ∷ Number (fraction (pos 10) 1) ∷ Number (fraction (pos 0) 1) ∷ Number (fraction (pos 10) 1) ∷ Absent ∷ Number (fraction (pos 1) 1) ∷ []) ∷
-          row 4 "MYEQN" (Code Equal ∷ Number (fraction (pos 7) 1) ∷ Number (fraction (pos 0) 1) ∷ Number (fraction (pos 7) 1) ∷ Number (fraction (pos 7) 1) ∷ Number (fraction (pos 8) 1) ∷ []) ∷ []);
-      columns = (row 5 "XONE" (Code Basic ∷ Number (fraction (pos 4) 1) ∷ Number (fraction (pos 1) 1) ∷ Number (fraction (pos 0) 1) ∷ Number (fraction (pos 4) 1) ∷ Number (fraction (pos 0) 1) ∷ []) ∷
-          row 6 "YTWO" (Code Lower ∷ Number (fraction (negsuc 0) 1) ∷ Number (fraction (pos 4) 1) ∷ Number (fraction (negsuc 0) 1) ∷ Number (fraction (pos 1) 1) ∷ Number (fraction (pos 12) 1) ∷ []) ∷
-          row 7 "ZTHREE" (Code Basic ∷ Number (fraction (pos 6) 1) ∷ Number (fraction (pos 9) 1) ∷ Number (fraction (pos 0) 1) ∷ Absent ∷ Number (fraction (pos 0) 1) ∷ []) ∷ []);
+          row 2 "LIM1"
+          (Code Basic ∷ Number (fraction (pos 3) 1) ∷ Number (fraction (pos 2) 1) ∷ Absent ∷ Number (fraction (pos 5) 1) ∷ Number
+          (fraction (pos 0) 1) ∷ []) ∷
+          row 3 "LIM2"
+          (Code Lower ∷ Number (fraction (pos 10) 1) ∷ Number (fraction (pos 0) 1) ∷ Number (fraction (pos 10) 1) ∷ Absent ∷ Number
+          (fraction (pos 1) 1) ∷ []) ∷
+          row 4 "MYEQN"
+          (Code Equal ∷ Number (fraction (pos 7) 1) ∷ Number (fraction (pos 0) 1) ∷ Number (fraction (pos 7) 1) ∷ Number (fraction (pos 7) 1) ∷ Number
+          (fraction (pos 8) 1) ∷ []) ∷ []);
+      columns =
+          (row 5 "XONE"
+          (Code Basic ∷ Number (fraction (pos 4) 1) ∷ Number (fraction (pos 1) 1) ∷ Number (fraction (pos 0) 1) ∷ Number (fraction (pos 4) 1) ∷ Number
+          (fraction (pos 0) 1) ∷ []) ∷
+          row 6 "YTWO"
+          (Code Lower ∷ Number (fraction (negsuc 0) 1) ∷ Number (fraction (pos 4) 1) ∷ Number (fraction (negsuc 0) 1) ∷ Number (fraction (pos 1) 1) ∷ Number
+          (fraction (pos 12) 1) ∷ []) ∷
+          row 7 "ZTHREE"
+          (Code Basic ∷ Number (fraction (pos 6) 1) ∷ Number (fraction (pos 9) 1) ∷ Number (fraction (pos 0) 1) ∷ Absent ∷ Number
+          (fraction (pos 0) 1) ∷ []) ∷ []);
     }) ∷ [])
     (Ended 0)
     ≡ codes "CONVERT TESTPROB ROWS 4 COLUMNS 3 ENTRIES 9\nSETUP   TESTPROB MIN\nPRIMAL OPTIMAL STEPS 3 OBJECTIVE 54 CHECKED\nSOLUTION OPTIMAL\nSECTION 1 - ROWS\nNUMBER ROW AT ACTIVITY SLACK LOWER UPPER DUAL\n    1 COST     BS 54 -54 NONE NONE 0\n    2 LIM1     BS 3 2 NONE 5 0\n    3 LIM2     LL 10 0 10 NONE 1\n    4 MYEQN    EQ 7 0 7 7 8\nSECTION 2 - COLUMNS\nNUMBER COLUMN AT ACTIVITY COST LOWER UPPER REDUCED\n    5 XONE     BS 4 1 0 4 0\n    6 YTWO     LL -1 4 -1 1 12\n    7 ZTHREE   BS 6 9 0 NONE 0\nEND 0\n"
@@ -72,20 +85,32 @@ paraobj_two_intervals : report_text (Parametric Paraobj (record {
       record {
         from = fraction (pos 0) 1;
         to = fraction (pos 1) 1;
-        lines = (row 1 "COST" (Code Basic ∷ Number (fraction (negsuc 7) 1) ∷ Number (fraction (pos 0) 1) ∷ Number (fraction (pos 0) 1) ∷ Number (fraction (pos 0) 1) ∷ []) ∷
-            row 2 "CHG" (Code Basic ∷ Number (fraction (pos 0) 1) ∷ Number (fraction (pos 0) 1) ∷ Number (fraction (pos 0) 1) ∷ Number (fraction (pos 0) 1) ∷ []) ∷
-            row 3 "LIM" (Code Upper ∷ Number (fraction (pos 4) 1) ∷ Number (fraction (pos 0) 1) ∷ Number (fraction (negsuc 1) 1) ∷ Number (fraction (pos 0) 1) ∷ []) ∷
-            row 4 "X" (Code Lower ∷ Number (fraction (pos 0) 1) ∷ Number (fraction (pos 0) 1) ∷ Number (fraction (pos 1) 1) ∷ Number (fraction (negsuc 0) 1) ∷ []) ∷
-            row 5 "Y" (Code Basic ∷ Number (fraction (pos 4) 1) ∷ Number (fraction (pos 0) 1) ∷ Number (fraction (pos 0) 1) ∷ Number (fraction (pos 0) 1) ∷ []) ∷ []);
+        lines =
+            (row 1 "COST"
+            (Code Basic ∷ Number (fraction (negsuc 7) 1) ∷ Number (fraction (pos 0) 1) ∷ Number (fraction (pos 0) 1) ∷ Number (fraction (pos 0) 1) ∷ []) ∷
+            row 2 "CHG" (Code Basic ∷ Number (fraction (pos 0) 1) ∷ Number (fraction (pos 0) 1) ∷ Number (fraction (pos 0) 1) ∷ Number
+            (fraction (pos 0) 1) ∷ []) ∷
+            row 3 "LIM" (Code Upper ∷ Number (fraction (pos 4) 1) ∷ Number (fraction (pos 0) 1) ∷ Number (fraction (negsuc 1) 1) ∷ Number
+            (fraction (pos 0) 1) ∷ []) ∷
+            row 4 "X" (Code Lower ∷ Number (fraction (pos 0) 1) ∷ Number (fraction (pos 0) 1) ∷ Number (fraction (pos 1) 1) ∷ Number
+            (fraction (negsuc 0) 1) ∷ []) ∷
+            row 5 "Y" (Code Basic ∷ Number (fraction (pos 4) 1) ∷ Number (fraction (pos 0) 1) ∷ Number (fraction (pos 0) 1) ∷ Number
+            (fraction (pos 0) 1) ∷ []) ∷ []);
       } ∷
       record {
         from = fraction (pos 1) 1;
         to = fraction (pos 5) 1;
-        lines = (row 1 "COST" (Code Basic ∷ Number (fraction (negsuc 4) 1) ∷ Number (fraction (pos 0) 1) ∷ Number (fraction (pos 0) 1) ∷ Number (fraction (pos 0) 1) ∷ []) ∷
-            row 2 "CHG" (Code Basic ∷ Number (fraction (negsuc 2) 1) ∷ Number (fraction (pos 0) 1) ∷ Number (fraction (pos 0) 1) ∷ Number (fraction (pos 0) 1) ∷ []) ∷
-            row 3 "LIM" (Code Upper ∷ Number (fraction (pos 4) 1) ∷ Number (fraction (pos 0) 1) ∷ Number (fraction (negsuc 1) 1) ∷ Number (fraction (pos 0) 1) ∷ []) ∷
-            row 4 "X" (Code Upper ∷ Number (fraction (pos 3) 1) ∷ Number (fraction (pos 0) 1) ∷ Number (fraction (pos 1) 1) ∷ Number (fraction (negsuc 0) 1) ∷ []) ∷
-            row 5 "Y" (Code Basic ∷ Number (fraction (pos 1) 1) ∷ Number (fraction (pos 0) 1) ∷ Number (fraction (pos 0) 1) ∷ Number (fraction (pos 0) 1) ∷ []) ∷ []);
+        lines =
+            (row 1 "COST"
+            (Code Basic ∷ Number (fraction (negsuc 4) 1) ∷ Number (fraction (pos 0) 1) ∷ Number (fraction (pos 0) 1) ∷ Number (fraction (pos 0) 1) ∷ []) ∷
+            row 2 "CHG" (Code Basic ∷ Number (fraction (negsuc 2) 1) ∷ Number (fraction (pos 0) 1) ∷ Number (fraction (pos 0) 1) ∷ Number
+            (fraction (pos 0) 1) ∷ []) ∷
+            row 3 "LIM" (Code Upper ∷ Number (fraction (pos 4) 1) ∷ Number (fraction (pos 0) 1) ∷ Number (fraction (negsuc 1) 1) ∷ Number
+            (fraction (pos 0) 1) ∷ []) ∷
+            row 4 "X" (Code Upper ∷ Number (fraction (pos 3) 1) ∷ Number (fraction (pos 0) 1) ∷ Number (fraction (pos 1) 1) ∷ Number
+            (fraction (negsuc 0) 1) ∷ []) ∷
+            row 5 "Y" (Code Basic ∷ Number (fraction (pos 1) 1) ∷ Number (fraction (pos 0) 1) ∷ Number (fraction (pos 0) 1) ∷ Number
+            (fraction (pos 0) 1) ∷ []) ∷ []);
       } ∷ [];
   end = EndsAt (fraction (pos 5) 1);
 }))
@@ -100,9 +125,13 @@ pararhs_infeasible_past : report_text (Parametric Pararhs (record {
       record {
         from = fraction (pos 0) 1;
         to = fraction (pos 2) 1;
-        lines = (row 1 "COST" (Code Basic ∷ Number (fraction (pos 1) 1) ∷ Number (fraction (pos 1) 1) ∷ Number (fraction (pos 0) 1) ∷ Number (fraction (pos 0) 1) ∷ []) ∷
-            row 2 "LOW" (Code Lower ∷ Number (fraction (pos 1) 1) ∷ Number (fraction (pos 1) 1) ∷ Number (fraction (pos 1) 1) ∷ Number (fraction (pos 0) 1) ∷ []) ∷
-            row 3 "X" (Code Basic ∷ Number (fraction (pos 1) 1) ∷ Number (fraction (pos 1) 1) ∷ Number (fraction (pos 0) 1) ∷ Number (fraction (pos 0) 1) ∷ []) ∷ []);
+        lines =
+            (row 1 "COST"
+            (Code Basic ∷ Number (fraction (pos 1) 1) ∷ Number (fraction (pos 1) 1) ∷ Number (fraction (pos 0) 1) ∷ Number (fraction (pos 0) 1) ∷ []) ∷
+            row 2 "LOW" (Code Lower ∷ Number (fraction (pos 1) 1) ∷ Number (fraction (pos 1) 1) ∷ Number (fraction (pos 1) 1) ∷ Number
+            (fraction (pos 0) 1) ∷ []) ∷
+            row 3 "X" (Code Basic ∷ Number (fraction (pos 1) 1) ∷ Number (fraction (pos 1) 1) ∷ Number (fraction (pos 0) 1) ∷ Number
+            (fraction (pos 0) 1) ∷ []) ∷ []);
       } ∷ [];
   end = InfeasiblePast (fraction (pos 2) 1) (row 2 "LOW" (Number (fraction (negsuc 0) 1) ∷ []) ∷
       row 3 "X" (Number (fraction (pos 1) 1) ∷ []) ∷ []);
@@ -118,9 +147,13 @@ paraobj_unbounded_past : report_text (Parametric Paraobj (record {
       record {
         from = fraction (pos 0) 1;
         to = fraction (pos 1) 1;
-        lines = (row 1 "COST" (Code Basic ∷ Number (fraction (pos 0) 1) ∷ Number (fraction (pos 0) 1) ∷ Number (fraction (pos 0) 1) ∷ Number (fraction (pos 0) 1) ∷ []) ∷
-            row 2 "CHG" (Code Basic ∷ Number (fraction (pos 0) 1) ∷ Number (fraction (pos 0) 1) ∷ Number (fraction (pos 0) 1) ∷ Number (fraction (pos 0) 1) ∷ []) ∷
-            row 3 "X" (Code Lower ∷ Number (fraction (pos 0) 1) ∷ Number (fraction (pos 0) 1) ∷ Number (fraction (pos 1) 1) ∷ Number (fraction (negsuc 0) 1) ∷ []) ∷ []);
+        lines =
+            (row 1 "COST"
+            (Code Basic ∷ Number (fraction (pos 0) 1) ∷ Number (fraction (pos 0) 1) ∷ Number (fraction (pos 0) 1) ∷ Number (fraction (pos 0) 1) ∷ []) ∷
+            row 2 "CHG" (Code Basic ∷ Number (fraction (pos 0) 1) ∷ Number (fraction (pos 0) 1) ∷ Number (fraction (pos 0) 1) ∷ Number
+            (fraction (pos 0) 1) ∷ []) ∷
+            row 3 "X" (Code Lower ∷ Number (fraction (pos 0) 1) ∷ Number (fraction (pos 0) 1) ∷ Number (fraction (pos 1) 1) ∷ Number
+            (fraction (negsuc 0) 1) ∷ []) ∷ []);
       } ∷ [];
   end = UnboundedPast (fraction (pos 1) 1) (row 1 "COST" (Number (fraction (pos 0) 1) ∷ Number (fraction (pos 1) 1) ∷ []) ∷
       row 2 "CHG" (Number (fraction (pos 0) 1) ∷ Number (fraction (negsuc 0) 1) ∷ []) ∷
@@ -133,9 +166,13 @@ paraobj_unbounded_past = refl
 range_testprob : report_text (Ranges (record {
   rows_at_limit = (row 3 "LIM2" (Code Lower ∷ Number (fraction (pos 10) 1) ∷ Number (fraction (pos 6) 1) ∷ Number (fraction (pos 10) 1) ∷ []) ∷
       row 4 "MYEQN" (Code Equal ∷ Number (fraction (pos 7) 1) ∷ Number (fraction (pos 7) 1) ∷ Number (fraction (pos 11) 1) ∷ []) ∷ []);
-  columns_at_limit = (row 6 "YTWO" (Code Lower ∷ Number (fraction (negsuc 0) 1) ∷ Number (fraction (negsuc 0) 1) ∷ Number (fraction (pos 1) 1) ∷ Number (fraction (pos 4) 1) ∷ Number (fraction (negsuc 7) 1) ∷ Absent ∷ []) ∷ []);
+  columns_at_limit =
+      (row 6 "YTWO"
+      (Code Lower ∷ Number (fraction (negsuc 0) 1) ∷ Number (fraction (negsuc 0) 1) ∷ Number (fraction (pos 1) 1) ∷ Number (fraction (pos 4) 1) ∷ Number
+      (fraction (negsuc 7) 1) ∷ Absent ∷ []) ∷ []);
   rows_between = (row 2 "LIM1" (Code Basic ∷ Number (fraction (pos 3) 1) ∷ Number (fraction (negsuc 0) 1) ∷ Absent ∷ []) ∷ []);
-  columns_between = (row 5 "XONE" (Code Basic ∷ Number (fraction (pos 4) 1) ∷ Number (fraction (pos 1) 1) ∷ Number (fraction (pos 0) 1) ∷ Number (fraction (pos 13) 1) ∷ []) ∷
+  columns_between =
+      (row 5 "XONE" (Code Basic ∷ Number (fraction (pos 4) 1) ∷ Number (fraction (pos 1) 1) ∷ Number (fraction (pos 0) 1) ∷ Number (fraction (pos 13) 1) ∷ []) ∷
       row 7 "ZTHREE" (Code Basic ∷ Number (fraction (pos 6) 1) ∷ Number (fraction (pos 9) 1) ∷ Number (fraction (negsuc 2) 1) ∷ Absent ∷ []) ∷ []);
 }))
     ≡ codes "RANGE\nSECTION 1 - ROWS AT LIMIT LEVEL\n    3 LIM2     LL 10 6 10\n    4 MYEQN    EQ 7 7 11\nSECTION 2 - COLUMNS AT LIMIT LEVEL\n    6 YTWO     LL -1 -1 1 4 -8 NONE\nSECTION 3 - ROWS AT INTERMEDIATE LEVEL\n    2 LIM1     BS 3 -1 NONE\nSECTION 4 - COLUMNS AT INTERMEDIATE LEVEL\n    5 XONE     BS 4 1 0 13\n    7 ZTHREE   BS 6 9 -3 NONE\n"
@@ -144,7 +181,9 @@ range_testprob = refl
 
 range_two : report_text (Ranges (record {
   rows_at_limit = (row 3 "LIM" (Code Upper ∷ Number (fraction (pos 4) 1) ∷ Number (fraction (pos 0) 1) ∷ Absent ∷ []) ∷ []);
-  columns_at_limit = (row 4 "X" (Code Lower ∷ Number (fraction (pos 0) 1) ∷ Absent ∷ Number (fraction (pos 3) 1) ∷ Number (fraction (negsuc 0) 1) ∷ Number (fraction (negsuc 1) 1) ∷ Absent ∷ []) ∷ []);
+  columns_at_limit =
+      (row 4 "X" (Code Lower ∷ Number (fraction (pos 0) 1) ∷ Absent ∷ Number (fraction (pos 3) 1) ∷ Number (fraction (negsuc 0) 1) ∷ Number
+      (fraction (negsuc 1) 1) ∷ Absent ∷ []) ∷ []);
   rows_between = (row 2 "CHG" (Code Basic ∷ Number (fraction (pos 0) 1) ∷ Absent ∷ Number (fraction (pos 1) 1) ∷ []) ∷ []);
   columns_between = (row 5 "Y" (Code Basic ∷ Number (fraction (pos 4) 1) ∷ Number (fraction (negsuc 1) 1) ∷ Absent ∷ Number (fraction (negsuc 0) 1) ∷ []) ∷ []);
 }))
@@ -175,7 +214,8 @@ marks : reports_text (Solution Infeasible (record { rows = []; columns = [] }) �
 marks = refl
 
 -- a free column at an intermediate level has no limit to be ranged; a basic may stand outside its limits; numbers may fill their places
-table_lines : line_text (row 6 "Z" (Code Free ∷ Number (whole (pos 0)) ∷ Dash ∷ Dash ∷ Absent ∷ [])) ++ line_text (row 60000 "LONGNAME" (Code Outside ∷ Number (fraction (negsuc 2) 100) ∷ []))
+table_lines : line_text (row 6 "Z" (Code Free ∷ Number (whole (pos 0)) ∷ Dash ∷ Dash ∷ Absent ∷ [])) ++ line_text
+    (row 60000 "LONGNAME" (Code Outside ∷ Number (fraction (negsuc 2) 100) ∷ []))
     ≡ codes "    6 Z        FR 0 - - NONE\n60000 LONGNAME ** -3/100\n"
 unfolding whole row fraction gcd digits
 table_lines = refl
@@ -186,7 +226,10 @@ long_objective : report_text (Solved Primal (OptimalAt 3 (whole (pos 12345678901
 unfolding whole fraction gcd digits
 long_objective = refl
 
-long_fraction : line_text (row 1 "COST" (Number (fraction (negsuc 1234567890123456789012345678901234567890123456789012345678901234567890122) 1000000000000000000000000000000000000000000000000000000000000000000000001) ∷ []))
+long_fraction : line_text
+    (row 1 "COST"
+    (Number (fraction
+    (negsuc 1234567890123456789012345678901234567890123456789012345678901234567890122) 1000000000000000000000000000000000000000000000000000000000000000000000001) ∷ []))
     ≡ codes "    1 COST     -1234567890123456789012345678901234567890123456789012345678901234567890123/1000000000000000000000000000000000000000000000000000000000000000000000001\n"
 unfolding row fraction gcd digits
 long_fraction = refl

@@ -37,7 +37,8 @@ large = whole (pos 999999999000000000000000000)
 
 -- the opening point of a column whose entry and lower limit are too large
 point_overflow : ending_text (OverflowStop (record {
-  evidence = record { formula = 10; way = 0; p = 0; q = 0; i = 2; j = 3; term = 0; theta = whole (pos 0); refused = record { op = Mul; left = large; right = large } };
+  evidence =
+      record { formula = 10; way = 0; p = 0; q = 0; i = 2; j = 3; term = 0; theta = whole (pos 0); refused = record { op = Mul; left = large; right = large } };
   place = Some (record { basis = Bs ∷ Bs ∷ Ll ∷ []; way = true ∷ true ∷ false ∷ [] });
   card = 4;
 }))
@@ -47,7 +48,19 @@ point_overflow = refl
 
 -- the sum of a range, for which there is no basis
 range_overflow : ending_text (OverflowStop (record {
-  evidence = record { formula = 13; way = 0; p = 0; q = 0; i = 2; j = 0; term = 0; theta = whole (pos 0); refused = record { op = Sub; left = large; right = fraction (pos 1) 10000000000000000000 } };
+  evidence =
+      record {
+        formula = 13;
+        way = 0;
+        p = 0;
+        q = 0;
+        i = 2;
+        j = 0;
+        term = 0;
+        theta = whole
+            (pos 0);
+        refused = record { op = Sub; left = large; right = fraction (pos 1) 10000000000000000000 };
+      };
   place = None;
   card = 3;
 }))
@@ -57,7 +70,19 @@ range_overflow = refl
 
 -- each letter, a waypoint and a parameter
 parametric_overflow : ending_text (OverflowStop (record {
-  evidence = record { formula = 12; way = 7; p = 1; q = 5; i = 0; j = 2; term = 0; theta = fraction (negsuc 0) 2; refused = record { op = Div; left = large; right = fraction (pos 1) 3 } };
+  evidence =
+      record {
+        formula = 12;
+        way = 7;
+        p = 1;
+        q = 5;
+        i = 0;
+        j = 2;
+        term = 0;
+        theta = fraction
+            (negsuc 0) 2;
+        refused = record { op = Div; left = large; right = fraction (pos 1) 3 };
+      };
   place = Some (record { basis = Bs ∷ Bs ∷ Ll ∷ Ul ∷ Fr ∷ []; way = true ∷ false ∷ false ∷ true ∷ false ∷ [] });
   card = 6;
 }))

@@ -25,7 +25,8 @@ labelled word (Some number) = word ++ digits number
 
 abbrev pub deck_stop_text : DeckCardFault → List ℕ
 deck_stop_text fault =
-    concat (codes "STOP 12 DECK " ∷ fault_text fault.fault fault.card ∷ labelled (codes " NUMBER ") fault.number ∷ labelled (codes " COLUMN ") fault.column ∷ codes "\n" ∷ [])
+    concat (codes "STOP 12 DECK " ∷ fault_text fault.fault fault.card ∷ labelled (codes " NUMBER ") fault.number ∷ labelled
+    (codes " COLUMN ") fault.column ∷ codes "\n" ∷ [])
 
 -- a job that is too long has no card to be named
 abbrev pub card_stop_text : CardFault → List ℕ
@@ -71,8 +72,10 @@ ending_text (Ended code) = concat (codes "END " ∷ digits code ∷ codes "\n" �
 ending_text WordsRefused = codes "STOP 4 WORDS\n"
 ending_text (ControlStop fault) = concat (codes "STOP 8 CONTROL " ∷ fault_text fault.number fault.card ∷ codes "\n" ∷ [])
 ending_text (VerbStop fault) = concat (codes "STOP 10 VERB " ∷ fault_text (verb_fault_number fault.fault) fault.card ∷ codes "\n" ∷ [])
-ending_text (SingularStop basis) = concat (codes "STOP 10 VERB " ∷ fault_text (verb_fault_number Singular) basis.card ∷ codes "\n" ∷ []) ++ table_text basis.lines
-ending_text (PriceStop price) = concat (codes "STOP 10 VERB " ∷ fault_text (verb_fault_number WrongPrices) price.card ∷ codes " VARIABLE " ∷ digits price.variable ∷ codes "\n" ∷ [])
+ending_text (SingularStop basis) =
+    concat (codes "STOP 10 VERB " ∷ fault_text (verb_fault_number Singular) basis.card ∷ codes "\n" ∷ []) ++ table_text basis.lines
+ending_text (PriceStop price) =
+    concat (codes "STOP 10 VERB " ∷ fault_text (verb_fault_number WrongPrices) price.card ∷ codes " VARIABLE " ∷ digits price.variable ∷ codes "\n" ∷ [])
 ending_text (DeckStop fault) = deck_stop_text fault
 ending_text (CardStop fault) = card_stop_text fault
 ending_text (LimitStop reached) = concat (codes "STOP 16 ITERATION LIMIT " ∷ digits reached.limit ∷ codes " CARD " ∷ digits reached.card ∷ codes "\n" ∷ [])

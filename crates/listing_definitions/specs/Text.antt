@@ -128,8 +128,10 @@ interval_text entry =
 
 abbrev pub chain_end_text : Solver → ChainEnd → List ℕ
 chain_end_text solver (EndsAt value) = concat (solver_text solver ∷ codes " ENDS AT " ∷ rational_text value ∷ codes "\n" ∷ [])
-chain_end_text solver (UnboundedPast value lines) = concat (solver_text solver ∷ codes " UNBOUNDED PAST " ∷ rational_text value ∷ codes "\n" ∷ table_text lines ∷ [])
-chain_end_text solver (InfeasiblePast value lines) = concat (solver_text solver ∷ codes " INFEASIBLE PAST " ∷ rational_text value ∷ codes "\n" ∷ table_text lines ∷ [])
+chain_end_text solver (UnboundedPast value lines) =
+    concat (solver_text solver ∷ codes " UNBOUNDED PAST " ∷ rational_text value ∷ codes "\n" ∷ table_text lines ∷ [])
+chain_end_text solver (InfeasiblePast value lines) =
+    concat (solver_text solver ∷ codes " INFEASIBLE PAST " ∷ rational_text value ∷ codes "\n" ∷ table_text lines ∷ [])
 
 abbrev pub chain_text : Solver → Chain → List ℕ
 chain_text solver chain =

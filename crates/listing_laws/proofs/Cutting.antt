@@ -29,7 +29,8 @@ pub heads : (x y : ℕ) (xs ys : List ℕ) → x ∷ xs ≡ y ∷ ys → (x ≡ 
 heads x y xs ys e = (cc e, cc e)
 
 -- the parts before the first byte of a kind are equal, and so are the parts from there on
-pub cut : (p : ℕ → Bool) (a b : List ℕ) (c d : ℕ) (r s : List ℕ) → list_all (λ y. not (p y)) a ≡ true → list_all (λ y. not (p y)) b ≡ true → p c ≡ true → p d ≡ true
+pub cut : (p : ℕ → Bool) (a b : List ℕ) (c d : ℕ) (r s : List ℕ) → list_all (λ y. not (p y)) a ≡ true → list_all (λ y. not (p y)) b ≡ true → p c ≡ true
+    → p d ≡ true
     → a ++ c ∷ r ≡ b ++ d ∷ s → (a ≡ b) × (c ∷ r ≡ d ∷ s)
 cut p [] [] c d r s a_free b_free c_passes d_passes e = (refl, e)
 cut p [] (y ∷ b) c d r s a_free b_free c_passes d_passes e =

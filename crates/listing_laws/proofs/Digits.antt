@@ -130,10 +130,18 @@ pub rational_tells : (x y : ℚ) → rational_text x ≡ rational_text y → x �
 rational_tells x y e = by (x.denominator == 1) (y.denominator == 1) refl refl e
   where
     by : (b c : Bool) → (x.denominator == 1) ≡ b → (y.denominator == 1) ≡ c
-        → (if b then integer_text x.numerator else integer_text x.numerator ++ 47 ∷ digits x.denominator) ≡ (if c then integer_text y.numerator else integer_text y.numerator ++ 47 ∷ digits y.denominator) → x ≡ y
-    by true true x_whole y_whole e = same_parts x y (integer_tells x.numerator y.numerator e) (one_is x.denominator x_whole ∙ sym (one_is y.denominator y_whole))
-    by true false x_whole y_parted e = absurd (none_within is_slash (integer_text x.numerator) (integer_text y.numerator) 47 (digits y.denominator) (integer_without_slash x.numerator) refl e)
-    by false true x_parted y_whole e = absurd (none_within is_slash (integer_text y.numerator) (integer_text x.numerator) 47 (digits x.denominator) (integer_without_slash y.numerator) refl (sym e))
+        → (if b then integer_text x.numerator else integer_text x.numerator ++ 47 ∷ digits x.denominator) ≡
+        (if c then integer_text y.numerator else integer_text y.numerator ++ 47 ∷ digits y.denominator) → x ≡ y
+    by true true x_whole y_whole e =
+        same_parts x y (integer_tells x.numerator y.numerator e) (one_is x.denominator x_whole ∙ sym (one_is y.denominator y_whole))
+    by true false x_whole y_parted e =
+        absurd (none_within is_slash (integer_text x.numerator) (integer_text y.numerator) 47 (digits y.denominator) (integer_without_slash x.numerator) refl e)
+    by false true x_parted y_whole e =
+        absurd (none_within is_slash (integer_text y.numerator) (integer_text x.numerator) 47 (digits x.denominator) (integer_without_slash y.numerator) refl
+        (sym e))
     by false false x_parted y_parted e =
-        let parts = cut is_slash (integer_text x.numerator) (integer_text y.numerator) 47 47 (digits x.denominator) (digits y.denominator) (integer_without_slash x.numerator) (integer_without_slash y.numerator) refl refl e in
-        same_parts x y (integer_tells x.numerator y.numerator parts.0) (digits_tell x.denominator y.denominator (heads 47 47 (digits x.denominator) (digits y.denominator) parts.1).1)
+        let parts =
+        cut is_slash (integer_text x.numerator) (integer_text y.numerator) 47 47 (digits x.denominator) (digits y.denominator)
+        (integer_without_slash x.numerator) (integer_without_slash y.numerator) refl refl e in
+        same_parts x y (integer_tells x.numerator y.numerator parts.0)
+        (digits_tell x.denominator y.denominator (heads 47 47 (digits x.denominator) (digits y.denominator) parts.1).1)

@@ -35,7 +35,9 @@ no_blank_first (x ∷ a) r s all some e =
 right_tells : (j k : ℕ) (a b r s : List ℕ) → list_all is_digit a ≡ true → list_any is_digit a ≡ true → list_all is_digit b ≡ true → list_any is_digit b ≡ true
     → replicate j 32 ++ (a ++ 32 ∷ r) ≡ replicate k 32 ++ (b ++ 32 ∷ s) → (a ≡ b) × (r ≡ s)
 right_tells zero zero a b r s a_all a_some b_all b_some e =
-    let parts = cut is_blank a b 32 32 r s (weaker is_digit (λ x. not (is_blank x)) a digit_is_no_blank a_all) (weaker is_digit (λ x. not (is_blank x)) b digit_is_no_blank b_all) refl refl e in
+    let parts =
+    cut is_blank a b 32 32 r s (weaker is_digit (λ x. not (is_blank x)) a digit_is_no_blank a_all)
+    (weaker is_digit (λ x. not (is_blank x)) b digit_is_no_blank b_all) refl refl e in
     (parts.0, (heads 32 32 r s parts.1).1)
 right_tells zero (suc k) a b r s a_all a_some b_all b_some e = absurd (no_blank_first a (32 ∷ r) (replicate k 32 ++ (b ++ 32 ∷ s)) a_all a_some e)
 right_tells (suc j) zero a b r s a_all a_some b_all b_some e = absurd (no_blank_first b (32 ∷ s) (replicate j 32 ++ (a ++ 32 ∷ r)) b_all b_some (sym e))
@@ -48,7 +50,9 @@ name_tells x y r s x_named y_named e =
     (sym (name_in_places x x_named) ∙ ap text_in parts.0 ∙ name_in_places y y_named, parts.1)
 
 -- a line with what stands after it, in its parts
-parted : (line : Line) (r : List ℕ) → line_text line ++ r ≡ replicate (5 - length (digits line.number)) 32 ++ (digits line.number ++ 32 ∷ (name8 line.name ++ (values_text line.values ++ 10 ∷ r)))
+parted : (line : Line) (r : List ℕ) →
+    line_text line ++ r ≡ replicate (5 - length (digits line.number)) 32 ++
+    (digits line.number ++ 32 ∷ (name8 line.name ++ (values_text line.values ++ 10 ∷ r)))
 parted line r = simp (append_assoc, append-nil)
 
 same_line : (x y : Line) → x.number ≡ y.number → x.name ≡ y.name → x.values ≡ y.values → x ≡ y
@@ -79,7 +83,8 @@ first_byte zero (x ∷ a) r all some = ap (λ b. x == 32 || b) (and_parts (is_di
     or_true false = refl
 
 line_begins : (line : Line) (r : List ℕ) → begins_line (line_text line ++ r) ≡ true
-line_begins line r = ap begins_line (parted line r) ∙ first_byte (5 - length (digits line.number)) (digits line.number) _ (digits_are line.number) (digit_there line.number)
+line_begins line r =
+    ap begins_line (parted line r) ∙ first_byte (5 - length (digits line.number)) (digits line.number) _ (digits_are line.number) (digit_there line.number)
 
 -- where a line stands, another text doesn't
 no_line : (line : Line) (r s : List ℕ) → begins_line s ≡ false → line_text line ++ r ≡ s → ⊥
@@ -98,5 +103,7 @@ table_tells (x ∷ xs) (y ∷ ys) r s x_named y_named r_other s_other e =
     let whole : line_text x ++ (table_text xs ++ r) ≡ line_text y ++ (table_text ys ++ s) =
     sym (append_assoc (line_text x) (table_text xs) r) ∙ e ∙ append_assoc (line_text y) (table_text ys) s in
     let first = line_tells x y (table_text xs ++ r) (table_text ys ++ s) (x_named 0 x (omega arith)) (y_named 0 y (omega arith)) whole in
-    let rest = table_tells xs ys r s (λ i d below. x_named (suc i) d (omega (arith, below))) (λ i d below. y_named (suc i) d (omega (arith, below))) r_other s_other first.1 in
+    let rest =
+    table_tells xs ys r s (λ i d below. x_named (suc i) d (omega (arith, below)))
+    (λ i d below. y_named (suc i) d (omega (arith, below))) r_other s_other first.1 in
     (ap₂ (λ z zs. z ∷ zs) first.0 rest.0, rest.1)

@@ -22,21 +22,28 @@ use Rattle.listing_laws.proofs.Words.{number_then, rational_then, name_then, sol
 abbrev pub viewed : PathVerdict → Check → List ℕ
 viewed verdict check = verdict_head verdict ++ (codes " " ++ (check_text check ++ (codes "\n" ++ (table_text (verdict_lines verdict) ++ []))))
 
-optimal_parts : (steps : ℕ) (objective : ℚ) (rest : List ℕ) → verdict_head (OptimalAt steps objective) ++ rest ≡ codes "OPTIMAL STEPS " ++ (digits steps ++ (codes " OBJECTIVE " ++ (rational_text objective ++ rest)))
+optimal_parts : (steps : ℕ) (objective : ℚ) (rest : List ℕ) →
+    verdict_head (OptimalAt steps objective) ++ rest ≡ codes "OPTIMAL STEPS " ++ (digits steps ++ (codes " OBJECTIVE " ++ (rational_text objective ++ rest)))
 optimal_parts steps objective rest = simp (append_assoc, append-nil)
 
-unbounded_parts : (steps : ℕ) (objective : ℚ) (lines : List Line) (rest : List ℕ) → verdict_head (UnboundedBy steps objective lines) ++ rest ≡ codes "UNBOUNDED STEPS " ++ (digits steps ++ (codes " OBJECTIVE " ++ (rational_text objective ++ rest)))
+unbounded_parts : (steps : ℕ) (objective : ℚ) (lines : List Line) (rest : List ℕ) →
+    verdict_head (UnboundedBy steps objective lines) ++ rest ≡ codes "UNBOUNDED STEPS " ++
+    (digits steps ++ (codes " OBJECTIVE " ++ (rational_text objective ++ rest)))
 unbounded_parts steps objective lines rest = simp (append_assoc, append-nil)
 
-infeasible_parts : (steps : ℕ) (lines : List Line) (rest : List ℕ) → verdict_head (InfeasibleBy steps lines) ++ rest ≡ codes "INFEASIBLE STEPS " ++ (digits steps ++ (codes " RAY" ++ rest))
+infeasible_parts : (steps : ℕ) (lines : List Line) (rest : List ℕ) →
+    verdict_head (InfeasibleBy steps lines) ++ rest ≡ codes "INFEASIBLE STEPS " ++ (digits steps ++ (codes " RAY" ++ rest))
 infeasible_parts steps lines rest = simp (append_assoc, append-nil)
 
-crossed_parts : (number : ℕ) (rest : List ℕ) → verdict_head (CrossedAt number) ++ rest ≡ codes "INFEASIBLE STEPS " ++ (digits 0 ++ (codes " CROSSED " ++ (digits number ++ rest)))
+crossed_parts : (number : ℕ) (rest : List ℕ) →
+    verdict_head (CrossedAt number) ++ rest ≡ codes "INFEASIBLE STEPS " ++ (digits 0 ++ (codes " CROSSED " ++ (digits number ++ rest)))
 unfolding digits
 crossed_parts number rest = simp (append_assoc, append-nil)
 
 -- the steps and the objective, with what stands after them
-objective_then : (m n : ℕ) (x y : ℚ) (r s : List ℕ) → digits m ++ (codes " OBJECTIVE " ++ (rational_text x ++ (codes " " ++ r))) ≡ digits n ++ (codes " OBJECTIVE " ++ (rational_text y ++ (codes " " ++ s))) → (m ≡ n) × (x ≡ y) × (r ≡ s)
+objective_then : (m n : ℕ) (x y : ℚ) (r s : List ℕ) →
+    digits m ++ (codes " OBJECTIVE " ++ (rational_text x ++ (codes " " ++ r))) ≡ digits n ++ (codes " OBJECTIVE " ++ (rational_text y ++ (codes " " ++ s))) →
+    (m ≡ n) × (x ≡ y) × (r ≡ s)
 objective_then m n x y r s e =
     let steps = number_then (codes " OBJECTIVE ") m n _ _ refl e in
     let value = rational_then (codes " ") x y r s refl steps.1 in
@@ -92,7 +99,10 @@ same_filed : (x y : Filed) → x.name ≡ y.name → x.rows ≡ y.rows → x.col
 same_filed x y name rows columns entries = λ i. record { name = name i; rows = rows i; columns = columns i; entries = entries i }
 
 abbrev pub filed_rest : Filed → List ℕ
-filed_rest filed = name8 filed.name ++ (codes " ROWS " ++ (digits filed.rows ++ (codes " COLUMNS " ++ (digits filed.columns ++ (codes " ENTRIES " ++ (digits filed.entries ++ (codes "\n" ++ [])))))))
+filed_rest filed =
+    name8 filed.name ++
+    (codes " ROWS " ++
+    (digits filed.rows ++ (codes " COLUMNS " ++ (digits filed.columns ++ (codes " ENTRIES " ++ (digits filed.entries ++ (codes "\n" ++ [])))))))
 
 pub filed_tells : (x y : Filed) → IsName x.name → IsName y.name → filed_rest x ≡ filed_rest y → x ≡ y
 filed_tells x y x_named y_named e =
@@ -107,7 +117,8 @@ filed_tells x y x_named y_named e =
 same_solution : (x y : SolutionLines) → x.rows ≡ y.rows → x.columns ≡ y.columns → x ≡ y
 same_solution x y rows columns = λ i. record { rows = rows i; columns = columns i }
 
-solution_tells : (m n : Mark) (x y : SolutionLines) → AreNamed x.rows × AreNamed x.columns → AreNamed y.rows × AreNamed y.columns → solution_text m x ≡ solution_text n y → (m ≡ n) × (x ≡ y)
+solution_tells : (m n : Mark) (x y : SolutionLines) → AreNamed x.rows × AreNamed x.columns → AreNamed y.rows × AreNamed y.columns →
+    solution_text m x ≡ solution_text n y → (m ≡ n) × (x ≡ y)
 solution_tells m n x y x_named y_named e =
     let second = codes "SECTION 2 - COLUMNS\nNUMBER COLUMN AT ACTIVITY COST LOWER UPPER REDUCED\n" in
     let mark = mark_then m n _ _ (append_cancel_left (codes "SOLUTION ") _ _ e) in
@@ -116,7 +127,8 @@ solution_tells m n x y x_named y_named e =
     let columns = last_table x.columns y.columns x_named.1 y_named.1 (append_cancel_left second _ _ rows.1) in
     (mark.0, same_solution x y rows.0 columns)
 
-same_ranges : (x y : RangeLines) → x.rows_at_limit ≡ y.rows_at_limit → x.columns_at_limit ≡ y.columns_at_limit → x.rows_between ≡ y.rows_between → x.columns_between ≡ y.columns_between → x ≡ y
+same_ranges : (x y : RangeLines) → x.rows_at_limit ≡ y.rows_at_limit → x.columns_at_limit ≡ y.columns_at_limit → x.rows_between ≡ y.rows_between →
+    x.columns_between ≡ y.columns_between → x ≡ y
 same_ranges x y a b c d = λ i. record { rows_at_limit = a i; columns_at_limit = b i; rows_between = c i; columns_between = d i }
 
 ranges_tell : (x y : RangeLines) → IsNamed (Ranges x) → IsNamed (Ranges y) → ranges_text x ≡ ranges_text y → x ≡ y
@@ -139,13 +151,18 @@ ranges_tell x y x_named y_named e =
 
 -- ---- parametric runs
 
-end_parts : (solver : Solver) (value : ℚ) → chain_end_text solver (EndsAt value) ++ [] ≡ solver_text solver ++ (codes " ENDS AT " ++ (rational_text value ++ (codes "\n" ++ [])))
+end_parts : (solver : Solver) (value : ℚ) →
+    chain_end_text solver (EndsAt value) ++ [] ≡ solver_text solver ++ (codes " ENDS AT " ++ (rational_text value ++ (codes "\n" ++ [])))
 end_parts solver value = simp (append_assoc, append-nil)
 
-unbounded_past_parts : (solver : Solver) (value : ℚ) (lines : List Line) → chain_end_text solver (UnboundedPast value lines) ++ [] ≡ solver_text solver ++ (codes " UNBOUNDED PAST " ++ (rational_text value ++ (codes "\n" ++ (table_text lines ++ []))))
+unbounded_past_parts : (solver : Solver) (value : ℚ) (lines : List Line) →
+    chain_end_text solver (UnboundedPast value lines) ++ [] ≡ solver_text solver ++
+    (codes " UNBOUNDED PAST " ++ (rational_text value ++ (codes "\n" ++ (table_text lines ++ []))))
 unbounded_past_parts solver value lines = simp (append_assoc, append-nil)
 
-infeasible_past_parts : (solver : Solver) (value : ℚ) (lines : List Line) → chain_end_text solver (InfeasiblePast value lines) ++ [] ≡ solver_text solver ++ (codes " INFEASIBLE PAST " ++ (rational_text value ++ (codes "\n" ++ (table_text lines ++ []))))
+infeasible_past_parts : (solver : Solver) (value : ℚ) (lines : List Line) →
+    chain_end_text solver (InfeasiblePast value lines) ++ [] ≡ solver_text solver ++
+    (codes " INFEASIBLE PAST " ++ (rational_text value ++ (codes "\n" ++ (table_text lines ++ []))))
 infeasible_past_parts solver value lines = simp (append_assoc, append-nil)
 
 -- an end without the solver
@@ -201,7 +218,8 @@ solver_is_no_line Paraobj rest = refl
 solver_is_no_line Pararhs rest = refl
 
 interval_parts : (k : ℕ) (x : ParametricInterval) (rest : List ℕ) → interval_text (k, x) ++ rest
-    ≡ codes "INTERVAL " ++ (digits k ++ (codes " FROM " ++ (rational_text x.from ++ (codes " TO " ++ (rational_text x.to ++ (codes "\n" ++ (table_text x.lines ++ rest)))))))
+    ≡ codes "INTERVAL " ++
+    (digits k ++ (codes " FROM " ++ (rational_text x.from ++ (codes " TO " ++ (rational_text x.to ++ (codes "\n" ++ (table_text x.lines ++ rest)))))))
 interval_parts k x rest = simp (append_assoc, append-nil)
 
 same_interval : (x y : ParametricInterval) → x.from ≡ y.from → x.to ≡ y.to → x.lines ≡ y.lines → x ≡ y
@@ -220,7 +238,8 @@ module _ (solver : Solver) where
   no_end : (k : ℕ) (y : ParametricInterval) (ys : List ParametricInterval) (a b : ChainEnd) → run_text k [] a ≡ run_text k (y ∷ ys) b → ⊥
   no_end k y ys a b e = no_solver solver (run_text k (y ∷ ys) b) (end_rest a) refl (sym e ∙ whole_end solver a)
 
-  run_tells : (k : ℕ) (xs ys : List ParametricInterval) (a b : ChainEnd) → All (λ (x : ParametricInterval). AreNamed x.lines) xs → All (λ (x : ParametricInterval). AreNamed x.lines) ys → IsEndNamed a → IsEndNamed b
+  run_tells : (k : ℕ) (xs ys : List ParametricInterval) (a b : ChainEnd) → All (λ (x : ParametricInterval). AreNamed x.lines) xs
+      → All (λ (x : ParametricInterval). AreNamed x.lines) ys → IsEndNamed a → IsEndNamed b
       → run_text k xs a ≡ run_text k ys b → (xs ≡ ys) × (a ≡ b)
   run_tells k [] [] a b x_named y_named a_named b_named e = (refl, end_tells solver a b a_named b_named e)
   run_tells k [] (y ∷ ys) a b x_named y_named a_named b_named e = absurd (no_end k y ys a b e)
@@ -228,13 +247,20 @@ module _ (solver : Solver) where
   run_tells k (x ∷ xs) (y ∷ ys) a b x_named y_named a_named b_named e =
       let after = run_text (k + 1) xs a in
       let other = run_text (k + 1) ys b in
-      let whole = sym (interval_parts k x after) ∙ sym (append_assoc (interval_text (k, x)) (flat_map interval_text (enumerate_from (k + 1) xs)) (chain_end_text solver a ++ []))
-      ∙ e ∙ append_assoc (interval_text (k, y)) (flat_map interval_text (enumerate_from (k + 1) ys)) (chain_end_text solver b ++ []) ∙ interval_parts k y other in
+      let whole =
+      sym (interval_parts k x after)
+      ∙ sym (append_assoc (interval_text (k, x)) (flat_map interval_text (enumerate_from (k + 1) xs)) (chain_end_text solver a ++ []))
+      ∙ e ∙ append_assoc (interval_text (k, y)) (flat_map interval_text (enumerate_from (k + 1) ys)) (chain_end_text solver b ++ [])
+      ∙ interval_parts k y other in
       let number = number_then (codes " FROM ") k k _ _ refl (append_cancel_left (codes "INTERVAL ") _ _ whole) in
       let first = rational_then (codes " TO ") x.from y.from _ _ refl number.1 in
       let last = rational_then (codes "\n") x.to y.to _ _ refl first.1 in
-      let lines = table_tells x.lines y.lines after other (x_named 0 x (omega arith)) (y_named 0 y (omega arith)) (run_is_no_line (k + 1) xs a) (run_is_no_line (k + 1) ys b) last.1 in
-      let rest = run_tells (k + 1) xs ys a b (λ i d below. x_named (suc i) d (omega (arith, below))) (λ i d below. y_named (suc i) d (omega (arith, below))) a_named b_named lines.1 in
+      let lines =
+      table_tells x.lines y.lines after other (x_named 0 x (omega arith)) (y_named 0 y (omega arith)) (run_is_no_line (k + 1) xs a)
+      (run_is_no_line (k + 1) ys b) last.1 in
+      let rest =
+      run_tells (k + 1) xs ys a b (λ i d below. x_named (suc i) d (omega (arith, below)))
+      (λ i d below. y_named (suc i) d (omega (arith, below))) a_named b_named lines.1 in
       (ap₂ (λ z zs. z ∷ zs) (same_interval x y first.0 last.0 lines.0) rest.0, rest.1)
 
 same_chain : (x y : Chain) → x.from ≡ y.from → x.change ≡ y.change → x.intervals ≡ y.intervals → x.end ≡ y.end → x ≡ y
@@ -245,7 +271,8 @@ abbrev chain_rest : Solver → Chain → List ℕ
 chain_rest solver chain =
     codes "FROM " ++ (rational_text chain.from ++ (codes " CHANGE " ++ (chain.change ++ (codes "\n" ++ run_text solver 1 chain.intervals chain.end))))
 
-chain_tells : (solver : Solver) (x y : Chain) → IsNamed (Parametric solver x) → IsNamed (Parametric solver y) → chain_rest solver x ≡ chain_rest solver y → x ≡ y
+chain_tells : (solver : Solver) (x y : Chain) → IsNamed (Parametric solver x) → IsNamed (Parametric solver y) → chain_rest solver x ≡ chain_rest solver y →
+    x ≡ y
 chain_tells solver x y x_named y_named e =
     let first = rational_then (codes " CHANGE ") x.from y.from _ _ refl (append_cancel_left (codes "FROM ") _ _ e) in
     let change = name_then x.change y.change _ _ x_named.0 y_named.0 first.1 in
@@ -262,9 +289,12 @@ no_run (InfeasibleBy m xs) check solver chain e = begin_otherwise 1 _ _ refl e
 no_run (UnboundedBy m x xs) check solver chain e = begin_otherwise 1 _ _ refl e
 
 pub report_tells : (x y : Report) → IsNamed x → IsNamed y → report_text x ≡ report_text y → x ≡ y
-report_tells (Titled a) (Titled b) x_named y_named e = ap Titled (append_cancel_right a b (codes "\n") (append_cancel_left (codes "TITLE ") (a ++ codes "\n") (b ++ codes "\n") e))
-report_tells (Converted a) (Converted b) x_named y_named e = ap Converted (filed_tells a b x_named y_named (append_cancel_left (codes "CONVERT ") (filed_rest a) (filed_rest b) e))
-report_tells (Revised a) (Revised b) x_named y_named e = ap Revised (filed_tells a b x_named y_named (append_cancel_left (codes "REVISE  ") (filed_rest a) (filed_rest b) e))
+report_tells (Titled a) (Titled b) x_named y_named e =
+    ap Titled (append_cancel_right a b (codes "\n") (append_cancel_left (codes "TITLE ") (a ++ codes "\n") (b ++ codes "\n") e))
+report_tells (Converted a) (Converted b) x_named y_named e =
+    ap Converted (filed_tells a b x_named y_named (append_cancel_left (codes "CONVERT ") (filed_rest a) (filed_rest b) e))
+report_tells (Revised a) (Revised b) x_named y_named e =
+    ap Revised (filed_tells a b x_named y_named (append_cancel_left (codes "REVISE  ") (filed_rest a) (filed_rest b) e))
 report_tells (SetUp a s) (SetUp b t) x_named y_named e =
     let name = name_tells a b _ _ x_named y_named (append_cancel_left (codes "SETUP   ") _ _ e) in
     let sense = sense_then s t [] [] (append_cancel_left (codes " ") _ _ name.1) in

@@ -141,7 +141,9 @@ one_value : (x y : Value) (r s : List ℕ) → Ends r → Ends s → value_text 
 one_value x y r s r_ends s_ends e =
     let whole : value_text x ++ r_ends.byte ∷ r_ends.bytes ≡ value_text y ++ s_ends.byte ∷ s_ends.bytes =
     ap (λ t. value_text x ++ t) (sym r_ends.is) ∙ e ∙ ap (λ t. value_text y ++ t) s_ends.is in
-    let parts = cut ends_value (value_text x) (value_text y) r_ends.byte s_ends.byte r_ends.bytes s_ends.bytes (value_goes_on x) (value_goes_on y) r_ends.ends s_ends.ends whole in
+    let parts =
+    cut ends_value (value_text x) (value_text y) r_ends.byte s_ends.byte r_ends.bytes s_ends.bytes (value_goes_on x)
+    (value_goes_on y) r_ends.ends s_ends.ends whole in
     (value_tells x y parts.0, r_ends.is ∙ parts.1 ∙ sym s_ends.is)
 
 pub values_tell : (xs ys : List Value) (r s : List ℕ) → values_text xs ++ 10 ∷ r ≡ values_text ys ++ 10 ∷ s → (xs ≡ ys) × (r ≡ s)

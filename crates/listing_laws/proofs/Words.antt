@@ -33,10 +33,13 @@ twice : (p : ℕ → Bool) (x : ℕ) → p x ≡ true → not (not (p x)) ≡ tr
 twice p x e = ap (λ b. not (not b)) e
 
 -- two texts of bytes of a kind, each with the same word after it, which isn't of the kind
-pub then_word : (p : ℕ → Bool) (word a b r s : List ℕ) → stops p word ≡ true → list_all p a ≡ true → list_all p b ≡ true → a ++ (word ++ r) ≡ b ++ (word ++ s) → (a ≡ b) × (r ≡ s)
+pub then_word : (p : ℕ → Bool) (word a b r s : List ℕ) → stops p word ≡ true → list_all p a ≡ true → list_all p b ≡ true → a ++ (word ++ r) ≡ b ++ (word ++ s) →
+    (a ≡ b) × (r ≡ s)
 then_word p [] a b r s stop a_all b_all e = cc stop
 then_word p (c ∷ word) a b r s stop a_all b_all e =
-    let parts = cut (λ x. not (p x)) a b c c (word ++ r) (word ++ s) (weaker p (λ x. not (not (p x))) a (twice p) a_all) (weaker p (λ x. not (not (p x))) b (twice p) b_all) stop stop e in
+    let parts =
+    cut (λ x. not (p x)) a b c c (word ++ r) (word ++ s) (weaker p (λ x. not (not (p x))) a (twice p) a_all)
+    (weaker p (λ x. not (not (p x))) b (twice p) b_all) stop stop e in
     (parts.0, append_cancel_left word r s (heads c c (word ++ r) (word ++ s) parts.1).1)
 
 pub number_then : (word : List ℕ) (m n : ℕ) (r s : List ℕ) → stops is_digit word ≡ true → digits m ++ (word ++ r) ≡ digits n ++ (word ++ s) → (m ≡ n) × (r ≡ s)
@@ -44,7 +47,8 @@ number_then word m n r s stop e =
     let parts = then_word is_digit word (digits m) (digits n) r s stop (digits_are m) (digits_are n) e in
     (digits_tell m n parts.0, parts.1)
 
-pub rational_then : (word : List ℕ) (x y : ℚ) (r s : List ℕ) → stops is_of_number word ≡ true → rational_text x ++ (word ++ r) ≡ rational_text y ++ (word ++ s) → (x ≡ y) × (r ≡ s)
+pub rational_then : (word : List ℕ) (x y : ℚ) (r s : List ℕ) → stops is_of_number word ≡ true →
+    rational_text x ++ (word ++ r) ≡ rational_text y ++ (word ++ s) → (x ≡ y) × (r ≡ s)
 rational_then word x y r s stop e =
     let parts = then_word is_of_number word (rational_text x) (rational_text y) r s stop (rational_of_number x) (rational_of_number y) e in
     (rational_tells x y parts.0, parts.1)
@@ -61,7 +65,8 @@ printable_in_line x e = grind (arith, nat_tests, e)
 -- a name up to the end of its line
 pub name_then : (x y : Name) (r s : List ℕ) → IsName x → IsName y → x ++ (codes "\n" ++ r) ≡ y ++ (codes "\n" ++ s) → (x ≡ y) × (r ≡ s)
 name_then x y r s x_named y_named e =
-    then_word is_in_line (codes "\n") x y r s refl (weaker is_printable is_in_line x printable_in_line x_named.printable) (weaker is_printable is_in_line y printable_in_line y_named.printable) e
+    then_word is_in_line (codes "\n") x y r s refl (weaker is_printable is_in_line x printable_in_line x_named.printable)
+    (weaker is_printable is_in_line y printable_in_line y_named.printable) e
 
 solver_tells : (x y : Solver) → solver_text x ≡ solver_text y → x ≡ y
 solver_tells Primal Primal e = refl
@@ -157,7 +162,8 @@ operation_then x y r s e =
     let parts = then_word is_in_word (codes " ") (operation_text x) (operation_text y) r s refl (operation_in_word x) (operation_in_word y) e in
     (operation_tells x y parts.0, parts.1)
 
-refused_parts : (x : Refused) (rest : List ℕ) → refused_text x ++ rest ≡ operation_text x.op ++ (codes " " ++ (rational_text x.left ++ (codes " " ++ (rational_text x.right ++ rest))))
+refused_parts : (x : Refused) (rest : List ℕ) →
+    refused_text x ++ rest ≡ operation_text x.op ++ (codes " " ++ (rational_text x.left ++ (codes " " ++ (rational_text x.right ++ rest))))
 refused_parts x rest = simp (append_assoc, append-nil)
 
 same_refused : (x y : Refused) → x.op ≡ y.op → x.left ≡ y.left → x.right ≡ y.right → x ≡ y

@@ -45,7 +45,8 @@ IsNamed (Inserted name basic) = IsName name
 IsNamed (Solved solver verdict check) = AreNamed (verdict_lines verdict)
 IsNamed (Solution mark lines) = AreNamed lines.rows × AreNamed lines.columns
 IsNamed (Ranges lines) = AreNamed lines.rows_at_limit × AreNamed lines.columns_at_limit × AreNamed lines.rows_between × AreNamed lines.columns_between
-IsNamed (Parametric solver chain) = IsName chain.change × All (λ (interval : ParametricInterval). AreNamed interval.lines) chain.intervals × IsEndNamed chain.end
+IsNamed (Parametric solver chain) =
+    IsName chain.change × All (λ (interval : ParametricInterval). AreNamed interval.lines) chain.intervals × IsEndNamed chain.end
 
 -- Two reports with equal texts are of one kind, and all that they print is equal: the printed fields of a report are all its fields,
 -- so that they are one report.

@@ -37,17 +37,22 @@ none_found k j (line ∷ lines) below more =
     ap (λ b. cond b (Some line) (find (λ line. nat_eq line.number j) lines)) (other_number line k j parts.0 more) ∙ none_found k j lines parts.1 more
 
 -- one line more, of another number
-other_found : (j : ℕ) (lines : List Line) (line : Line) → nat_eq line.number j ≡ false → find (λ line. nat_eq line.number j) (lines ++ line ∷ []) ≡ find (λ line. nat_eq line.number j) lines
+other_found : (j : ℕ) (lines : List Line) (line : Line) → nat_eq line.number j ≡ false →
+    find (λ line. nat_eq line.number j) (lines ++ line ∷ []) ≡ find (λ line. nat_eq line.number j) lines
 other_found j [] line other = ap (λ b. cond b (Some line) None) other
 other_found j (first ∷ lines) line other = ap (λ o. cond (nat_eq first.number j) (Some first) o) (other_found j lines line other)
 
 -- one line more, of a number that has none before
-last_found : (j : ℕ) (lines : List Line) (line : Line) → find (λ line. nat_eq line.number j) lines ≡ None → nat_eq line.number j ≡ true → find (λ line. nat_eq line.number j) (lines ++ line ∷ []) ≡ Some line
+last_found : (j : ℕ) (lines : List Line) (line : Line) → find (λ line. nat_eq line.number j) lines ≡ None → nat_eq line.number j ≡ true →
+    find (λ line. nat_eq line.number j) (lines ++ line ∷ []) ≡ Some line
 last_found j [] line none same = ap (λ b. cond b (Some line) None) same
 last_found j (first ∷ lines) line none same = by (nat_eq first.number j) (last_found j lines line) none
   where
-    by : (b : Bool) → (find (λ line. nat_eq line.number j) lines ≡ None → nat_eq line.number j ≡ true → find (λ line. nat_eq line.number j) (lines ++ line ∷ []) ≡ Some line) →
-        cond b (Some first) (find (λ line. nat_eq line.number j) lines) ≡ None → cond b (Some first) (find (λ line. nat_eq line.number j) (lines ++ line ∷ [])) ≡ Some line
+    by : (b : Bool) →
+        (find (λ line. nat_eq line.number j) lines ≡ None → nat_eq line.number j ≡ true →
+        find (λ line. nat_eq line.number j) (lines ++ line ∷ []) ≡ Some line) →
+        cond b (Some first) (find (λ line. nat_eq line.number j) lines) ≡ None →
+        cond b (Some first) (find (λ line. nat_eq line.number j) (lines ++ line ∷ [])) ≡ Some line
     by true later none = absurd (cc none)
     by false later none = later none same
 
@@ -105,12 +110,16 @@ module _ (of : List ℕ → Option ℚ) (sheet : Sheet) where
     | Some values ↦ then_more (multiplier_in of sheet k rest) (ray_in of sheet ks)
   ]
 
-  here : (old : List ℕ) (k left : ℕ) (rest : List ℕ) (lines : List Line) → ray_in of sheet (variables sheet.lp.matrix) old ≡ prefixed lines (ray_in of sheet (numbers_from (k + 1) left) rest) → 0 < left → (o : Option (List ℕ)) →
-      left_after (line_head sheet (k + 1)) rest ≡ o → ray_in of sheet (variables sheet.lp.matrix) old ≡ prefixed lines (next_by (k + 1) (numbers_from (k + 1 + 1) (left - 1)) rest o)
+  here : (old : List ℕ) (k left : ℕ) (rest : List ℕ) (lines : List Line) →
+      ray_in of sheet (variables sheet.lp.matrix) old ≡ prefixed lines (ray_in of sheet (numbers_from (k + 1) left) rest) → 0 < left → (o : Option (List ℕ)) →
+      left_after (line_head sheet (k + 1)) rest ≡ o →
+      ray_in of sheet (variables sheet.lp.matrix) old ≡ prefixed lines (next_by (k + 1) (numbers_from (k + 1 + 1) (left - 1)) rest o)
   here old k left rest lines whole some o head =
-      whole ∙ ap (λ ks. prefixed lines (ray_in of sheet ks rest)) (next_number (k + 1) left some) ∙ ap (λ o. prefixed lines (next_by (k + 1) (numbers_from (k + 1 + 1) (left - 1)) rest o)) head
+      whole ∙ ap (λ ks. prefixed lines (ray_in of sheet ks rest)) (next_number (k + 1) left some)
+      ∙ ap (λ o. prefixed lines (next_by (k + 1) (numbers_from (k + 1 + 1) (left - 1)) rest o)) head
 
-  pub ray_goes_on : (old : List ℕ) (k left : ℕ) (rest new : List ℕ) (ray : List ℚ) (x : ℚ) → IsRaySoFar old k left rest ray → 0 < left → IsMultiplier of sheet (k + 1) rest new x → IsRaySoFar old (k + 1) (left - 1) new (ray ++ x ∷ [])
+  pub ray_goes_on : (old : List ℕ) (k left : ℕ) (rest new : List ℕ) (ray : List ℚ) (x : ℚ) → IsRaySoFar old k left rest ray → 0 < left →
+      IsMultiplier of sheet (k + 1) rest new x → IsRaySoFar old (k + 1) (left - 1) new (ray ++ x ∷ [])
   ray_goes_on old k left rest new ray x so_far some (of_line line after head is number value) = record {
     lines = so_far.lines ++ line ∷ [];
     below =
@@ -124,25 +133,30 @@ module _ (of : List ℕ → Option ℚ) (sheet : Sheet) where
         ap₂ (λ xs y. xs ++ y ∷ [])
         (so_far.are ∙ same_on (λ j. numbered j so_far.lines) (λ j. numbered j (so_far.lines ++ line ∷ [])) 1 k
         (λ j l. ap number_found (sym (other_found j so_far.lines line (unequal line.number (k + 1) j number (omega arith))))))
-        (value ∙ ap number_found (sym (last_found (k + 1) so_far.lines line (none_found k (k + 1) so_far.lines so_far.below (omega arith)) (equal line.number (k + 1) number))))
+        (value ∙ ap number_found
+        (sym (last_found (k + 1) so_far.lines line (none_found k (k + 1) so_far.lines so_far.below (omega arith)) (equal line.number (k + 1) number))))
         ∙ all_numbers (λ j. numbered j (so_far.lines ++ line ∷ [])) k;
   }
   ray_goes_on old k left rest new ray x so_far some (without_line head same value) = record {
     lines = so_far.lines;
     below = weaker_below k so_far.lines so_far.below;
-    whole = here old k left rest so_far.lines so_far.whole some None head ∙ ap (λ r. prefixed so_far.lines (ray_in of sheet (numbers_from (k + 1 + 1) (left - 1)) r)) (sym same);
+    whole =
+        here old k left rest so_far.lines so_far.whole some None head
+        ∙ ap (λ r. prefixed so_far.lines (ray_in of sheet (numbers_from (k + 1 + 1) (left - 1)) r)) (sym same);
     are =
         ap₂ (λ xs y. xs ++ y ∷ []) so_far.are (value ∙ ap number_found (sym (none_found k (k + 1) so_far.lines so_far.below (omega arith))))
         ∙ all_numbers (λ j. numbered j so_far.lines) k;
   }
 
-  pub ray_fails : (old : List ℕ) (k left : ℕ) (rest new : List ℕ) (ray : List ℚ) → IsRaySoFar old k left rest ray → 0 < left → IsMultiplierRead of sheet (k + 1) rest new None → ray_in of sheet (variables sheet.lp.matrix) old ≡ None
+  pub ray_fails : (old : List ℕ) (k left : ℕ) (rest new : List ℕ) (ray : List ℚ) → IsRaySoFar old k left rest ray → 0 < left →
+      IsMultiplierRead of sheet (k + 1) rest new None → ray_in of sheet (variables sheet.lp.matrix) old ≡ None
   ray_fails old k left rest new ray so_far some none =
       here old k left rest so_far.lines so_far.whole some (Some none.0) none.1
       ∙ ap (λ o. prefixed so_far.lines (then_more o (ray_in of sheet (numbers_from (k + 1 + 1) (left - 1))))) none.2
 
   -- no further table line follows, or one does
-  pub ray_ends : (old : List ℕ) (k left : ℕ) (rest : List ℕ) (ray : List ℚ) → IsRaySoFar old k left rest ray → k ≡ size sheet.lp.matrix → left ≡ 0 → begins_table_line rest ≡ false → IsRayRead of sheet old rest (Some ray)
+  pub ray_ends : (old : List ℕ) (k left : ℕ) (rest : List ℕ) (ray : List ℚ) → IsRaySoFar old k left rest ray → k ≡ size sheet.lp.matrix → left ≡ 0 →
+      begins_table_line rest ≡ false → IsRayRead of sheet old rest (Some ray)
   ray_ends old k left rest ray so_far all over clear = (
     so_far.lines,
     so_far.whole ∙ ap (λ n. prefixed so_far.lines (ray_in of sheet (numbers_from (k + 1) n) rest)) over
@@ -151,7 +165,8 @@ module _ (of : List ℕ → Option ℚ) (sheet : Sheet) where
     so_far.are ∙ ap (λ n. map (λ j. numbered j so_far.lines) (numbers_from 1 n)) all,
   )
 
-  pub line_follows : (old : List ℕ) (k left : ℕ) (rest : List ℕ) (ray : List ℚ) → IsRaySoFar old k left rest ray → left ≡ 0 → begins_table_line rest ≡ true → ray_in of sheet (variables sheet.lp.matrix) old ≡ None
+  pub line_follows : (old : List ℕ) (k left : ℕ) (rest : List ℕ) (ray : List ℚ) → IsRaySoFar old k left rest ray → left ≡ 0 → begins_table_line rest ≡ true →
+      ray_in of sheet (variables sheet.lp.matrix) old ≡ None
   line_follows old k left rest ray so_far over begins =
       so_far.whole ∙ ap (λ n. prefixed so_far.lines (ray_in of sheet (numbers_from (k + 1) n) rest)) over
       ∙ ap (λ b. prefixed so_far.lines (if b then None else Some ([], rest))) begins
@@ -161,5 +176,6 @@ module _ (of : List ℕ → Option ℚ) (sheet : Sheet) where
   abbrev unless_zero : Line × List ℕ → Parsed Line
   unless_zero got = if eq_ℚ (number_at 0 got.0) zero_ℚ then None else Some got
 
-  pub some_line : (k : ℕ) (old new : List ℕ) (line : Line) → line_in of sheet (AnyNumber ∷ []) k old ≡ Some (line, new) → eq_ℚ (number_at 0 line) zero_ℚ ≡ false → multiplier_in of sheet k old ≡ Some (line, new)
+  pub some_line : (k : ℕ) (old new : List ℕ) (line : Line) → line_in of sheet (AnyNumber ∷ []) k old ≡ Some (line, new) →
+      eq_ℚ (number_at 0 line) zero_ℚ ≡ false → multiplier_in of sheet k old ≡ Some (line, new)
   some_line k old new line is some = ap (option_and_then unless_zero) is ∙ ap (λ b. if b then None else Some (line, new)) some

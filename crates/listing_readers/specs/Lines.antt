@@ -12,4 +12,5 @@ abbrev pub code_in : List ℕ → Parsed Value
 code_in rest = with_text (codes " ") (with_word (λ word. option_map Code (named all_codes word)) (λ value left. Some (value, left))) rest
 
 abbrev pub known_in : Value → List ℕ → Parsed Value
-known_in value rest = with_text (codes " ") (with_word (λ word. if bytes_eq (value_text value) word then Some value else None) (λ value left. Some (value, left))) rest
+known_in value rest =
+    with_text (codes " ") (with_word (λ word. if bytes_eq (value_text value) word then Some value else None) (λ value left. Some (value, left))) rest

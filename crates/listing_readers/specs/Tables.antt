@@ -55,12 +55,14 @@ module _ (of : List ℕ → Option ℚ) where
   module _ (sheet : questions.Sheet) where
     abbrev pub IsLineRead : Shape → ℕ → List ℕ → List ℕ → Option Numbers → Type 0
     IsLineRead shape k old new None = line_in of sheet (slots_of shape sheet k) k old ≡ None
-    IsLineRead shape k old new (Some numbers) = (line : Line) × (line_in of sheet (slots_of shape sheet k) k old ≡ Some (line, new)) × (line.number ≡ k) × (numbers ≡ numbers_of shape line.values)
+    IsLineRead shape k old new (Some numbers) =
+        (line : Line) × (line_in of sheet (slots_of shape sheet k) k old ≡ Some (line, new)) × (line.number ≡ k) × (numbers ≡ numbers_of shape line.values)
 
     abbrev pub IsTableRead : Shape → List ℕ → List ℕ → List ℕ → Option (List Numbers) → Type 0
     IsTableRead shape ks old new None = table_in of sheet (slots_of shape sheet) ks old ≡ None
     IsTableRead shape ks old new (Some numbers) =
-        (lines : List Line) × (table_in of sheet (slots_of shape sheet) ks old ≡ Some (lines, new)) × (numbers ≡ map (λ line. numbers_of shape line.values) lines)
+        (lines : List Line) × (table_in of sheet (slots_of shape sheet) ks old ≡ Some (lines, new)) ×
+        (numbers ≡ map (λ line. numbers_of shape line.values) lines)
 
     abbrev pub IsRayRead : List ℕ → List ℕ → Option (List ℚ) → Type 0
     IsRayRead old new None = ray_in of sheet (variables sheet.lp.matrix) old ≡ None
@@ -68,7 +70,8 @@ module _ (of : List ℕ → Option ℚ) where
 
   -- the multiplier of variable k was read of its line, or it is 0 where it has none here
   pub data IsMultiplier (sheet : questions.Sheet) (k : ℕ) (old new : List ℕ) (x : ℚ) : Type 0 where
-    of_line : (line : Line) (left : List ℕ) → left_after (line_head sheet k) old ≡ Some left → multiplier_in of sheet k old ≡ Some (line, new) → line.number ≡ k → x ≡ number_at 0 line →
+    of_line : (line : Line) (left : List ℕ) → left_after (line_head sheet k) old ≡ Some left → multiplier_in of sheet k old ≡ Some (line, new) →
+        line.number ≡ k → x ≡ number_at 0 line →
         IsMultiplier sheet k old new x
     without_line : left_after (line_head sheet k) old ≡ None → new ≡ old → x ≡ zero_ℚ → IsMultiplier sheet k old new x
 

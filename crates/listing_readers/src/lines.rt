@@ -62,7 +62,8 @@ fn take_name_after_blank(cursor: &mut Cursor<'_>, name: Name) -> bool
 pub fn take_head(cursor: &mut Cursor<'_>, sheet: Sheet<'_>, k: u32) -> bool
     requires sheet { IsSheet sheet }
     requires variable { IsVariable sheet.lp.now.matrix k }
-    ensures { left_after (line_head (sheet_view sheet.entry) k) cursor.old ≡ taken result cursor.new }
+    ensures { left_after (line_head (sheet_view sheet.entry) k) cursor.old ≡
+        taken result cursor.new }
 {
     take_number(cursor, k) && take_name_after_blank(cursor, name_of(sheet, k))
 }
@@ -114,7 +115,8 @@ pub fn operation_of(word: &[u8]) -> Option<Op>
 
 /// Where a variable stands, after a blank.
 pub fn code(cursor: &mut Cursor<'_>) -> Result<At, Unread>
-    ensures { IfRead result (λ at. code_in cursor.old ≡ option_map (λ at. (Code at, cursor.new)) at) }
+    ensures { IfRead result
+        (λ at. code_in cursor.old ≡ option_map (λ at. (Code at, cursor.new)) at) }
 {
     if !cursor.take(b" ") {
         return Err(Unread::Absent);
@@ -128,7 +130,9 @@ pub fn number<'a, T: Checks>(
     cursor: &mut Cursor<'a>,
     by: By,
 ) -> Result<Number<'a>, Unread>
-    ensures { IfRead result (λ x. slot_in (number_in T.checker by) AnyNumber cursor.old ≡ option_map (λ x. (reports.Number x, cursor.new)) x) }
+    ensures { IfRead result
+        (λ x. slot_in (number_in T.checker by) AnyNumber cursor.old ≡
+        option_map (λ x. (reports.Number x, cursor.new)) x) }
 {
     if !cursor.take(b" ") {
         return Err(Unread::Absent);

@@ -87,7 +87,8 @@ pub fn begins_table_line(bytes: &[u8]) -> bool
 fn begins_line(cursor: &Cursor<'_>, sheet: Sheet<'_>, k: u32) -> bool
     requires sheet { IsSheet sheet }
     requires variable { IsVariable sheet.lp.now.matrix k }
-    ensures { (left : List ℕ) × (left_after (line_head (sheet_view sheet.entry) k) cursor.now ≡ taken result left) }
+    ensures { (left : List ℕ) ×
+        (left_after (line_head (sheet_view sheet.entry) k) cursor.now ≡ taken result left) }
 {
     let mut ahead = Cursor::new(cursor.rest());
     take_head(&mut ahead, sheet, k)
@@ -103,7 +104,9 @@ fn multiplier<'a, T: Checks>(
 ) -> Result<Number<'a>, Unread>
     requires sheet { IsSheet sheet }
     requires variable { IsVariable sheet.lp.now.matrix k }
-    ensures { IfRead result (IsMultiplierRead (number_in T.checker by) (sheet_view sheet.entry) k cursor.old cursor.new) }
+    ensures { IfRead result
+        (IsMultiplierRead (number_in T.checker by)
+        (sheet_view sheet.entry) k cursor.old cursor.new) }
 {
     if !begins_line(cursor, sheet, k) {
         return Ok(Number::zero());
@@ -123,7 +126,8 @@ pub fn ray<'a, T: Checks>(
     sheet: Sheet<'_>,
 ) -> Result<Option<Vec<Number<'a>>>, NoMemory>
     requires { IsSheet sheet }
-    ensures { IfOk result (λ found. IsRayRead (number_in T.checker by) (sheet_view sheet.entry) cursor.old cursor.new
+    ensures { IfOk result
+        (λ found. IsRayRead (number_in T.checker by) (sheet_view sheet.entry) cursor.old cursor.new
         (option_map (λ ray. ray.items) found)) }
 {
     let count = sheet.lp.number_of_variables();

@@ -49,7 +49,8 @@ fn take_labelled_fraction(cursor: &mut Cursor<'_>, label: &[u8]) -> bool
 
 // Takes a text, a count and the end of the line.
 fn take_count_and_end(cursor: &mut Cursor<'_>, label: &[u8]) -> bool
-    ensures { left_by (Text label.now ∷ Count ∷ Text (codes "\n") ∷ []) cursor.old ≡ taken result cursor.new }
+    ensures { left_by (Text label.now ∷ Count ∷ Text (codes "\n") ∷ []) cursor.old ≡
+        taken result cursor.new }
 {
     cursor.take(label) && take_count(cursor) && cursor.take(b"\n")
 }
@@ -59,7 +60,9 @@ fn take_count_and_end(cursor: &mut Cursor<'_>, label: &[u8]) -> bool
 // Takes two labels, each with a count, and the end of the line.
 #[tactic(auto, using(walk_definitions::proofs::Texts::left_by_both))]
 fn take_two_counts_and_end(cursor: &mut Cursor<'_>, first: &[u8], second: &[u8]) -> bool
-    ensures { left_by (Text first.now ∷ Count ∷ Text second.now ∷ Count ∷ Text (codes "\n") ∷ []) cursor.old ≡ taken result cursor.new }
+    ensures { left_by
+        (Text first.now ∷ Count ∷ Text second.now ∷ Count ∷ Text (codes "\n") ∷ []) cursor.old ≡
+        taken result cursor.new }
 {
     take_counted(cursor, first) && take_count_and_end(cursor, second)
 }
@@ -91,7 +94,8 @@ fn is_price_stop(bytes: &[u8]) -> bool
 // The two operands of an overflow.
 #[tactic(auto, using(walk_definitions::proofs::Texts::left_by_both))]
 fn take_operands(cursor: &mut Cursor<'_>) -> bool
-    ensures { left_by (Text (codes " ") ∷ Fraction ∷ Text (codes " ") ∷ Fraction ∷ []) cursor.old ≡ taken result cursor.new }
+    ensures { left_by (Text (codes " ") ∷ Fraction ∷ Text (codes " ") ∷ Fraction ∷ []) cursor.old ≡
+        taken result cursor.new }
 {
     take_labelled_fraction(cursor, b" ") && take_labelled_fraction(cursor, b" ")
 }
@@ -106,7 +110,9 @@ fn take_named_operation(cursor: &mut Cursor<'_>) -> bool
 // The operation and the operands of an overflow.
 #[tactic(auto, using(walk_definitions::proofs::Texts::left_by_both))]
 fn take_refused(cursor: &mut Cursor<'_>) -> bool
-    ensures { left_by (Text (codes " ") ∷ Operation ∷ Text (codes " ") ∷ Fraction ∷ Text (codes " ") ∷ Fraction ∷ []) cursor.old ≡ taken result cursor.new }
+    ensures { left_by
+        (Text (codes " ") ∷ Operation ∷ Text (codes " ") ∷ Fraction ∷ Text
+        (codes " ") ∷ Fraction ∷ []) cursor.old ≡ taken result cursor.new }
 {
     take_named_operation(cursor) && take_operands(cursor)
 }
@@ -122,7 +128,8 @@ fn take_overflow_operation(cursor: &mut Cursor<'_>) -> bool
 // Two counts, each with its label.
 #[tactic(auto, using(walk_definitions::proofs::Texts::left_by_both))]
 fn take_two_counts(cursor: &mut Cursor<'_>, first: &[u8], second: &[u8]) -> bool
-    ensures { left_by (Text first.now ∷ Count ∷ Text second.now ∷ Count ∷ []) cursor.old ≡ taken result cursor.new }
+    ensures { left_by (Text first.now ∷ Count ∷ Text second.now ∷ Count ∷ []) cursor.old ≡
+        taken result cursor.new }
 {
     take_counted(cursor, first) && take_counted(cursor, second)
 }
@@ -130,7 +137,9 @@ fn take_two_counts(cursor: &mut Cursor<'_>, first: &[u8], second: &[u8]) -> bool
 // The places of an overflow.
 #[tactic(auto, using(walk_definitions::proofs::Texts::left_by_both))]
 fn take_places(cursor: &mut Cursor<'_>) -> bool
-    ensures { left_by (Text (codes " I ") ∷ Count ∷ Text (codes " J ") ∷ Count ∷ Text (codes " TERM ") ∷ Count ∷ []) cursor.old ≡ taken result cursor.new }
+    ensures { left_by
+        (Text (codes " I ") ∷ Count ∷ Text (codes " J ") ∷ Count ∷ Text
+        (codes " TERM ") ∷ Count ∷ []) cursor.old ≡ taken result cursor.new }
 {
     take_two_counts(cursor, b" I ", b" J ") && take_counted(cursor, b" TERM ")
 }
@@ -178,7 +187,9 @@ fn is_line(bytes: &[u8], line: &[u8]) -> bool
 
 // A fault of a device, or that memory ran out.
 fn is_fault(bytes: &[u8]) -> bool
-    ensures { result ≡ (has_form read_fault bytes.now || (has_form punch_fault bytes.now || has_form memory_stop bytes.now)) }
+    ensures { result ≡
+        (has_form read_fault bytes.now ||
+        (has_form punch_fault bytes.now || has_form memory_stop bytes.now)) }
 {
     is_line(bytes, b"STOP 24 READ FAULT\n")
         || is_line(bytes, b"STOP 26 PUNCH FAULT\n")
@@ -226,7 +237,8 @@ fn take_name_and_text(cursor: &mut Cursor<'_>, name: Name, text: &[u8]) -> bool
 // Takes a verb, a name and a text.
 #[tactic(auto, using(walk_definitions::proofs::Texts::left_after_both))]
 fn take_named_line(cursor: &mut Cursor<'_>, verb: &[u8], name: Name, text: &[u8]) -> bool
-    ensures { left_after (verb.now ++ (name8 name ++ text.now)) cursor.old ≡ taken result cursor.new }
+    ensures { left_after (verb.now ++ (name8 name ++ text.now)) cursor.old ≡
+        taken result cursor.new }
 {
     cursor.take(verb) && take_name_and_text(cursor, name, text)
 }

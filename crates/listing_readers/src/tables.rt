@@ -53,8 +53,10 @@ fn two_numbers<'a, T: Checks>(
     cursor: &mut Cursor<'a>,
     by: By,
 ) -> Result<(Number<'a>, Number<'a>), Unread>
-    ensures { IfRead result (λ found. values_in (number_in T.checker by) (AnyNumber ∷ AnyNumber ∷ []) cursor.old
-        ≡ option_map (λ two. (reports.Number two.0 ∷ reports.Number two.1 ∷ [], cursor.new)) found) }
+    ensures { IfRead result
+        (λ found. values_in (number_in T.checker by) (AnyNumber ∷ AnyNumber ∷ []) cursor.old
+        ≡ option_map
+        (λ two. (reports.Number two.0 ∷ reports.Number two.1 ∷ [], cursor.new)) found) }
 {
     let first = number::<T>(alloc, cursor, by)?;
     let second = number::<T>(alloc, cursor, by)?;
@@ -80,8 +82,11 @@ fn four_numbers<'a, T: Checks>(
     cursor: &mut Cursor<'a>,
     by: By,
 ) -> Result<((Number<'a>, Number<'a>), (Number<'a>, Number<'a>)), Unread>
-    ensures { IfRead result (λ found. values_in (number_in T.checker by) (AnyNumber ∷ AnyNumber ∷ AnyNumber ∷ AnyNumber ∷ []) cursor.old
-        ≡ option_map (λ four. (reports.Number four.0.0 ∷ reports.Number four.0.1 ∷ reports.Number four.1.0 ∷ reports.Number four.1.1 ∷ [], cursor.new)) found) }
+    ensures { IfRead result
+        (λ found. values_in (number_in T.checker by)
+        (AnyNumber ∷ AnyNumber ∷ AnyNumber ∷ AnyNumber ∷ []) cursor.old
+        ≡ option_map
+        (λ four. (reports.Number four.0.0 ∷ reports.Number four.0.1 ∷ reports.Number four.1.0 ∷ reports.Number four.1.1 ∷ [], cursor.new)) found) }
 {
     let two = two_numbers::<T>(alloc, cursor, by)?;
     let more = two_numbers::<T>(alloc, cursor, by)?;
@@ -95,7 +100,9 @@ fn number_after_limit<'a, T: Checks>(
     by: By,
     high: Option<Frac>,
 ) -> Result<Number<'a>, Unread>
-    ensures { IfRead result (λ found. values_in (number_in T.checker by) (Known (limit_value high) ∷ AnyNumber ∷ []) cursor.old
+    ensures { IfRead result
+        (λ found. values_in (number_in T.checker by)
+        (Known (limit_value high) ∷ AnyNumber ∷ []) cursor.old
         ≡ option_map (λ x. (limit_value high ∷ reports.Number x ∷ [], cursor.new)) found) }
 {
     if !known_limit(cursor, high) {
@@ -112,8 +119,11 @@ fn number_after_limits<'a, T: Checks>(
     low: Option<Frac>,
     high: Option<Frac>,
 ) -> Result<Number<'a>, Unread>
-    ensures { IfRead result (λ found. values_in (number_in T.checker by) (Known (limit_value low) ∷ Known (limit_value high) ∷ AnyNumber ∷ []) cursor.old
-        ≡ option_map (λ x. (limit_value low ∷ limit_value high ∷ reports.Number x ∷ [], cursor.new)) found) }
+    ensures { IfRead result
+        (λ found. values_in (number_in T.checker by)
+        (Known (limit_value low) ∷ Known (limit_value high) ∷ AnyNumber ∷ []) cursor.old
+        ≡ option_map
+        (λ x. (limit_value low ∷ limit_value high ∷ reports.Number x ∷ [], cursor.new)) found) }
 {
     if !known_limit(cursor, low) {
         return Err(Unread::Absent);
@@ -130,8 +140,12 @@ fn number_after_cost<'a, T: Checks>(
     low: Option<Frac>,
     high: Option<Frac>,
 ) -> Result<Number<'a>, Unread>
-    ensures { IfRead result (λ found. values_in (number_in T.checker by) (Known (reports.Number cost) ∷ Known (limit_value low) ∷ Known (limit_value high) ∷ AnyNumber ∷ []) cursor.old
-        ≡ option_map (λ x. (reports.Number cost ∷ limit_value low ∷ limit_value high ∷ reports.Number x ∷ [], cursor.new)) found) }
+    ensures { IfRead result
+        (λ found. values_in (number_in T.checker by)
+        (Known (reports.Number cost) ∷ Known (limit_value low) ∷ Known
+        (limit_value high) ∷ AnyNumber ∷ []) cursor.old
+        ≡ option_map
+        (λ x. (reports.Number cost ∷ limit_value low ∷ limit_value high ∷ reports.Number x ∷ [], cursor.new)) found) }
 {
     if !known_number(cursor, cost) {
         return Err(Unread::Absent);
@@ -147,8 +161,11 @@ fn slack_and_price<'a, T: Checks>(
     low: Option<Frac>,
     high: Option<Frac>,
 ) -> Result<(Number<'a>, Number<'a>), Unread>
-    ensures { IfRead result (λ found. values_in (number_in T.checker by) (AnyNumber ∷ Known (limit_value low) ∷ Known (limit_value high) ∷ AnyNumber ∷ []) cursor.old
-        ≡ option_map (λ two. (reports.Number two.0 ∷ limit_value low ∷ limit_value high ∷ reports.Number two.1 ∷ [], cursor.new)) found) }
+    ensures { IfRead result
+        (λ found. values_in (number_in T.checker by)
+        (AnyNumber ∷ Known (limit_value low) ∷ Known (limit_value high) ∷ AnyNumber ∷ []) cursor.old
+        ≡ option_map
+        (λ two. (reports.Number two.0 ∷ limit_value low ∷ limit_value high ∷ reports.Number two.1 ∷ [], cursor.new)) found) }
 {
     let slack = number::<T>(alloc, cursor, by)?;
     let price = number_after_limits::<T>(alloc, cursor, by, low, high)?;
@@ -163,8 +180,12 @@ fn row_numbers<'a, T: Checks>(
     low: Option<Frac>,
     high: Option<Frac>,
 ) -> Result<(Number<'a>, (Number<'a>, Number<'a>)), Unread>
-    ensures { IfRead result (λ found. values_in (number_in T.checker by) (AnyNumber ∷ AnyNumber ∷ Known (limit_value low) ∷ Known (limit_value high) ∷ AnyNumber ∷ []) cursor.old
-        ≡ option_map (λ row. (reports.Number row.0 ∷ reports.Number row.1.0 ∷ limit_value low ∷ limit_value high ∷ reports.Number row.1.1 ∷ [], cursor.new)) found) }
+    ensures { IfRead result
+        (λ found. values_in (number_in T.checker by)
+        (AnyNumber ∷ AnyNumber ∷ Known (limit_value low) ∷ Known
+        (limit_value high) ∷ AnyNumber ∷ []) cursor.old
+        ≡ option_map
+        (λ row. (reports.Number row.0 ∷ reports.Number row.1.0 ∷ limit_value low ∷ limit_value high ∷ reports.Number row.1.1 ∷ [], cursor.new)) found) }
 {
     let activity = number::<T>(alloc, cursor, by)?;
     let two = slack_and_price::<T>(alloc, cursor, by, low, high)?;
@@ -180,8 +201,12 @@ fn column_numbers<'a, T: Checks>(
     low: Option<Frac>,
     high: Option<Frac>,
 ) -> Result<(Number<'a>, Number<'a>), Unread>
-    ensures { IfRead result (λ found. values_in (number_in T.checker by) (AnyNumber ∷ Known (reports.Number cost) ∷ Known (limit_value low) ∷ Known (limit_value high) ∷ AnyNumber ∷ []) cursor.old
-        ≡ option_map (λ two. (reports.Number two.0 ∷ reports.Number cost ∷ limit_value low ∷ limit_value high ∷ reports.Number two.1 ∷ [], cursor.new)) found) }
+    ensures { IfRead result
+        (λ found. values_in (number_in T.checker by)
+        (AnyNumber ∷ Known (reports.Number cost) ∷ Known (limit_value low) ∷ Known
+        (limit_value high) ∷ AnyNumber ∷ []) cursor.old
+        ≡ option_map
+        (λ two. (reports.Number two.0 ∷ reports.Number cost ∷ limit_value low ∷ limit_value high ∷ reports.Number two.1 ∷ [], cursor.new)) found) }
 {
     let activity = number::<T>(alloc, cursor, by)?;
     let price = number_after_cost::<T>(alloc, cursor, by, cost, low, high)?;
@@ -194,8 +219,11 @@ fn coded_numbers<'a, T: Checks>(
     cursor: &mut Cursor<'a>,
     by: By,
 ) -> Result<(At, ((Number<'a>, Number<'a>), (Number<'a>, Number<'a>))), Unread>
-    ensures { IfRead result (λ found. values_in (number_in T.checker by) (AnyCode ∷ AnyNumber ∷ AnyNumber ∷ AnyNumber ∷ AnyNumber ∷ []) cursor.old
-        ≡ option_map (λ part. (Code part.0 ∷ reports.Number part.1.0.0 ∷ reports.Number part.1.0.1 ∷ reports.Number part.1.1.0 ∷ reports.Number part.1.1.1 ∷ [], cursor.new)) found) }
+    ensures { IfRead result
+        (λ found. values_in (number_in T.checker by)
+        (AnyCode ∷ AnyNumber ∷ AnyNumber ∷ AnyNumber ∷ AnyNumber ∷ []) cursor.old
+        ≡ option_map
+        (λ part. (Code part.0 ∷ reports.Number part.1.0.0 ∷ reports.Number part.1.0.1 ∷ reports.Number part.1.1.0 ∷ reports.Number part.1.1.1 ∷ [], cursor.new)) found) }
 {
     let at = code(cursor)?;
     let four = four_numbers::<T>(alloc, cursor, by)?;
@@ -210,8 +238,12 @@ fn coded_row<'a, T: Checks>(
     low: Option<Frac>,
     high: Option<Frac>,
 ) -> Result<(At, (Number<'a>, (Number<'a>, Number<'a>))), Unread>
-    ensures { IfRead result (λ found. values_in (number_in T.checker by) (AnyCode ∷ AnyNumber ∷ AnyNumber ∷ Known (limit_value low) ∷ Known (limit_value high) ∷ AnyNumber ∷ []) cursor.old
-        ≡ option_map (λ row. (Code row.0 ∷ reports.Number row.1.0 ∷ reports.Number row.1.1.0 ∷ limit_value low ∷ limit_value high ∷ reports.Number row.1.1.1 ∷ [], cursor.new)) found) }
+    ensures { IfRead result
+        (λ found. values_in (number_in T.checker by)
+        (AnyCode ∷ AnyNumber ∷ AnyNumber ∷ Known (limit_value low) ∷ Known
+        (limit_value high) ∷ AnyNumber ∷ []) cursor.old
+        ≡ option_map
+        (λ row. (Code row.0 ∷ reports.Number row.1.0 ∷ reports.Number row.1.1.0 ∷ limit_value low ∷ limit_value high ∷ reports.Number row.1.1.1 ∷ [], cursor.new)) found) }
 {
     let at = code(cursor)?;
     let numbers = row_numbers::<T>(alloc, cursor, by, low, high)?;
@@ -227,8 +259,13 @@ fn coded_column<'a, T: Checks>(
     low: Option<Frac>,
     high: Option<Frac>,
 ) -> Result<(At, (Number<'a>, Number<'a>)), Unread>
-    ensures { IfRead result (λ found. values_in (number_in T.checker by) (AnyCode ∷ AnyNumber ∷ Known (reports.Number cost) ∷ Known (limit_value low) ∷ Known (limit_value high) ∷ AnyNumber ∷ []) cursor.old
-        ≡ option_map (λ column. (Code column.0 ∷ reports.Number column.1.0 ∷ reports.Number cost ∷ limit_value low ∷ limit_value high ∷ reports.Number column.1.1 ∷ [], cursor.new)) found) }
+    ensures { IfRead result
+        (λ found. values_in (number_in T.checker by)
+        (AnyCode ∷ AnyNumber ∷ Known (reports.Number cost) ∷ Known (limit_value low) ∷ Known
+        (limit_value high) ∷ AnyNumber ∷ []) cursor.old
+        ≡ option_map
+        (λ column.
+        (Code column.0 ∷ reports.Number column.1.0 ∷ reports.Number cost ∷ limit_value low ∷ limit_value high ∷ reports.Number column.1.1 ∷ [], cursor.new)) found) }
 {
     let at = code(cursor)?;
     let numbers = column_numbers::<T>(alloc, cursor, by, cost, low, high)?;
@@ -243,7 +280,8 @@ fn multiplier_values<'a, T: Checks>(
     cursor: &mut Cursor<'a>,
     by: By,
 ) -> Result<Numbers<'a>, Unread>
-    ensures { IfRead result (AreRead (number_in T.checker by) Shape.Multiplier (AnyNumber ∷ []) cursor.old cursor.new) }
+    ensures { IfRead result
+        (AreRead (number_in T.checker by) Shape.Multiplier (AnyNumber ∷ []) cursor.old cursor.new) }
 {
     let first = one_number::<T>(alloc, cursor, by)?;
     Ok(Numbers {
@@ -260,7 +298,9 @@ fn pair_values<'a, T: Checks>(
     cursor: &mut Cursor<'a>,
     by: By,
 ) -> Result<Numbers<'a>, Unread>
-    ensures { IfRead result (AreRead (number_in T.checker by) Shape.Pair (AnyNumber ∷ AnyNumber ∷ []) cursor.old cursor.new) }
+    ensures { IfRead result
+        (AreRead (number_in T.checker by) Shape.Pair
+        (AnyNumber ∷ AnyNumber ∷ []) cursor.old cursor.new) }
 {
     let two = two_numbers::<T>(alloc, cursor, by)?;
     Ok(Numbers {
@@ -277,7 +317,9 @@ fn part_values<'a, T: Checks>(
     cursor: &mut Cursor<'a>,
     by: By,
 ) -> Result<Numbers<'a>, Unread>
-    ensures { IfRead result (AreRead (number_in T.checker by) Shape.Part (AnyCode ∷ AnyNumber ∷ AnyNumber ∷ AnyNumber ∷ AnyNumber ∷ []) cursor.old cursor.new) }
+    ensures { IfRead result
+        (AreRead (number_in T.checker by) Shape.Part
+        (AnyCode ∷ AnyNumber ∷ AnyNumber ∷ AnyNumber ∷ AnyNumber ∷ []) cursor.old cursor.new) }
 {
     let part = coded_numbers::<T>(alloc, cursor, by)?;
     let (_at, four) = part;
@@ -298,7 +340,10 @@ fn row_between<'a, T: Checks>(
     low: Option<Frac>,
     high: Option<Frac>,
 ) -> Result<Numbers<'a>, Unread>
-    ensures { IfRead result (AreRead (number_in T.checker by) Shape.Row (AnyCode ∷ AnyNumber ∷ AnyNumber ∷ Known (limit_value low) ∷ Known (limit_value high) ∷ AnyNumber ∷ [])
+    ensures { IfRead result
+        (AreRead (number_in T.checker by) Shape.Row
+        (AnyCode ∷ AnyNumber ∷ AnyNumber ∷ Known (limit_value low) ∷ Known
+        (limit_value high) ∷ AnyNumber ∷ [])
         cursor.old cursor.new) }
 {
     let row = coded_row::<T>(alloc, cursor, by, low, high)?;
@@ -322,7 +367,10 @@ fn row_values<'a, T: Checks>(
     k: u32,
 ) -> Result<Numbers<'a>, Unread>
     requires { IsVariable lp.now.matrix k }
-    ensures { IfRead result (AreRead (number_in T.checker by) Shape.Row (AnyCode ∷ AnyNumber ∷ AnyNumber ∷ Known (limit_value (lower_of lp.now k)) ∷ Known (limit_value (upper_of lp.now k)) ∷ AnyNumber ∷ [])
+    ensures { IfRead result
+        (AreRead (number_in T.checker by) Shape.Row
+        (AnyCode ∷ AnyNumber ∷ AnyNumber ∷ Known (limit_value (lower_of lp.now k)) ∷ Known
+        (limit_value (upper_of lp.now k)) ∷ AnyNumber ∷ [])
         cursor.old cursor.new) }
 {
     row_between::<T>(alloc, cursor, by, lp.lower_limit(k), lp.upper_limit(k))
@@ -337,7 +385,10 @@ fn column_between<'a, T: Checks>(
     low: Option<Frac>,
     high: Option<Frac>,
 ) -> Result<Numbers<'a>, Unread>
-    ensures { IfRead result (AreRead (number_in T.checker by) Shape.Column (AnyCode ∷ AnyNumber ∷ Known (reports.Number cost) ∷ Known (limit_value low) ∷ Known (limit_value high) ∷ AnyNumber ∷ [])
+    ensures { IfRead result
+        (AreRead (number_in T.checker by) Shape.Column
+        (AnyCode ∷ AnyNumber ∷ Known (reports.Number cost) ∷ Known (limit_value low) ∷ Known
+        (limit_value high) ∷ AnyNumber ∷ [])
         cursor.old cursor.new) }
 {
     let column = coded_column::<T>(alloc, cursor, by, cost, low, high)?;
@@ -363,7 +414,9 @@ fn column_values<'a, T: Checks>(
     requires column { lp.now.matrix.rows < k }
     requires no_change { lp.now.change ≡ None }
     ensures { IfRead result (AreRead (number_in T.checker by) Shape.Column
-        (AnyCode ∷ AnyNumber ∷ Known (reports.Number (cost lp.now (k - lp.now.matrix.rows))) ∷ Known (limit_value (lower_of lp.now k)) ∷ Known (limit_value (upper_of lp.now k)) ∷ AnyNumber ∷ [])
+        (AnyCode ∷ AnyNumber ∷ Known (reports.Number (cost lp.now (k - lp.now.matrix.rows))) ∷ Known
+        (limit_value (lower_of lp.now k)) ∷ Known
+        (limit_value (upper_of lp.now k)) ∷ AnyNumber ∷ [])
         cursor.old cursor.new) }
 {
     let cost = lp.cost(k - row_count(lp));
@@ -387,7 +440,9 @@ fn values<'a, T: Checks>(
     k: u32,
 ) -> Result<Numbers<'a>, Unread>
     requires { MayRead sheet shape k }
-    ensures { IfRead result (AreRead (number_in T.checker by) shape (slots_of shape (sheet_view sheet.entry) k) cursor.old cursor.new) }
+    ensures { IfRead result
+        (AreRead (number_in T.checker by) shape
+        (slots_of shape (sheet_view sheet.entry) k) cursor.old cursor.new) }
 {
     match shape {
         Shape::Multiplier => multiplier_values::<T>(alloc, cursor, by),
@@ -408,7 +463,9 @@ pub fn line<'a, T: Checks>(
     k: u32,
 ) -> Result<Numbers<'a>, Unread>
     requires { MayRead sheet shape k }
-    ensures { IfRead result (IsLineRead (number_in T.checker by) (sheet_view sheet.entry) shape k cursor.old cursor.new) }
+    ensures { IfRead result
+        (IsLineRead (number_in T.checker by)
+        (sheet_view sheet.entry) shape k cursor.old cursor.new) }
 {
     if !take_head(cursor, sheet, k) {
         return Err(Unread::Absent);
@@ -432,7 +489,9 @@ pub fn table<'a, T: Checks>(
 ) -> Result<Option<Vec<Numbers<'a>>>, NoMemory>
     requires lines { (k : ℕ) → before < k → k ≤ before + count → MayRead sheet shape k }
     requires fits { before + count < 2 ^ 32 }
-    ensures { IfOk result (λ found. IsTableRead (number_in T.checker by) (sheet_view sheet.entry) shape (numbers_from (before + 1) count)
+    ensures { IfOk result
+        (λ found. IsTableRead (number_in T.checker by) (sheet_view sheet.entry) shape
+        (numbers_from (before + 1) count)
         cursor.old cursor.new (option_map (λ table. table.items) found)) }
 {
     let mut table = Vec::new(alloc);

@@ -5,7 +5,8 @@ use Rattle.std.proofs.lemmas.List.{append-nil}
 use Rattle.lp_definitions.specs.LinearProgram.{numbers_from}
 
 module _ (text : ℕ → List ℕ) where
-  pub lines_split : (first n m : ℕ) → flat_map text (numbers_from first (n + m)) ≡ flat_map text (numbers_from first n) ++ flat_map text (numbers_from (first + n) m)
+  pub lines_split : (first n m : ℕ) →
+      flat_map text (numbers_from first (n + m)) ≡ flat_map text (numbers_from first n) ++ flat_map text (numbers_from (first + n) m)
   lines_split first zero m =
       let count : 0 + m ≡ m = omega arith in
       let start : first ≡ first + 0 = omega arith in
@@ -20,7 +21,8 @@ module _ (text : ℕ → List ℕ) where
       ∙ ap (λ f. (text first ++ done) ++ flat_map text (numbers_from f m)) start
 
   -- the lines after the first ones, and the next
-  pub line_next : (first k : ℕ) → first ≤ k → flat_map text (numbers_from (first + 1) (k - first)) ++ text (k + 1) ≡ flat_map text (numbers_from (first + 1) (k + 1 - first))
+  pub line_next : (first k : ℕ) → first ≤ k →
+      flat_map text (numbers_from (first + 1) (k - first)) ++ text (k + 1) ≡ flat_map text (numbers_from (first + 1) (k + 1 - first))
   line_next first k h =
       let at : first + 1 + (k - first) ≡ k + 1 = omega arith in
       let count : k - first + 1 ≡ k + 1 - first = omega arith in
@@ -31,7 +33,9 @@ module _ (text : ℕ → List ℕ) where
       ∙ ap (λ n. flat_map text (numbers_from (first + 1) n)) count
 
   -- the lines before one, that line, and those after it
-  pub lines_around : (first k last : ℕ) → first ≤ k → k < last → (flat_map text (numbers_from (first + 1) (k - first)) ++ text (k + 1)) ++ flat_map text (numbers_from (k + 2) (last - (k + 1))) ≡ flat_map text (numbers_from (first + 1) (last - first))
+  pub lines_around : (first k last : ℕ) → first ≤ k → k < last →
+      (flat_map text (numbers_from (first + 1) (k - first)) ++ text (k + 1)) ++ flat_map text (numbers_from (k + 2) (last - (k + 1))) ≡ flat_map text
+      (numbers_from (first + 1) (last - first))
   lines_around first k last h inside =
       let at : first + 1 + (k + 1 - first) ≡ k + 2 = omega arith in
       let count : k + 1 - first + (last - (k + 1)) ≡ last - first = omega arith in
@@ -41,10 +45,13 @@ module _ (text : ℕ → List ℕ) where
       ∙ ap (λ n. flat_map text (numbers_from (first + 1) n)) count
 
 -- Lines that a test keeps.
-pub lines_kept : {X : Type 0} (kept : ℕ → Bool) (line : ℕ → X) (text : X → List ℕ) (numbers : List ℕ) → flat_map (λ k. if kept k then text (line k) else []) numbers ≡ flat_map text (map line (filter kept numbers))
+pub lines_kept : {X : Type 0} (kept : ℕ → Bool) (line : ℕ → X) (text : X → List ℕ) (numbers : List ℕ) →
+    flat_map (λ k. if kept k then text (line k) else []) numbers ≡ flat_map text (map line (filter kept numbers))
 lines_kept kept line text [] = refl
 lines_kept kept line text (k ∷ ks) = by (kept k) (lines_kept kept line text ks)
   where
-    by : (b : Bool) → flat_map (λ k. if kept k then text (line k) else []) ks ≡ flat_map text (map line (filter kept ks)) → (if b then text (line k) else []) ++ flat_map (λ k. if kept k then text (line k) else []) ks ≡ flat_map text (map line (if b then k ∷ filter kept ks else filter kept ks))
+    by : (b : Bool) → flat_map (λ k. if kept k then text (line k) else []) ks ≡ flat_map text (map line (filter kept ks)) →
+        (if b then text (line k) else []) ++ flat_map (λ k. if kept k then text (line k) else []) ks ≡ flat_map text
+        (map line (if b then k ∷ filter kept ks else filter kept ks))
     by true e = ap (λ w. text (line k) ++ w) e
     by false e = e

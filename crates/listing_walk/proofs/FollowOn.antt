@@ -33,7 +33,8 @@ use Rattle.listing_walk.proofs.Settled.{settled, open_goes, one_report}
 -- ---- once the report is passed
 
 -- the state at another position
-pub placed : {cards : List (List ℕ)} {machine : Machine Chosen} {position executed : ℕ} {state : State} (to by : ℕ) → machines.Represents IsView cards machine position executed state → by ≡ to →
+pub placed : {cards : List (List ℕ)} {machine : Machine Chosen} {position executed : ℕ} {state : State} (to by : ℕ) →
+    machines.Represents IsView cards machine position executed state → by ≡ to →
     machines.Represents IsView cards machine to executed (record state { position = by })
 placed to by s e = record {
   is_position = e;
@@ -53,7 +54,11 @@ pub finished_next : (place : ListingPlace) → Finishes place place acts.Next wa
 finished_next place = λ v outcome cards machine position executed gain f is. (
   record v { state = record (is.0) { position = is.0.position + 1 } },
   ap (walks.follows v) (sym is.1),
-  record { state = placed (position + 1) (is.0.position + 1) is.2 (ap (λ n. n + 1) is.2.is_position); faces = faces_still (record (is.0) { position = is.0.position + 1 }) f },
+  record {
+    state = placed (position + 1) (is.0.position + 1) is.2 (ap (λ n. n + 1) is.2.is_position);
+    faces = faces_still
+        (record (is.0) { position = is.0.position + 1 }) f;
+  },
 )
 
 pub finished_jump : (place : ListingPlace) (to : ℕ) → Finishes place place (acts.Jump to) (walk_step.Jump to)
@@ -64,7 +69,8 @@ finished_jump place to = λ v outcome cards machine position executed gain f is.
   is.3,
 )
 
-pub finished_ends : (old new : ListingPlace) (end : End) (ending : Ending) (found : Found) → ending ≡ end_view end → ((w : walks.Walker) → Faces old w → walks.closes w ending ≡ walks.Finds (found_view found)) →
+pub finished_ends : (old new : ListingPlace) (end : End) (ending : Ending) (found : Found) → ending ≡ end_view end →
+    ((w : walks.Walker) → Faces old w → walks.closes w ending ≡ walks.Finds (found_view found)) →
     Finishes old new (acts.Ends end) (walk_step.Finds found)
 finished_ends old new end ending found same closes = λ v outcome cards machine position executed gain f is.
     ap (walks.follows v) (sym is) ∙ ap (walks.closes v) (sym same) ∙ closes v f
@@ -83,15 +89,20 @@ module _ (machine : Machine Chosen) (act : Act) (text : List ℕ) where
 opens_by : (machine : Machine Chosen) (text : List ℕ) (w : walks.Walker) (gain : Gain) (after : State) → gain_text gain ≡ text → after.mark ≡ machine.mark →
     walks.open_outcome w (next gain after) ≡ open_by (has_text text) (is_none machine.mark) w
 opens_by machine text w gain after same mark =
-    open_goes w gain (record after { position = after.position + 1 }) ∙ ap (λ (t : List ℕ). open_by (has_text t) (is_none after.mark) w) same ∙ ap (λ (m : Option Mark). open_by (has_text text) (is_none m) w) mark
+    open_goes w gain (record after { position = after.position + 1 }) ∙ ap (λ (t : List ℕ). open_by (has_text t) (is_none after.mark) w) same
+    ∙ ap (λ (m : Option Mark). open_by (has_text text) (is_none m) w) mark
 
-opens_jump : (machine : Machine Chosen) (text : List ℕ) (w : walks.Walker) (gain : Gain) (to : ℕ) (after : State) → gain_text gain ≡ text → after.mark ≡ machine.mark →
+opens_jump : (machine : Machine Chosen) (text : List ℕ) (w : walks.Walker) (gain : Gain) (to : ℕ) (after : State) → gain_text gain ≡ text →
+    after.mark ≡ machine.mark →
     walks.open_outcome w (jump gain to after) ≡ open_by (has_text text) (is_none machine.mark) w
 opens_jump machine text w gain to after same mark =
-    open_goes w gain (record after { position = to }) ∙ ap (λ (t : List ℕ). open_by (has_text t) (is_none after.mark) w) same ∙ ap (λ (m : Option Mark). open_by (has_text text) (is_none m) w) mark
+    open_goes w gain (record after { position = to }) ∙ ap (λ (t : List ℕ). open_by (has_text t) (is_none after.mark) w) same
+    ∙ ap (λ (m : Option Mark). open_by (has_text text) (is_none m) w) mark
 
-outcome_of : (machine : Machine Chosen) (act : Act) (text : List ℕ) (w : walks.Walker) (card : ℕ) (move : StatementMove) (cards : List (List ℕ)) (position executed : ℕ) (gain : Gain) →
-    Follows IsView DecidesAlone card move cards machine position executed gain act → gain_text gain ≡ text → IsOf machine act text w card move cards position executed gain
+outcome_of : (machine : Machine Chosen) (act : Act) (text : List ℕ) (w : walks.Walker) (card : ℕ) (move : StatementMove) (cards : List (List ℕ))
+    (position executed : ℕ) (gain : Gain) →
+    Follows IsView DecidesAlone card move cards machine position executed gain act → gain_text gain ≡ text →
+    IsOf machine act text w card move cards position executed gain
 outcome_of machine acts.Next text w card move cards position executed gain f same = record {
   outcome = next gain f.0;
   settles = f.1;
@@ -116,63 +127,78 @@ outcome_of machine (acts.Ends end) text w card move cards position executed gain
 
 module _ (machine : Machine Chosen) (old new : ListingPlace) (act : Act) (text : List ℕ) where
   -- what is open is found
-  pub passes_open : (found : Found) → ((w : walks.Walker) → Faces old w → option_map found_view (Some found) ≡ open_by (ends_run act || has_text text) (ends_run act || is_none machine.mark) w) →
+  pub passes_open : (found : Found) →
+      ((w : walks.Walker) → Faces old w →
+      option_map found_view (Some found) ≡ open_by (ends_run act || has_text text) (ends_run act || is_none machine.mark) w) →
       Passes machine old new act text (walk_step.Finds found)
   passes_open found there_is = λ C w card move cards position executed gain f plain follows same.
       let o = outcome_of machine act text w card move cards position executed gain follows same in
       settled C w card move o.outcome o.settles plain ∙
-      ap (λ (x : Option walks.Found). walks.unless_found x (walks.taken w o.outcome (left_after (gain_text (gain_of o.outcome)) w.rest))) (o.opens ∙ sym (there_is w f))
+      ap (λ (x : Option walks.Found). walks.unless_found x (walks.taken w o.outcome (left_after (gain_text (gain_of o.outcome)) w.rest)))
+      (o.opens ∙ sym (there_is w f))
 
   module _ (none : (w : walks.Walker) → Faces old w → None ≡ open_by (ends_run act || has_text text) (ends_run act || is_none machine.mark) w) where
     -- nothing is open
-    turn_taken : (C : Checker) (w : walks.Walker) (card : ℕ) (move : StatementMove) (cards : List (List ℕ)) (position executed : ℕ) (gain : Gain) → Faces old w → walks.refuses_selection move ≡ false → (o : IsOf machine act text w card move cards position executed gain) →
+    turn_taken : (C : Checker) (w : walks.Walker) (card : ℕ) (move : StatementMove) (cards : List (List ℕ)) (position executed : ℕ) (gain : Gain) →
+        Faces old w → walks.refuses_selection move ≡ false → (o : IsOf machine act text w card move cards position executed gain) →
         gain_text gain ≡ text → walks.walk_move C w move ≡ walks.taken w o.outcome (left_after text old.cursor)
     turn_taken C w card move cards position executed gain f plain o same =
         settled C w card move o.outcome o.settles plain ∙
-        ap (λ (x : Option walks.Found). walks.unless_found x (walks.taken w o.outcome (left_after (gain_text (gain_of o.outcome)) w.rest))) (o.opens ∙ sym (none w f)) ∙
+        ap (λ (x : Option walks.Found). walks.unless_found x (walks.taken w o.outcome (left_after (gain_text (gain_of o.outcome)) w.rest)))
+        (o.opens ∙ sym (none w f)) ∙
         ap (λ (g : Gain). walks.taken w o.outcome (left_after (gain_text g) w.rest)) o.is_gain ∙
         ap (λ (t : List ℕ). walks.taken w o.outcome (left_after t w.rest)) same ∙
         ap (λ (rest : List ℕ). walks.taken w o.outcome (left_after text rest)) f.rest
 
     -- the text doesn't stand here
-    pub passes_wrong : (found : Found) → left_after text old.cursor ≡ None → found_view found ≡ walks.Wrong old.cursor → Passes machine old new act text (walk_step.Finds found)
+    pub passes_wrong : (found : Found) → left_after text old.cursor ≡ None → found_view found ≡ walks.Wrong old.cursor →
+        Passes machine old new act text (walk_step.Finds found)
     passes_wrong found gone wrong = λ C w card move cards position executed gain f plain follows same.
         let o = outcome_of machine act text w card move cards position executed gain follows same in
         turn_taken C w card move cards position executed gain f plain o same ∙ ap (walks.taken w o.outcome) gone ∙
         ap (λ (rest : List ℕ). walks.Finds (walks.Wrong rest)) f.rest ∙ ap (λ (x : walks.Found). walks.Finds x) (sym wrong)
 
     -- it does
-    pub passes_on : (mid : ListingPlace) (w' : WalkStep) → left_after text old.cursor ≡ Some mid.cursor → mid.pending ≡ old.pending → mid.reports ≡ old.reports + one_if (has_text text) → Finishes mid new act w' →
+    pub passes_on : (mid : ListingPlace) (w' : WalkStep) → left_after text old.cursor ≡ Some mid.cursor → mid.pending ≡ old.pending →
+        mid.reports ≡ old.reports + one_if (has_text text) → Finishes mid new act w' →
         Passes machine old new act text w'
     passes_on mid w' there kept counted finishes = λ C w card move cards position executed gain f plain follows same.
         let o = outcome_of machine act text w card move cards position executed gain follows same in
-        let count : length (printed_by (gain_of o.outcome)) ≡ one_if (has_text text) = ap (λ (g : Gain). length (printed_by g)) o.is_gain ∙ one_report gain ∙ ap (λ (t : List ℕ). one_if (has_text t)) same in
+        let count : length (printed_by (gain_of o.outcome)) ≡ one_if (has_text text) =
+        ap (λ (g : Gain). length (printed_by g)) o.is_gain ∙ one_report gain ∙ ap (λ (t : List ℕ). one_if (has_text t)) same in
         let v : walks.Walker = walks.passed mid.cursor (length (printed_by (gain_of o.outcome))) w in
         let faces : Faces mid v = record {
           rest = refl;
           pending = subst (λ (p : Option Pending). ShowsPending p w.pending) (sym kept) f.pending;
           reports = ap (λ n. w.reports + n) count ∙ ap (λ n. n + one_if (has_text text)) f.reports ∙ sym counted;
         } in
-        subst (λ (t : walks.WalkTurn). TurnsTo t cards machine position executed new w') (sym (turn_taken C w card move cards position executed gain f plain o same ∙ ap (walks.taken w o.outcome) there))
+        subst (λ (t : walks.WalkTurn). TurnsTo t cards machine position executed new w')
+        (sym (turn_taken C w card move cards position executed gain f plain o same ∙ ap (walks.taken w o.outcome) there))
         (finishes v o.outcome cards machine position executed gain faces o.is_outcome)
 
 -- ---- with the tests by their results
 
-module _ (machine : Machine Chosen) (old : ListingPlace) (act : Act) (text : List ℕ) (looks clears : Bool) (is_looks : looks ≡ (ends_run act || has_text text)) (is_clears : clears ≡ (ends_run act || is_none machine.mark)) where
+module _ (machine : Machine Chosen) (old : ListingPlace) (act : Act) (text : List ℕ) (looks clears : Bool) (is_looks : looks ≡ (ends_run act || has_text text))
+    (is_clears : clears ≡ (ends_run act || is_none machine.mark)) where
   -- what is open, by these tests
-  open_so : (x : Option walks.Found) → ((w : walks.Walker) → Faces old w → x ≡ open_by looks clears w) → (w : walks.Walker) → Faces old w → x ≡ open_by (ends_run act || has_text text) (ends_run act || is_none machine.mark) w
+  open_so : (x : Option walks.Found) → ((w : walks.Walker) → Faces old w → x ≡ open_by looks clears w) → (w : walks.Walker) → Faces old w →
+      x ≡ open_by (ends_run act || has_text text) (ends_run act || is_none machine.mark) w
   open_so x there_is w f = there_is w f ∙ (λ i. open_by (is_looks i) (is_clears i) w)
 
-  pub passes_open_by : (new : ListingPlace) (found : Found) → ((w : walks.Walker) → Faces old w → option_map found_view (Some found) ≡ open_by looks clears w) → Passes machine old new act text (walk_step.Finds found)
+  pub passes_open_by : (new : ListingPlace) (found : Found) → ((w : walks.Walker) → Faces old w → option_map found_view (Some found) ≡ open_by looks clears w) →
+      Passes machine old new act text (walk_step.Finds found)
   passes_open_by new found there_is = passes_open machine old new act text found (open_so (Some (found_view found)) there_is)
 
   module _ (none : (w : walks.Walker) → Faces old w → None ≡ open_by looks clears w) where
-    pub passes_wrong_by : (mid : ListingPlace) (rest : Bor (List ℕ)) → rest.now ≡ old.cursor → (passes : Bool) → passes ≡ false → left_after text old.cursor ≡ taken passes mid.cursor → (new : ListingPlace) →
+    pub passes_wrong_by : (mid : ListingPlace) (rest : Bor (List ℕ)) → rest.now ≡ old.cursor → (passes : Bool) → passes ≡ false →
+        left_after text old.cursor ≡ taken passes mid.cursor → (new : ListingPlace) →
         Passes machine old new act text (walk_step.Finds (founds.Wrong rest))
     passes_wrong_by mid rest here passes gone there new =
-        passes_wrong machine old new act text (open_so None none) (founds.Wrong rest) (there ∙ ap (λ (b : Bool). taken b mid.cursor) gone) (ap (λ (left : List ℕ). walks.Wrong left) here)
+        passes_wrong machine old new act text (open_so None none) (founds.Wrong rest) (there ∙ ap (λ (b : Bool). taken b mid.cursor) gone)
+        (ap (λ (left : List ℕ). walks.Wrong left) here)
 
-    pub passes_on_by : (mid new : ListingPlace) (passes : Bool) → passes ≡ true → left_after text old.cursor ≡ taken passes mid.cursor → mid.pending ≡ old.pending → (passes ≡ true → mid.reports ≡ old.reports + one_if (has_text text)) →
+    pub passes_on_by : (mid new : ListingPlace) (passes : Bool) → passes ≡ true → left_after text old.cursor ≡ taken passes mid.cursor →
+        mid.pending ≡ old.pending → (passes ≡ true → mid.reports ≡ old.reports + one_if (has_text text)) →
         (result : Result WalkStep NoMemory) → IfOk result (Finishes mid new act) → IfOk result (Passes machine old new act text)
     passes_on_by mid new passes there_is there kept counted (Ok w') finishes =
         passes_on machine old new act text (open_so None none) mid w' (there ∙ ap (λ (b : Bool). taken b mid.cursor) there_is) kept (counted there_is) finishes

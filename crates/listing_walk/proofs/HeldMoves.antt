@@ -60,26 +60,33 @@ module _ (x : ℚ) where
 
   -- ---- what a verb does
 
-  fault_with : {X : Type 0} (card : ℕ) (fault : VerbFault) (found : Option X) (go go' : X → StatementMove) → ((y : X) → go' y ≡ move_with (go y)) → or_fault card fault found go' ≡ move_with (or_fault card fault found go)
+  fault_with : {X : Type 0} (card : ℕ) (fault : VerbFault) (found : Option X) (go go' : X → StatementMove) → ((y : X) → go' y ≡ move_with (go y)) →
+      or_fault card fault found go' ≡ move_with (or_fault card fault found go)
   fault_with card fault None go go' h = refl
   fault_with card fault (Some y) go go' h = h y
 
-  deck_with : {X : Type 0} (given : Result X DeckFault) (go go' : X → StatementMove) → ((y : X) → go' y ≡ move_with (go y)) → or_deck_fault given go' ≡ move_with (or_deck_fault given go)
+  deck_with : {X : Type 0} (given : Result X DeckFault) (go go' : X → StatementMove) → ((y : X) → go' y ≡ move_with (go y)) →
+      or_deck_fault given go' ≡ move_with (or_deck_fault given go)
   deck_with (Err fault) go go' h = refl
   deck_with (Ok y) go go' h = h y
 
-  chosen_with : (card : ℕ) (found : Result LinearProgram SelectionFault) (go go' : LinearProgram → StatementMove) → ((lp : LinearProgram) → go' lp ≡ move_with (go lp)) → or_selection_fault card found go' ≡ move_with (or_selection_fault card found go)
+  chosen_with : (card : ℕ) (found : Result LinearProgram SelectionFault) (go go' : LinearProgram → StatementMove) →
+      ((lp : LinearProgram) → go' lp ≡ move_with (go lp)) → or_selection_fault card found go' ≡ move_with (or_selection_fault card found go)
   chosen_with card (Err fault) go go' h = refl
   chosen_with card (Ok lp) go go' h = h lp
 
-  selects_with : (card : ℕ) (problem : Problem ℕ) (choice : Choice) (go go' : LinearProgram → StatementMove) → ((lp : LinearProgram) → go' lp ≡ move_with (go lp)) → selects card problem choice go' ≡ move_with (selects card problem choice go)
+  selects_with : (card : ℕ) (problem : Problem ℕ) (choice : Choice) (go go' : LinearProgram → StatementMove) →
+      ((lp : LinearProgram) → go' lp ≡ move_with (go lp)) → selects card problem choice go' ≡ move_with (selects card problem choice go)
   selects_with card problem choice go go' h =
-      chosen_with card (selected problem choice) (λ lp. MayStop (InSelection problem choice) (go lp)) (λ lp. MayStop (InSelection problem choice) (go' lp)) (λ lp. ap (MayStop (InSelection problem choice)) (h lp))
+      chosen_with card (selected problem choice) (λ lp. MayStop (InSelection problem choice) (go lp)) (λ lp. MayStop (InSelection problem choice) (go' lp))
+      (λ lp. ap (MayStop (InSelection problem choice)) (h lp))
 
-  asks_with : (question : Question) (sheet : Sheet) (present : Present) (go go' : AnswerTo question → StatementOutcome) → ((answer : AnswerTo question) → go' answer ≡ outcome_with (go answer)) → asks question sheet present go' ≡ move_with (asks question sheet present go)
+  asks_with : (question : Question) (sheet : Sheet) (present : Present) (go go' : AnswerTo question → StatementOutcome) →
+      ((answer : AnswerTo question) → go' answer ≡ outcome_with (go answer)) → asks question sheet present go' ≡ move_with (asks question sheet present go)
   asks_with question sheet present go go' h = λ i. asks question sheet present (λ answer. h answer i)
 
-  demanded_with : (set : Option ℕ) (code : ℕ) (report : Report) (state : State) → demanded set code report (state_with state) ≡ outcome_with (demanded set code report state)
+  demanded_with : (set : Option ℕ) (code : ℕ) (report : Report) (state : State) →
+      demanded set code report (state_with state) ≡ outcome_with (demanded set code report state)
   demanded_with None code report state = refl
   demanded_with (Some to) code report state = refl
 
@@ -88,27 +95,33 @@ module _ (x : ℚ) where
   verdict_with marks.Infeasible report state = demanded_with state.cells.xdonfs 1 report state
   verdict_with marks.Unbounded report state = demanded_with state.cells.xdounb 2 report state
 
-  path_with : (solver : Solver) (card : ℕ) (present : Present) (state : State) (end : PathEnd) → after_path solver card present (state_with state) end ≡ outcome_with (after_path solver card present state end)
+  path_with : (solver : Solver) (card : ℕ) (present : Present) (state : State) (end : PathEnd) →
+      after_path solver card present (state_with state) end ≡ outcome_with (after_path solver card present state end)
   path_with solver card present state (Reached bases verdict check) = verdict_with (mark_of verdict) _ _
   path_with solver card present state PathLimit = refl
   path_with solver card present state (PricesWrong j) = refl
 
-  install_with : (card : ℕ) (lp : LinearProgram) (s : Basis) (taken : _) (present : Present) (state : State) (end : InstallEnd) → after_install card lp s taken present (state_with state) end ≡ outcome_with (after_install card lp s taken present state end)
+  install_with : (card : ℕ) (lp : LinearProgram) (s : Basis) (taken : _) (present : Present) (state : State) (end : InstallEnd) →
+      after_install card lp s taken present (state_with state) end ≡ outcome_with (after_install card lp s taken present state end)
   install_with card lp s taken present state Installed = refl
   install_with card lp s taken present state (DependsBy lines) = refl
 
-  solves_with : (solver : Solver) (limit : Option ℕ) (card : ℕ) (state : State) → solves solver limit card (state_with state) ≡ move_with (solves solver limit card state)
+  solves_with : (solver : Solver) (limit : Option ℕ) (card : ℕ) (state : State) →
+      solves solver limit card (state_with state) ≡ move_with (solves solver limit card state)
   solves_with solver limit card state =
       fault_with card NoSetup state.setup _ _ (λ present.
       selects_with card present.problem (choice_of state.cells present.options) _ _ (λ lp.
       asks_with (OfPath solver limit) (record { problem = present.problem; lp = lp }) present _ _ (path_with solver card present state)))
 
-  shows_with : (card : ℕ) (state : State) (present : Present) (question : Question) (report : AnswerTo question → Report) → shows_present card (state_with state) present question report ≡ move_with (shows_present card state present question report)
+  shows_with : (card : ℕ) (state : State) (present : Present) (question : Question) (report : AnswerTo question → Report) →
+      shows_present card (state_with state) present question report ≡ move_with (shows_present card state present question report)
   shows_with card state present question report =
       chosen_with card (selected present.problem (choice_of state.cells present.options)) _ _ (λ lp.
-      asks_with question (record { problem = present.problem; lp = lp }) present (λ lines. next (Prints (report lines)) state) (λ lines. next (Prints (report lines)) (state_with state)) (λ lines. refl))
+      asks_with question (record { problem = present.problem; lp = lp }) present (λ lines. next (Prints (report lines)) state)
+      (λ lines. next (Prints (report lines)) (state_with state)) (λ lines. refl))
 
-  pub verb_with : (verb : Verb ℕ) → use_of verb ≡ Neither → (card : ℕ) (state : State) → verb_move verb card (state_with state) ≡ move_with (verb_move verb card state)
+  pub verb_with : (verb : Verb ℕ) → use_of verb ≡ Neither → (card : ℕ) (state : State) →
+      verb_move verb card (state_with state) ≡ move_with (verb_move verb card state)
   unfolding verb_move
   verb_with program.Initialz apart card state = absurd (cc apart)
   verb_with (program.Title text) apart card state = refl
@@ -126,19 +139,24 @@ module _ (x : ℚ) where
   verb_with (program.Mvadr Xdounb to) apart card state = refl
   verb_with (program.Goto to) apart card state = refl
   verb_with program.Convert apart card state =
-      fault_with card DeckNotFound (deck_taken state.cells.xdata state.decks) _ _ (λ taken. deck_with (conversion taken.0 state.cells.xpbname) _ _ (λ problem. refl))
+      fault_with card DeckNotFound (deck_taken state.cells.xdata state.decks) _ _
+      (λ taken. deck_with (conversion taken.0 state.cells.xpbname) _ _ (λ problem. refl))
   verb_with program.Revise apart card state =
       fault_with card NoProblem (problem_of state.cells.xoldname state.file) _ _ (λ old.
-      fault_with card DeckNotFound (deck_taken state.cells.xdata state.decks) _ _ (λ taken. deck_with (revision old taken.0 state.cells.xpbname) _ _ (λ problem. refl)))
+      fault_with card DeckNotFound (deck_taken state.cells.xdata state.decks) _ _
+      (λ taken. deck_with (revision old taken.0 state.cells.xpbname) _ _ (λ problem. refl)))
   verb_with (program.Setup options) apart card state =
-      fault_with card NoProblem (problem_of state.cells.xpbname state.file) _ _ (λ problem. selects_with card problem (choice_of state.cells options) _ _ (λ lp. refl))
+      fault_with card NoProblem (problem_of state.cells.xpbname state.file) _ _
+      (λ problem. selects_with card problem (choice_of state.cells options) _ _ (λ lp. refl))
   verb_with program.Primal apart card state = solves_with solvers.Primal state.cells.xiterlim card state
   verb_with program.Dual apart card state = solves_with solvers.Dual (Some (steps_allowed state.cells)) card state
   verb_with program.Solution apart card state =
-      fault_with card NoSetup state.setup _ _ (λ present. fault_with card NotSolved state.mark _ _ (λ mark. shows_with card state present (OfSolution mark) (reports.Solution mark)))
+      fault_with card NoSetup state.setup _ _
+      (λ present. fault_with card NotSolved state.mark _ _ (λ mark. shows_with card state present (OfSolution mark) (reports.Solution mark)))
   verb_with program.Ranging apart card state =
       fault_with card NoSetup state.setup _ _ (λ present.
-      fault_with card NotSolved state.mark _ _ (λ mark. fault_with card NotOptimal (if_optimal mark) _ _ (λ optimal. shows_with card state present OfRanges reports.Ranges)))
+      fault_with card NotSolved state.mark _ _
+      (λ mark. fault_with card NotOptimal (if_optimal mark) _ _ (λ optimal. shows_with card state present OfRanges reports.Ranges)))
   verb_with program.Paraobj apart card state = absurd (cc apart)
   verb_with program.Pararhs apart card state = absurd (cc apart)
   verb_with program.Bcdout apart card state = fault_with card NoProblem (problem_of state.cells.xpbname state.file) _ _ (λ problem. refl)
@@ -179,7 +197,8 @@ module _ (x : ℚ) where
 
   -- ---- what is open
 
-  report_inserted : (report : Report) (after : State) (rest : List ℕ) → walks.is_inserted_by (Goes (Prints report) (state_with after)) rest ≡ walks.is_inserted_by (Goes (Prints report) after) rest
+  report_inserted : (report : Report) (after : State) (rest : List ℕ) →
+      walks.is_inserted_by (Goes (Prints report) (state_with after)) rest ≡ walks.is_inserted_by (Goes (Prints report) after) rest
   report_inserted (reports.Titled text) after rest = refl
   report_inserted (reports.Converted filed) after rest = refl
   report_inserted (reports.Revised filed) after rest = refl
@@ -205,13 +224,15 @@ module _ (x : ℚ) where
     outcome_opened (Goes (Punches report cards) after) = refl
     outcome_opened (Ends gain ending) = refl
 
-    question_opened : (question : Question) (sheet : Sheet) (go : AnswerTo question → StatementOutcome) → walks.open_question w question sheet (λ answer. outcome_with (go answer)) ≡ walks.open_question w question sheet go
+    question_opened : (question : Question) (sheet : Sheet) (go : AnswerTo question → StatementOutcome) →
+        walks.open_question w question sheet (λ answer. outcome_with (go answer)) ≡ walks.open_question w question sheet go
     question_opened (OfPath solver limit) sheet go = refl
     question_opened (OfSolution mark) sheet go = refl
     question_opened OfRanges sheet go = refl
     question_opened (OfParametricRun run) sheet go = refl
     question_opened OfPunch sheet go = refl
-    question_opened (OfInstall s) sheet go = ap (λ (b : Bool). option_or (walks.open_stop w) (option_or (walks.open_if b w) (walks.open_pending w))) (inserted_with (go Installed) w.rest)
+    question_opened (OfInstall s) sheet go =
+        ap (λ (b : Bool). option_or (walks.open_stop w) (option_or (walks.open_if b w) (walks.open_pending w))) (inserted_with (go Installed) w.rest)
 
     opened_with : (move : StatementMove) → walks.opened w (move_with move) ≡ walks.opened w move
     opened_with (Does outcome) = outcome_opened outcome
@@ -230,7 +251,8 @@ module _ (x : ℚ) where
     unless_with None turn = refl
     unless_with (Some found) turn = refl
 
-    either_with : (b : Bool) (found : walks.Found) (turn : walks.WalkTurn) → (if b then walks.Finds found else turn_with turn) ≡ turn_with (if b then walks.Finds found else turn)
+    either_with : (b : Bool) (found : walks.Found) (turn : walks.WalkTurn) →
+        (if b then walks.Finds found else turn_with turn) ≡ turn_with (if b then walks.Finds found else turn)
     either_with true found turn = refl
     either_with false found turn = refl
 
@@ -247,15 +269,18 @@ module _ (x : ℚ) where
     does_with (Goes gain after) = taken_with (Goes gain after) (left_after (gain_text gain) w.rest)
     does_with (Ends gain ending) = taken_with (Ends gain ending) (left_after (gain_text gain) w.rest)
 
-    if_with : (b : Bool) (turn : walks.WalkTurn) (found : walks.Found) → (if b then turn_with turn else walks.Finds found) ≡ turn_with (if b then turn else walks.Finds found)
+    if_with : (b : Bool) (turn : walks.WalkTurn) (found : walks.Found) →
+        (if b then turn_with turn else walks.Finds found) ≡ turn_with (if b then turn else walks.Finds found)
     if_with true turn found = refl
     if_with false turn found = refl
 
-    settled_with : (pending : Option walks.Pending) (objective : ℚ) (turn : walks.WalkTurn) → walks.settled C w pending objective (turn_with turn) ≡ turn_with (walks.settled C w pending objective turn)
+    settled_with : (pending : Option walks.Pending) (objective : ℚ) (turn : walks.WalkTurn) →
+        walks.settled C w pending objective (turn_with turn) ≡ turn_with (walks.settled C w pending objective turn)
     settled_with None objective turn = refl
     settled_with (Some pending) objective turn = if_with (walks.settles C pending objective) turn (walks.Wrong pending.rest)
 
-    settling_with : (question : Question) (sheet : Sheet) (answer : AnswerTo question) (turn : walks.WalkTurn) → walks.settling C w question sheet answer (turn_with turn) ≡ turn_with (walks.settling C w question sheet answer turn)
+    settling_with : (question : Question) (sheet : Sheet) (answer : AnswerTo question) (turn : walks.WalkTurn) →
+        walks.settling C w question sheet answer (turn_with turn) ≡ turn_with (walks.settling C w question sheet answer turn)
     settling_with (OfPath solver limit) sheet answer turn = refl
     settling_with (OfSolution marks.Optimal) sheet answer turn = settled_with w.pending _ turn
     settling_with (OfSolution marks.Infeasible) sheet answer turn = refl
@@ -269,7 +294,10 @@ module _ (x : ℚ) where
         walks.answered C w question sheet (λ answer. outcome_with (go answer)) found ≡ turn_with (walks.answered C w question sheet go found)
     answered_with question sheet go Fails = refl
     answered_with question sheet go Refuses = refl
-    answered_with question sheet go (Right answer rest) = ap (walks.settling C w question sheet answer) (follows_with (record (walks.passed rest 1 w) { pending = walks.noted w question sheet answer }) (go answer)) ∙ settling_with question sheet answer _
+    answered_with question sheet go (Right answer rest) =
+        ap (walks.settling C w question sheet answer)
+        (follows_with (record (walks.passed rest 1 w) { pending = walks.noted w question sheet answer }) (go answer))
+        ∙ settling_with question sheet answer _
 
     due_with : (move : StatementMove) → walks.due C w (move_with move) ≡ turn_with (walks.due C w move)
     due_with (Does outcome) = does_with outcome
@@ -279,5 +307,6 @@ module _ (x : ℚ) where
     pub walk_with : (move : StatementMove) → walks.walk_move C w (move_with move) ≡ turn_with (walks.walk_move C w move)
     walk_with move =
         ap₂ walks.unless_found (opened_with move)
-        (ap₂ (λ (b : Bool) (turn : walks.WalkTurn). if b then walks.Finds (walks.Unchecked w.rest) else turn) (refuses_with move) (due_with move) ∙ either_with (walks.refuses_selection move) (walks.Unchecked w.rest) (walks.due C w move)) ∙
+        (ap₂ (λ (b : Bool) (turn : walks.WalkTurn). if b then walks.Finds (walks.Unchecked w.rest) else turn) (refuses_with move) (due_with move)
+        ∙ either_with (walks.refuses_selection move) (walks.Unchecked w.rest) (walks.due C w move)) ∙
         unless_with (walks.opened w move) _

@@ -45,7 +45,8 @@ use Rattle.listing_walk.proofs.ParametricWalks.{parametric_no_setup, parametric_
 -- ---- the machine with a value in XPARAM
 
 -- its cells, with the value from which a run begins
-pub cells_held : (last : Option ℚ) (machine : Machine Chosen) (from : ℚ) → from ≡ unwrap_or last machine.cells.xparam → beginning from machine.cells ≡ (holding last machine).cells
+pub cells_held : (last : Option ℚ) (machine : Machine Chosen) (from : ℚ) → from ≡ unwrap_or last machine.cells.xparam →
+    beginning from machine.cells ≡ (holding last machine).cells
 cells_held None machine from is = ap (λ x. beginning x machine.cells) is
 cells_held (Some value) machine from is = ap (λ x. beginning x machine.cells) is
 
@@ -54,7 +55,8 @@ demands_held None machine demands = demands
 demands_held (Some value) machine demands = record { infeasible = demands.infeasible; unbounded = demands.unbounded }
 
 -- what follows doesn't look at XPARAM
-pub act_held : (last : Option ℚ) (machine : Machine Chosen) (card : ℕ) (finding : Finding) → act_of machine.cells card finding ≡ act_of (holding last machine).cells card finding
+pub act_held : (last : Option ℚ) (machine : Machine Chosen) (card : ℕ) (finding : Finding) →
+    act_of machine.cells card finding ≡ act_of (holding last machine).cells card finding
 act_held None machine card finding = refl
 act_held (Some value) machine card (findings.Refused fault) = refl
 act_held (Some value) machine card (findings.Overflow e place) = refl
@@ -71,36 +73,44 @@ unmarked_held None machine = refl
 unmarked_held (Some value) machine = refl
 
 -- a last value stands in place of the one before it
-pub reached_held : (last : Option ℚ) (machine : Machine Chosen) (value : ℚ) → left_by (findings.RanThrough value) machine ≡ left_by (findings.RanThrough value) (holding last machine)
+pub reached_held : (last : Option ℚ) (machine : Machine Chosen) (value : ℚ) →
+    left_by (findings.RanThrough value) machine ≡ left_by (findings.RanThrough value) (holding last machine)
 reached_held None machine value = refl
 reached_held (Some before) machine value = refl
 
 -- no last value stops the verb
-pub unasked_by_last : (verb : ParametricVerb) (problem : Problem ℕ) (cells : Cells) (changing : Changing) → Changes verb problem cells changing → (stop : RequestStop) → IsNotLast cells stop → IsNotAsked verb problem cells stop
+pub unasked_by_last : (verb : ParametricVerb) (problem : Problem ℕ) (cells : Cells) (changing : Changing) → Changes verb problem cells changing →
+    (stop : RequestStop) → IsNotLast cells stop → IsNotAsked verb problem cells stop
 unasked_by_last verb problem cells changing changes (request_stops.Fault fault) none = no_value changes none
 unasked_by_last verb problem cells changing changes request_stops.NoMemory none = tt
 
 -- ---- the verb in the walk
 
 module _ (C : Checker) (verb : ParametricVerb) (card : ℕ) (cards : List (List ℕ)) (machine : Machine Chosen) (old new : ListingPlace) where
-  pub held_no_setup : (last : Option ℚ) → machine.setup ≡ None → (result : Result WalkStep NoMemory) → IfOk result (Passes (holding last machine) old new (acts.Ends (ends.Verb NoSetup card)) []) →
+  pub held_no_setup : (last : Option ℚ) → machine.setup ≡ None → (result : Result WalkStep NoMemory) →
+      IfOk result (Passes (holding last machine) old new (acts.Ends (ends.Verb NoSetup card)) []) →
       IfOk result (Walks C (verb_of verb) card cards (holding last machine) (holding last machine) old new)
   held_no_setup None none = parametric_no_setup C verb card cards machine old new none
   held_no_setup (Some value) none = parametric_no_setup C verb card cards (holding (Some value) machine) old new none
 
-  module _ (chosen : Chosen) (is_setup : machine.setup ≡ Some chosen) (problem : Problem ℕ) (on_file : filed_under chosen.name machine.file ≡ Some problem) where
-    pub held_refused : (last : Option ℚ) (refusal : Unselected) → IsNotMade problem (choice_of machine.cells chosen.options) refusal → (result : Result WalkStep NoMemory) → IfOk result (Refuses (holding last machine) old new card refusal) →
+  module _ (chosen : Chosen) (is_setup : machine.setup ≡ Some chosen) (problem : Problem ℕ)
+      (on_file : filed_under chosen.name machine.file ≡ Some problem) where
+    pub held_refused : (last : Option ℚ) (refusal : Unselected) → IsNotMade problem (choice_of machine.cells chosen.options) refusal →
+        (result : Result WalkStep NoMemory) → IfOk result (Refuses (holding last machine) old new card refusal) →
         IfOk result (Walks C (verb_of verb) card cards (holding last machine) (holding last machine) old new)
     held_refused None = parametric_refused C verb card cards machine old new chosen is_setup problem on_file
     held_refused (Some value) = parametric_refused C verb card cards (holding (Some value) machine) old new chosen is_setup problem on_file
 
     module _ (lp : LinearProgram) (made : IsMade problem (choice_of machine.cells chosen.options) lp) (from : ℚ) where
-      unasked_at : (last : Option ℚ) (stop : RequestStop) → IsNotAsked verb problem (holding last machine).cells stop → (result : Result WalkStep NoMemory) → IfOk result (IsUnasked (holding last machine) old new card stop) →
+      unasked_at : (last : Option ℚ) (stop : RequestStop) → IsNotAsked verb problem (holding last machine).cells stop → (result : Result WalkStep NoMemory) →
+          IfOk result (IsUnasked (holding last machine) old new card stop) →
           IfOk result (Walks C (verb_of verb) card cards (holding last machine) (holding last machine) old new)
       unasked_at None = parametric_unasked C verb card cards machine old new chosen is_setup problem on_file lp made
       unasked_at (Some value) = parametric_unasked C verb card cards (holding (Some value) machine) old new chosen is_setup problem on_file lp made
 
-      pub held_unasked : (last : Option ℚ) → from ≡ unwrap_or last machine.cells.xparam → (stop : RequestStop) → IsNotAsked verb problem (beginning from machine.cells) stop → (result : Result WalkStep NoMemory) → IfOk result (IsUnasked (holding last machine) old new card stop) →
+      pub held_unasked : (last : Option ℚ) → from ≡ unwrap_or last machine.cells.xparam → (stop : RequestStop) →
+          IsNotAsked verb problem (beginning from machine.cells) stop → (result : Result WalkStep NoMemory) →
+          IfOk result (IsUnasked (holding last machine) old new card stop) →
           IfOk result (Walks C (verb_of verb) card cards (holding last machine) (holding last machine) old new)
       held_unasked last is stop h = unasked_at last stop (subst (λ (c : Cells). IsNotAsked verb problem c stop) (cells_held last machine from is) h)
 
@@ -109,41 +119,57 @@ module _ (C : Checker) (verb : ParametricVerb) (card : ℕ) (cards : List (List 
         IsAskedAt cells = IsAsked verb problem cells (parametric_run_of (steps_allowed machine.cells) request)
 
         abbrev IsAnswered : ListingPlace → Result ParametricRunAnswer Stopped → Type 0
-        IsAnswered mid result = (limit : ℕ) → Answered C (OfParametricRun (parametric_run_of limit request)) (record { problem = problem; lp = lp }) old mid IsParametricRunAnswer result
+        IsAnswered mid result =
+            (limit : ℕ) →
+            Answered C (OfParametricRun (parametric_run_of limit request)) (record { problem = problem; lp = lp }) old mid IsParametricRunAnswer result
 
-        abbrev asked_held : (last : Option ℚ) → from ≡ unwrap_or last machine.cells.xparam → IsAskedAt (beginning from machine.cells) → IsAskedAt (holding last machine).cells
+        abbrev asked_held : (last : Option ℚ) → from ≡ unwrap_or last machine.cells.xparam → IsAskedAt (beginning from machine.cells) →
+            IsAskedAt (holding last machine).cells
         asked_held last is asked = subst IsAskedAt (cells_held last machine from is) asked
 
-        stopped_at : (last : Option ℚ) → IsAskedAt (holding last machine).cells → (stopped : Stopped) → IsAnswered new (Err stopped) → (result : Result WalkStep NoMemory) → IfOk result (IsStopStep stopped) →
+        stopped_at : (last : Option ℚ) → IsAskedAt (holding last machine).cells → (stopped : Stopped) → IsAnswered new (Err stopped) →
+            (result : Result WalkStep NoMemory) → IfOk result (IsStopStep stopped) →
             IfOk result (Walks C (verb_of verb) card cards (holding last machine) (holding last machine) old new)
         stopped_at None asked = parametric_stopped C verb card cards machine old new chosen is_setup problem on_file lp made request asked machine
-        stopped_at (Some value) asked = parametric_stopped C verb card cards (holding (Some value) machine) old new chosen is_setup problem on_file lp made request asked (holding (Some value) machine)
+        stopped_at (Some value) asked =
+            parametric_stopped C verb card cards (holding (Some value) machine) old new chosen is_setup problem on_file lp made request asked
+            (holding (Some value) machine)
 
-        pub held_stopped : (last : Option ℚ) → from ≡ unwrap_or last machine.cells.xparam → IsAskedAt (beginning from machine.cells) → (stopped : Stopped) → IsAnswered new (Err stopped) → (result : Result WalkStep NoMemory) → IfOk result (IsStopStep stopped) →
+        pub held_stopped : (last : Option ℚ) → from ≡ unwrap_or last machine.cells.xparam → IsAskedAt (beginning from machine.cells) → (stopped : Stopped) →
+            IsAnswered new (Err stopped) → (result : Result WalkStep NoMemory) → IfOk result (IsStopStep stopped) →
             IfOk result (Walks C (verb_of verb) card cards (holding last machine) (holding last machine) old new)
         held_stopped last is asked = stopped_at last (asked_held last is asked)
 
         module _ (demands : AreDemands machine.cells) where
-          ended_at : (last : Option ℚ) → IsAskedAt (holding last machine).cells → (mid : ListingPlace) (x : ParametricRunAnswer) → IsAnswered mid (Ok x) → (after : Machine Chosen) → after ≡ left_by (finding_of x) (holding last machine) →
-              (act : Act) → act ≡ act_of after.cells card (finding_of x) → (result : Result WalkStep NoMemory) → IfOk result (Finishes mid new act) → IfOk result (Walks C (verb_of verb) card cards (holding last machine) after old new)
+          ended_at : (last : Option ℚ) → IsAskedAt (holding last machine).cells → (mid : ListingPlace) (x : ParametricRunAnswer) → IsAnswered mid (Ok x) →
+              (after : Machine Chosen) → after ≡ left_by (finding_of x) (holding last machine) →
+              (act : Act) → act ≡ act_of after.cells card (finding_of x) → (result : Result WalkStep NoMemory) → IfOk result (Finishes mid new act) →
+              IfOk result (Walks C (verb_of verb) card cards (holding last machine) after old new)
           ended_at None asked = parametric_ended C verb card cards machine old new chosen is_setup problem on_file lp made request asked demands
           ended_at (Some value) asked =
-              parametric_ended C verb card cards (holding (Some value) machine) old new chosen is_setup problem on_file lp made request asked (demands_held (Some value) machine demands)
+              parametric_ended C verb card cards (holding (Some value) machine) old new chosen is_setup problem on_file lp made request asked
+              (demands_held (Some value) machine demands)
 
           -- what is left of the value before is with the machine after
-          pub held_ended : (last : Option ℚ) → from ≡ unwrap_or last machine.cells.xparam → IsAskedAt (beginning from machine.cells) → (mid : ListingPlace) (x : ParametricRunAnswer) → IsAnswered mid (Ok x) →
-              (left : Option ℚ) (after : Machine Chosen) → holding left after ≡ left_by (finding_of x) (holding last machine) → (act : Act) → act ≡ act_of after.cells card (finding_of x) → (result : Result WalkStep NoMemory) → IfOk result (Finishes mid new act) →
+          pub held_ended : (last : Option ℚ) → from ≡ unwrap_or last machine.cells.xparam → IsAskedAt (beginning from machine.cells) →
+              (mid : ListingPlace) (x : ParametricRunAnswer) → IsAnswered mid (Ok x) →
+              (left : Option ℚ) (after : Machine Chosen) → holding left after ≡ left_by (finding_of x) (holding last machine) → (act : Act) →
+              act ≡ act_of after.cells card (finding_of x) → (result : Result WalkStep NoMemory) → IfOk result (Finishes mid new act) →
               IfOk result (Walks C (verb_of verb) card cards (holding last machine) (holding left after) old new)
           held_ended last is asked mid x answered left after stays act is_act =
               ended_at last (asked_held last is asked) mid x answered (holding left after) stays act (is_act ∙ act_held left after card (finding_of x))
 
-          long_at : (last : Option ℚ) → IsAskedAt (holding last machine).cells → (x : ParametricRunAnswer) (value : ℚ) → x ≡ RanThrough value → IsAnswered new (Ok x) →
+          long_at : (last : Option ℚ) → IsAskedAt (holding last machine).cells → (x : ParametricRunAnswer) (value : ℚ) → x ≡ RanThrough value →
+              IsAnswered new (Ok x) →
               Walks C (verb_of verb) card cards (holding last machine) (record (holding last machine) { mark = None }) old new (walk_step.Leaves value)
           long_at None asked = parametric_long C verb card cards machine old new chosen is_setup problem on_file lp made request asked demands
           long_at (Some before) asked =
-              parametric_long C verb card cards (holding (Some before) machine) old new chosen is_setup problem on_file lp made request asked (demands_held (Some before) machine demands)
+              parametric_long C verb card cards (holding (Some before) machine) old new chosen is_setup problem on_file lp made request asked
+              (demands_held (Some before) machine demands)
 
-          pub held_long : (last : Option ℚ) → from ≡ unwrap_or last machine.cells.xparam → IsAskedAt (beginning from machine.cells) → (x : ParametricRunAnswer) (value : ℚ) → x ≡ RanThrough value → IsAnswered new (Ok x) →
+          pub held_long : (last : Option ℚ) → from ≡ unwrap_or last machine.cells.xparam → IsAskedAt (beginning from machine.cells) →
+              (x : ParametricRunAnswer) (value : ℚ) → x ≡ RanThrough value → IsAnswered new (Ok x) →
               Walks C (verb_of verb) card cards (holding last machine) (holding last (record machine { mark = None })) old new (walk_step.Leaves value)
           held_long last is asked x value ran answered =
-              subst (λ (m : Machine Chosen). Walks C (verb_of verb) card cards (holding last machine) m old new (walk_step.Leaves value)) (unmarked_held last machine) (long_at last (asked_held last is asked) x value ran answered)
+              subst (λ (m : Machine Chosen). Walks C (verb_of verb) card cards (holding last machine) m old new (walk_step.Leaves value))
+              (unmarked_held last machine) (long_at last (asked_held last is asked) x value ran answered)

@@ -40,10 +40,13 @@ use Rattle.listing_walk.proofs.SolvingWalks.{present_with, present_at, ready_of,
 use Rattle.listing_walk.proofs.ViewsWalks.{fault_walks, some_at, showing, showing_none, showing_unsolved, showing_mark, selected_now}
 
 -- the line stands where the walker is
-at_line : (place : ListingPlace) (stands made : Bool) (found : Found) → IsReported place stands made found → (tests : List ℕ → Bool) → stands ≡ tests place.cursor → (w : walks.Walker) → Faces place w →
-    walks.unless_found (option_or (walks.open_stop w) (walks.open_if (tests w.rest) w)) (walks.Finds (if made then walks.Wrong w.rest else walks.Unchecked w.rest)) ≡ walks.Finds (found_view found)
+at_line : (place : ListingPlace) (stands made : Bool) (found : Found) → IsReported place stands made found → (tests : List ℕ → Bool) →
+    stands ≡ tests place.cursor → (w : walks.Walker) → Faces place w →
+    walks.unless_found (option_or (walks.open_stop w) (walks.open_if (tests w.rest) w))
+    (walks.Finds (if made then walks.Wrong w.rest else walks.Unchecked w.rest)) ≡ walks.Finds (found_view found)
 at_line place stands made found h tests is w f =
-    ap (λ (b : Bool). walks.unless_found (option_or (walks.open_stop w) (walks.open_if b w)) (walks.Finds (if made then walks.Wrong w.rest else walks.Unchecked w.rest))) (ap tests f.rest ∙ sym is) ∙ h w f
+    ap (λ (b : Bool). walks.unless_found (option_or (walks.open_stop w) (walks.open_if b w))
+    (walks.Finds (if made then walks.Wrong w.rest else walks.Unchecked w.rest))) (ap tests f.rest ∙ sym is) ∙ h w f
 
 -- ---- RANGE
 
@@ -65,65 +68,85 @@ optimal_so marks.Infeasible is = absurd (cc is)
 optimal_so marks.Unbounded is = absurd (cc is)
 
 module _ (C : Checker) (card : ℕ) (cards : List (List ℕ)) (machine : Machine Chosen) (old new : ListingPlace) where
-  pub ranges_no_setup : machine.setup ≡ None → (result : Result WalkStep NoMemory) → IfOk result (Passes machine old new (acts.Ends (ends.Verb NoSetup card)) []) → IfOk result (Walks C Ranging card cards machine machine old new)
-  ranges_no_setup none = fault_walks C Ranging card cards machine old new NoSetup (λ position executed state s. ranging_move card state ∙ showing_none card cards machine s (range_move card state) none)
+  pub ranges_no_setup : machine.setup ≡ None → (result : Result WalkStep NoMemory) →
+      IfOk result (Passes machine old new (acts.Ends (ends.Verb NoSetup card)) []) → IfOk result (Walks C Ranging card cards machine machine old new)
+  ranges_no_setup none =
+      fault_walks C Ranging card cards machine old new NoSetup
+      (λ position executed state s. ranging_move card state ∙ showing_none card cards machine s (range_move card state) none)
 
   module _ (chosen : Chosen) (is_setup : machine.setup ≡ Some chosen) where
-    pub ranges_not_solved : machine.mark ≡ None → (result : Result WalkStep NoMemory) → IfOk result (Passes machine old new (acts.Ends (ends.Verb NotSolved card)) []) → IfOk result (Walks C Ranging card cards machine machine old new)
+    pub ranges_not_solved : machine.mark ≡ None → (result : Result WalkStep NoMemory) →
+        IfOk result (Passes machine old new (acts.Ends (ends.Verb NotSolved card)) []) → IfOk result (Walks C Ranging card cards machine machine old new)
     ranges_not_solved none =
-        fault_walks C Ranging card cards machine old new NotSolved (λ position executed state s. ranging_move card state ∙ showing_unsolved card cards machine s (range_move card state) chosen is_setup none)
+        fault_walks C Ranging card cards machine old new NotSolved
+        (λ position executed state s. ranging_move card state ∙ showing_unsolved card cards machine s (range_move card state) chosen is_setup none)
 
     module _ (mark : Mark) (is_mark : machine.mark ≡ Some mark) where
-      pub ranges_not_optimal : is_optimal mark ≡ false → (result : Result WalkStep NoMemory) → IfOk result (Passes machine old new (acts.Ends (ends.Verb NotOptimal card)) []) → IfOk result (Walks C Ranging card cards machine machine old new)
+      pub ranges_not_optimal : is_optimal mark ≡ false → (result : Result WalkStep NoMemory) →
+          IfOk result (Passes machine old new (acts.Ends (ends.Verb NotOptimal card)) []) → IfOk result (Walks C Ranging card cards machine machine old new)
       ranges_not_optimal other =
           fault_walks C Ranging card cards machine old new NotOptimal (λ position executed state s.
           let p = some_at s chosen is_setup in
           ranging_move card state ∙ showing_mark card cards machine s (range_move card state) p.0 p.1 mark is_mark ∙
           fault_move card NotOptimal (if_optimal mark) (λ (optimal : Mark). shows_present card state p.0 OfRanges Ranges) (not_optimal mark other))
 
-      pub ranges_found : is_optimal mark ≡ true → IfSome machine.setup (IsReady machine.file) → IfSome machine.mark (λ mark. IfSome machine.setup (IsSolved mark machine.cells.xobj machine.cells.xrhs machine.file)) →
-          (stands : Bool) → stands ≡ is_ranges old.cursor → (found : Found) → IsReported old stands true found → Walks C Ranging card cards machine machine old new (walk_step.Finds found)
+      pub ranges_found : is_optimal mark ≡ true → IfSome machine.setup (IsReady machine.file) →
+          IfSome machine.mark (λ mark. IfSome machine.setup (IsSolved mark machine.cells.xobj machine.cells.xrhs machine.file)) →
+          (stands : Bool) → stands ≡ is_ranges old.cursor → (found : Found) → IsReported old stands true found →
+          Walks C Ranging card cards machine machine old new (walk_step.Finds found)
       ranges_found is ready solved stands stands_is found h = λ position executed state w s f.
           let r = ready_of machine.file machine.setup chosen is_setup ready in
           let p = present_at s chosen is_setup r.problem r.on_file in
           let present = present_with r.problem chosen.options p.opening p.steps in
           let ok : selected r.problem (choice_of state.cells chosen.options) ≡ Ok chosen.lp =
-          ap (λ (c : Cells). selected r.problem (choice_of c chosen.options)) s.cells ∙ selected_now machine chosen is_setup mark is_mark r.problem r.on_file solved in
+          ap (λ (c : Cells). selected r.problem (choice_of c chosen.options)) s.cells
+          ∙ selected_now machine chosen is_setup mark is_mark r.problem r.on_file solved in
           ap (walks.walk_move C w)
           (ranging_move card state ∙ showing_mark card cards machine s (range_move card state) present p.is_viewed mark is_mark ∙
-          found_move card NotOptimal (if_optimal mark) (λ (optimal : Mark). shows_present card state present OfRanges Ranges) marks.Optimal (optimal_so mark is) ∙
+          found_move card NotOptimal (if_optimal mark) (λ (optimal : Mark). shows_present card state present OfRanges Ranges) marks.Optimal
+          (optimal_so mark is) ∙
           selected_move card (selected r.problem (choice_of state.cells chosen.options))
-          (λ (lp : LinearProgram). asks OfRanges (record { problem = r.problem; lp = lp }) present (λ (lines : RangeLines). next (Prints (Ranges lines)) state)) chosen.lp ok) ∙
+          (λ (lp : LinearProgram). asks OfRanges (record { problem = r.problem; lp = lp }) present
+          (λ (lines : RangeLines). next (Prints (Ranges lines)) state)) chosen.lp ok) ∙
           at_line old stands true found h is_ranges stands_is w f
 
 -- ---- PUNCH
 
 abbrev punch_move : ℕ → State → Present → LinearProgram → StatementMove
 punch_move card state present lp =
-    Asks OfPunch (record { problem = present.problem; lp = lp }) (present_basis present) (λ cards. next (Punches (BasisOut present.problem.name (min (length cards) max_counted)) cards) state)
+    Asks OfPunch (record { problem = present.problem; lp = lp }) (present_basis present)
+    (λ cards. next (Punches (BasisOut present.problem.name (min (length cards) max_counted)) cards) state)
 
 punching_move : (card : ℕ) (state : State) → verb_move Punch card state ≡ selecting card state (punch_move card state)
 unfolding verb_move
 punching_move card state = refl
 
 module _ (C : Checker) (card : ℕ) (cards : List (List ℕ)) (machine : Machine Chosen) (old new : ListingPlace) where
-  pub punch_no_setup : machine.setup ≡ None → (result : Result WalkStep NoMemory) → IfOk result (Passes machine old new (acts.Ends (ends.Verb NoSetup card)) []) → IfOk result (Walks C Punch card cards machine machine old new)
+  pub punch_no_setup : machine.setup ≡ None → (result : Result WalkStep NoMemory) →
+      IfOk result (Passes machine old new (acts.Ends (ends.Verb NoSetup card)) []) → IfOk result (Walks C Punch card cards machine machine old new)
   punch_no_setup = no_setup_walks C Punch card (punch_move card) (punching_move card) cards machine old new
 
-  module _ (chosen : Chosen) (is_setup : machine.setup ≡ Some chosen) (problem : Problem ℕ) (on_file : filed_under chosen.name machine.file ≡ Some problem) (stands : Bool) (stands_is : stands ≡ is_punched problem.name old.cursor) where
-    pub punch_found : (lp : LinearProgram) → IsMade problem (choice_of machine.cells chosen.options) lp → (found : Found) → IsReported old stands true found → Walks C Punch card cards machine machine old new (walk_step.Finds found)
+  module _ (chosen : Chosen) (is_setup : machine.setup ≡ Some chosen) (problem : Problem ℕ) (on_file : filed_under chosen.name machine.file ≡ Some problem)
+      (stands : Bool) (stands_is : stands ≡ is_punched problem.name old.cursor) where
+    pub punch_found : (lp : LinearProgram) → IsMade problem (choice_of machine.cells chosen.options) lp → (found : Found) → IsReported old stands true found →
+        Walks C Punch card cards machine machine old new (walk_step.Finds found)
     punch_found lp made found h =
-        made_walks C Punch card (punch_move card) (punching_move card) cards machine old new chosen is_setup problem on_file lp made machine (walk_step.Finds found)
+        made_walks C Punch card (punch_move card) (punching_move card) cards machine old new chosen is_setup problem on_file lp made machine
+        (walk_step.Finds found)
         (λ position executed state w opening steps s f is_viewed. at_line old stands true found h (is_punched problem.name) stands_is w f)
 
-    unmade_walks : IsRefused problem (choice_of machine.cells chosen.options) → (found : Found) → IsReported old stands false found → Walks C Punch card cards machine machine old new (walk_step.Finds found)
+    unmade_walks : IsRefused problem (choice_of machine.cells chosen.options) → (found : Found) → IsReported old stands false found →
+        Walks C Punch card cards machine machine old new (walk_step.Finds found)
     unmade_walks refused found h = λ position executed state w s f.
         let p = present_at s chosen is_setup problem on_file in
-        ap (walks.walk_move C w) (punching_move card state) ∙ (unmade_here C card cards machine s (punch_move card state) chosen problem p w refused).1 ∙ at_line old stands false found h (is_punched problem.name) stands_is w f
+        ap (walks.walk_move C w) (punching_move card state) ∙ (unmade_here C card cards machine s (punch_move card state) chosen problem p w refused).1
+        ∙ at_line old stands false found h (is_punched problem.name) stands_is w f
 
-    pub punch_refused : (refusal : Unselected) → IsNotMade problem (choice_of machine.cells chosen.options) refusal → (result : Result WalkStep NoMemory) → IfOk result (RefusesReport machine old new card stands refusal) →
+    pub punch_refused : (refusal : Unselected) → IsNotMade problem (choice_of machine.cells chosen.options) refusal → (result : Result WalkStep NoMemory) →
+        IfOk result (RefusesReport machine old new card stands refusal) →
         IfOk result (Walks C Punch card cards machine machine old new)
-    punch_refused (unselected.Fault fault) h result passes = unselected_walks C Punch card (punch_move card) (punching_move card) cards machine old new chosen is_setup problem on_file fault h result passes
+    punch_refused (unselected.Fault fault) h result passes =
+        unselected_walks C Punch card (punch_move card) (punching_move card) cards machine old new chosen is_setup problem on_file fault h result passes
     punch_refused unselected.Unchecked h (Ok (walk_step.Finds found)) reported = unmade_walks h found reported
     punch_refused unselected.Unchecked h (Ok walk_step.Next) reported = absurd reported
     punch_refused unselected.Unchecked h (Ok (walk_step.Leaves last)) reported = absurd reported

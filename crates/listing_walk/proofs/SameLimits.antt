@@ -34,11 +34,13 @@ use Rattle.listing_walk.proofs.Selected.{is_program}
 
 -- ---- a row's limits, with one right-hand side or another
 
-ranged_lower : (b : Bool) (x y size : ℚ) → is_none ((with_range (if b then Sub else Add) x size).lower) ≡ is_none ((with_range (if b then Sub else Add) y size).lower)
+ranged_lower : (b : Bool) (x y size : ℚ) →
+    is_none ((with_range (if b then Sub else Add) x size).lower) ≡ is_none ((with_range (if b then Sub else Add) y size).lower)
 ranged_lower true x y size = refl
 ranged_lower false x y size = refl
 
-ranged_upper : (b : Bool) (x y size : ℚ) → is_none ((with_range (if b then Sub else Add) x size).upper) ≡ is_none ((with_range (if b then Sub else Add) y size).upper)
+ranged_upper : (b : Bool) (x y size : ℚ) →
+    is_none ((with_range (if b then Sub else Add) x size).upper) ≡ is_none ((with_range (if b then Sub else Add) y size).upper)
 ranged_upper true x y size = refl
 ranged_upper false x y size = refl
 
@@ -65,12 +67,14 @@ upper_alike E x y (Some range) = ranged_upper (lt_ℚ range zero_ℚ) x y (magni
 -- ---- the limits of the variables
 
 module _ {X : Type 0} (side : Limits → Option ℚ) (f g : X → Limits) (alike : (x : X) → is_none (side (f x)) ≡ is_none (side (g x))) (after : List Limits) where
-  at_place : (xs : List X) (n : ℕ) → is_none (slice_index_or (map side (map f xs ++ after)) n None) ≡ is_none (slice_index_or (map side (map g xs ++ after)) n None)
+  at_place : (xs : List X) (n : ℕ) →
+      is_none (slice_index_or (map side (map f xs ++ after)) n None) ≡ is_none (slice_index_or (map side (map g xs ++ after)) n None)
   at_place [] n = refl
   at_place (x ∷ xs) zero = alike x
   at_place (x ∷ xs) (suc n) = at_place xs n
 
-opening_alike : (low low' high high' : Option ℚ) → is_none low ≡ is_none low' → is_none high ≡ is_none high' → opening_status_of low high ≡ opening_status_of low' high'
+opening_alike : (low low' high high' : Option ℚ) → is_none low ≡ is_none low' → is_none high ≡ is_none high' →
+    opening_status_of low high ≡ opening_status_of low' high'
 opening_alike (Some l) (Some l') high high' a b = refl
 opening_alike (Some l) None high high' a b = absurd (true≢false (sym a))
 opening_alike None (Some l') high high' a b = absurd (true≢false a)
@@ -100,12 +104,14 @@ module _ (problem : Problem ℕ) (objective other : Option Name) (rhs side : Opt
 
   lower_same : (k : ℕ) → is_none (lower_of p k) ≡ is_none (lower_of q k)
   lower_same k =
-      at_place (λ (limits : Limits). limits.lower) (limits_by first) (limits_by second) (λ entry. lower_alike entry.1.kind (rhs_of problem first entry.0) (rhs_of problem second entry.0) (range_of problem first entry.0))
+      at_place (λ (limits : Limits). limits.lower) (limits_by first) (limits_by second)
+      (λ entry. lower_alike entry.1.kind (rhs_of problem first entry.0) (rhs_of problem second entry.0) (range_of problem first entry.0))
       of_columns (enumerate_from 1 problem.rows) (k - 1)
 
   upper_same : (k : ℕ) → is_none (upper_of p k) ≡ is_none (upper_of q k)
   upper_same k =
-      at_place (λ (limits : Limits). limits.upper) (limits_by first) (limits_by second) (λ entry. upper_alike entry.1.kind (rhs_of problem first entry.0) (rhs_of problem second entry.0) (range_of problem first entry.0))
+      at_place (λ (limits : Limits). limits.upper) (limits_by first) (limits_by second)
+      (λ entry. upper_alike entry.1.kind (rhs_of problem first entry.0) (rhs_of problem second entry.0) (range_of problem first entry.0))
       of_columns (enumerate_from 1 problem.rows) (k - 1)
 
   -- ---- what a deck says of them
@@ -120,14 +126,17 @@ module _ (problem : Problem ℕ) (objective other : Option Name) (rhs side : Opt
   limit_same = λ i placing. limit_at placing.variable placing.status i
 
   opens_same : (k : ℕ) → opening_at_of p k ≡ opening_at_of q k
-  opens_same k = ap (λ (s : Status). if nat_le k p.rows then Bs else s) (opening_alike (lower_of p k) (lower_of q k) (upper_of p k) (upper_of q k) (lower_same k) (upper_same k))
+  opens_same k =
+      ap (λ (s : Status). if nat_le k p.rows then Bs else s)
+      (opening_alike (lower_of p k) (lower_of q k) (upper_of p k) (upper_of q k) (lower_same k) (upper_same k))
 
   statuses_same : opening_statuses p ≡ opening_statuses q
   statuses_same = λ i. map (λ k. opens_same k i) (variables p.matrix)
 
   stands_same : (cards : List Card) → stands_for problem p cards ≡ stands_for problem q cards
   unfolding stands_for
-  stands_same cards = ap (λ (start : List Status). fold (λ s placing. with_status s placing.variable placing.status) start (placings_of problem cards)) statuses_same
+  stands_same cards =
+      ap (λ (start : List Status). fold (λ s placing. with_status s placing.variable placing.status) start (placings_of problem cards)) statuses_same
 
   code_same : (before : List Placing) (card : Reading) (code : Option Code) → by_code problem p before card code ≡ by_code problem q before card code
   code_same before card None = refl
@@ -147,7 +156,8 @@ module _ (problem : Problem ℕ) (objective other : Option Name) (rhs side : Opt
   card_same : (before : List Card) (card : List ℕ) → basis_card_fault problem p before card ≡ basis_card_fault problem q before card
   unfolding basis_card_fault
   card_same before card =
-      ap (λ (fault : Option DeckFaultKind). if is_section_card card then section_card_fault (λ earlier section. is_section Header earlier && is_section Endata section) (section_after before) card
+      ap (λ (fault : Option DeckFaultKind). if is_section_card card then section_card_fault
+      (λ earlier section. is_section Header earlier && is_section Endata section) (section_after before) card
       else (if is_section_after Header before then fault else Some SectionOrder)) (data_same (placings_of problem before) card)
 
   reading_same : (deck : List Card) → basis_reading problem p deck ≡ basis_reading problem q deck
@@ -155,9 +165,11 @@ module _ (problem : Problem ℕ) (objective other : Option Name) (rhs side : Opt
   reading_same deck = λ i. unless (fault_by (λ before card. card_same before card i) deck) (stands_same (live deck) i)
 
 -- with other names, but the same options
-pub read_alike : (problem : Problem ℕ) (c d : Choice) → c.options ≡ d.options → (p q : LinearProgram) → selected problem c ≡ Ok p → selected problem d ≡ Ok q → (deck : List Card) →
+pub read_alike : (problem : Problem ℕ) (c d : Choice) → c.options ≡ d.options → (p q : LinearProgram) → selected problem c ≡ Ok p → selected problem d ≡ Ok q →
+    (deck : List Card) →
     basis_reading problem p deck ≡ basis_reading problem q deck
 read_alike problem c d same p q is_p is_q deck =
-    ap (λ (lp : LinearProgram). basis_reading problem lp deck) (sym (is_program problem c p is_p)) ∙ reading_same problem c.objective d.objective c.rhs d.rhs c.options deck ∙
+    ap (λ (lp : LinearProgram). basis_reading problem lp deck) (sym (is_program problem c p is_p))
+    ∙ reading_same problem c.objective d.objective c.rhs d.rhs c.options deck ∙
     ap (λ (o : SetupOptions). basis_reading problem (program_of_choice problem (record { objective = d.objective; rhs = d.rhs; options = o })) deck) same ∙
     ap (λ (lp : LinearProgram). basis_reading problem lp deck) (is_program problem d q is_q)

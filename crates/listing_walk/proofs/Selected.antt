@@ -26,47 +26,56 @@ use Rattle.listing_walk.specs.Choosing.{unselected_by, IsNotMade}
 -- ---- what a refusal says
 
 -- an operation that is refused isn't made
-unmade : (problem : Problem ℕ) (choice : Choice) (e : Evidence) → IsSelectionRefusal problem choice e → (made : Bool) → is_made problem choice ≡ made → made ≡ false
+unmade : (problem : Problem ℕ) (choice : Choice) (e : Evidence) → IsSelectionRefusal problem choice e → (made : Bool) → is_made problem choice ≡ made →
+    made ≡ false
 unmade problem choice e h true is = absurd ((made_iff problem choice).0 is e h)
 unmade problem choice e h false is = refl
 
 not_made : (problem : Problem ℕ) (choice : Choice) (refusal : Refusal) → IsUnselected problem choice refusal → IsNotMade problem choice (unselected_by refusal)
 not_made problem choice (refusals.Fault fault) h = h
-not_made problem choice (refusals.Overflow e) h = record { lp = h.lp; is_selected = h.is_selected; is_refused = unmade problem choice e h.is_refusal (is_made problem choice) refl }
+not_made problem choice (refusals.Overflow e) h =
+    record { lp = h.lp; is_selected = h.is_selected; is_refused = unmade problem choice e h.is_refusal (is_made problem choice) refl }
 not_made problem choice refusals.NoMemory h = tt
 
-pub not_made_by : (problem : Problem ℕ) (choice : Choice) (refusal : Refusal) (unselected : Unselected) → unselected ≡ unselected_by refusal → IsUnselected problem choice refusal → IsNotMade problem choice unselected
+pub not_made_by : (problem : Problem ℕ) (choice : Choice) (refusal : Refusal) (unselected : Unselected) → unselected ≡ unselected_by refusal →
+    IsUnselected problem choice refusal → IsNotMade problem choice unselected
 not_made_by problem choice refusal unselected is h = subst (IsNotMade problem choice) (sym is) (not_made problem choice refusal h)
 
 -- ---- moves
 
 -- a verb fault
-pub fault_move : {X : Type 0} (card : ℕ) (fault : VerbFault) (found : Option X) (go : X → StatementMove) → found ≡ None → or_fault card fault found go ≡ Does (stopped (VerbStop (record { fault = fault; card = card })))
+pub fault_move : {X : Type 0} (card : ℕ) (fault : VerbFault) (found : Option X) (go : X → StatementMove) → found ≡ None →
+    or_fault card fault found go ≡ Does (stopped (VerbStop (record { fault = fault; card = card })))
 fault_move card fault found go none = ap (λ o. or_fault card fault o go) none
 
 -- no verb fault
-pub found_move : {X : Type 0} (card : ℕ) (fault : VerbFault) (found : Option X) (go : X → StatementMove) (x : X) → found ≡ Some x → or_fault card fault found go ≡ go x
+pub found_move : {X : Type 0} (card : ℕ) (fault : VerbFault) (found : Option X) (go : X → StatementMove) (x : X) → found ≡ Some x →
+    or_fault card fault found go ≡ go x
 found_move card fault found go x some = ap (λ o. or_fault card fault o go) some
 
 -- a fault of a selection
-pub unselected_move : (card : ℕ) (found : Result LinearProgram SelectionFault) (go : LinearProgram → StatementMove) (why : SelectionFault) (fault : VerbFault) → found ≡ Err why → selection_verb_fault why ≡ fault →
+pub unselected_move : (card : ℕ) (found : Result LinearProgram SelectionFault) (go : LinearProgram → StatementMove) (why : SelectionFault) (fault : VerbFault) →
+    found ≡ Err why → selection_verb_fault why ≡ fault →
     or_selection_fault card found go ≡ Does (stopped (VerbStop (record { fault = fault; card = card })))
 unselected_move card found go why fault err is =
     ap (λ r. or_selection_fault card r go) err ∙ ap (λ (f : VerbFault). Does (stopped (VerbStop (record { fault = f; card = card })))) is
 
-pub selected_move : (card : ℕ) (found : Result LinearProgram SelectionFault) (go : LinearProgram → StatementMove) (lp : LinearProgram) → found ≡ Ok lp → or_selection_fault card found go ≡ go lp
+pub selected_move : (card : ℕ) (found : Result LinearProgram SelectionFault) (go : LinearProgram → StatementMove) (lp : LinearProgram) → found ≡ Ok lp →
+    or_selection_fault card found go ≡ go lp
 selected_move card found go lp ok = ap (λ r. or_selection_fault card r go) ok
 
 module _ (C : Checker) (w : walks.Walker) (problem : Problem ℕ) (choice : Choice) (move : StatementMove) where
   abbrev by_made : Bool → walks.WalkTurn
-  by_made made = walks.unless_found (walks.opened w move) (if not made || walks.refuses_selection move then walks.Finds (walks.Unchecked w.rest) else walks.due C w move)
+  by_made made =
+      walks.unless_found (walks.opened w move) (if not made || walks.refuses_selection move then walks.Finds (walks.Unchecked w.rest) else walks.due C w move)
 
   -- no operation of a selection is refused
   pub made_turn : is_made problem choice ≡ true → walks.walk_move C w (MayStop (InSelection problem choice) move) ≡ walks.walk_move C w move
   made_turn made = ap by_made made
 
   -- one is
-  pub refused_turn : is_made problem choice ≡ false → walks.walk_move C w (MayStop (InSelection problem choice) move) ≡ walks.unless_found (walks.opened w move) (walks.Finds (walks.Unchecked w.rest))
+  pub refused_turn : is_made problem choice ≡ false →
+      walks.walk_move C w (MayStop (InSelection problem choice) move) ≡ walks.unless_found (walks.opened w move) (walks.Finds (walks.Unchecked w.rest))
   refused_turn made = ap by_made made
 
 -- ---- what is selected is the program of the choice

@@ -41,7 +41,8 @@ use Rattle.listing_walk.specs.Walking.{TurnsTo, Passes, Walks, IsUnchecked}
 use Rattle.listing_walk.proofs.Selected.{fault_move, found_move, unselected_move, selected_move, made_turn, refused_turn}
 
 -- the problem that is wanted is on file
-pub filed_by : (wanted : Option Name) (file : Filed) (name : Name) (found : Option (Problem ℕ)) → named wanted file ≡ Some name → filed_under name file ≡ found → filed wanted file ≡ found
+pub filed_by : (wanted : Option Name) (file : Filed) (name : Name) (found : Option (Problem ℕ)) → named wanted file ≡ Some name →
+    filed_under name file ≡ found → filed wanted file ≡ found
 filed_by wanted file name found is on_file = rw is on_file
 
 -- no problem is wanted, and none was put last
@@ -51,8 +52,10 @@ filed_none wanted file none = rw none refl
 -- ---- a fault
 
 -- a move that is a verb fault
-pub faulted : (C : Checker) (cards : List (List ℕ)) (machine : Machine Chosen) (old new : ListingPlace) (fault : VerbFault) (card : ℕ) (next_step : WalkStep) → Passes machine old new (acts.Ends (ends.Verb fault card)) [] next_step →
-    (w : walks.Walker) (move : StatementMove) (position executed : ℕ) → Faces old w → move ≡ Does (stops (VerbStop (record { fault = fault; card = card }))) → TurnsTo (walks.walk_move C w move) cards machine position executed new next_step
+pub faulted : (C : Checker) (cards : List (List ℕ)) (machine : Machine Chosen) (old new : ListingPlace) (fault : VerbFault) (card : ℕ) (next_step : WalkStep) →
+    Passes machine old new (acts.Ends (ends.Verb fault card)) [] next_step →
+    (w : walks.Walker) (move : StatementMove) (position executed : ℕ) → Faces old w → move ≡ Does (stops (VerbStop (record { fault = fault; card = card }))) →
+    TurnsTo (walks.walk_move C w move) cards machine position executed new next_step
 faulted C cards machine old new fault card next_step passes w move position executed f is =
     subst (λ (m : StatementMove). TurnsTo (walks.walk_move C w m) cards machine position executed new next_step) (sym is)
     (passes C w card (Does (stops (VerbStop (record { fault = fault; card = card })))) cards position executed Nothing f refl refl refl)
@@ -75,18 +78,21 @@ module _ (card : ℕ) (options : SetupOptions) (state : State) where
   abbrev go_found : Problem ℕ → StatementMove
   go_found problem = or_selection_fault card (selected problem (choice_of state.cells options)) (go_selected problem)
 
-  no_problem_move : problem_of state.cells.xpbname state.file ≡ None → verb_move (SetupVerb options) card state ≡ Does (stops (VerbStop (record { fault = NoProblem; card = card })))
+  no_problem_move : problem_of state.cells.xpbname state.file ≡ None →
+      verb_move (SetupVerb options) card state ≡ Does (stops (VerbStop (record { fault = NoProblem; card = card })))
   unfolding verb_move
   no_problem_move none = fault_move card NoProblem (problem_of state.cells.xpbname state.file) go_found none
 
-  refused_move : (problem : Problem ℕ) (fault : VerbFault) → problem_of state.cells.xpbname state.file ≡ Some problem → HasSelectionFault problem (choice_of state.cells options) fault →
+  refused_move : (problem : Problem ℕ) (fault : VerbFault) → problem_of state.cells.xpbname state.file ≡ Some problem →
+      HasSelectionFault problem (choice_of state.cells options) fault →
       verb_move (SetupVerb options) card state ≡ Does (stops (VerbStop (record { fault = fault; card = card })))
   unfolding verb_move
   refused_move problem fault is h =
       found_move card NoProblem (problem_of state.cells.xpbname state.file) go_found problem is ∙
       unselected_move card (selected problem (choice_of state.cells options)) (go_selected problem) h.why fault h.is_refused h.is_fault
 
-  set_up_move : (problem : Problem ℕ) (lp : LinearProgram) → problem_of state.cells.xpbname state.file ≡ Some problem → selected problem (choice_of state.cells options) ≡ Ok lp →
+  set_up_move : (problem : Problem ℕ) (lp : LinearProgram) → problem_of state.cells.xpbname state.file ≡ Some problem →
+      selected problem (choice_of state.cells options) ≡ Ok lp →
       verb_move (SetupVerb options) card state ≡ go_selected problem lp
   unfolding verb_move
   set_up_move problem lp is ok =
@@ -94,26 +100,33 @@ module _ (card : ℕ) (options : SetupOptions) (state : State) where
       selected_move card (selected problem (choice_of state.cells options)) (go_selected problem) lp ok
 
 module _ (C : Checker) (card : ℕ) (cards : List (List ℕ)) (machine : Machine Chosen) (options : SetupOptions) where
-  fault_by : (fault : VerbFault) (refusal : Unselected) → refusal ≡ Fault fault → IsNotOpened machine.cells machine.file options refusal → {position executed : ℕ} {state : State} → machines.Represents IsView cards machine position executed state →
+  fault_by : (fault : VerbFault) (refusal : Unselected) → refusal ≡ Fault fault → IsNotOpened machine.cells machine.file options refusal →
+      {position executed : ℕ} {state : State} → machines.Represents IsView cards machine position executed state →
       verb_move (SetupVerb options) card state ≡ Does (stops (VerbStop (record { fault = fault; card = card })))
   fault_by fault (Fault other) is (no_problem none) {state = state} s =
       let same : NoProblem ≡ fault = cc in
-      no_problem_move card options state (problem_view s (λ (c : Cells). c.xpbname) None none) ∙ ap (λ (f : VerbFault). Does (stops (VerbStop (record { fault = f; card = card })))) same
+      no_problem_move card options state (problem_view s (λ (c : Cells). c.xpbname) None none)
+      ∙ ap (λ (f : VerbFault). Does (stops (VerbStop (record { fault = f; card = card })))) same
   fault_by fault refusal is (not_selected problem some h) {state = state} s =
       refused_move card options state problem fault (problem_view s (λ (c : Cells). c.xpbname) (Some problem) some)
-      (subst (λ (c : Cells). HasSelectionFault problem (choice_of c options) fault) (sym s.cells) (subst (IsNotMade problem (choice_of machine.cells options)) is h))
+      (subst (λ (c : Cells). HasSelectionFault problem (choice_of c options) fault) (sym s.cells)
+      (subst (IsNotMade problem (choice_of machine.cells options)) is h))
 
-  pub setup_faulted : (old new : ListingPlace) (fault : VerbFault) (next_step : WalkStep) → IsNotOpened machine.cells machine.file options (Fault fault) → Passes machine old new (acts.Ends (ends.Verb fault card)) [] next_step →
+  pub setup_faulted : (old new : ListingPlace) (fault : VerbFault) (next_step : WalkStep) → IsNotOpened machine.cells machine.file options (Fault fault) →
+      Passes machine old new (acts.Ends (ends.Verb fault card)) [] next_step →
       Walks C (SetupVerb options) card cards machine machine old new next_step
   setup_faulted old new fault next_step h passes = λ position executed state w s f.
-      faulted C cards machine old new fault card next_step passes w (verb_move (SetupVerb options) card state) position executed f (fault_by fault (Fault fault) refl h s)
+      faulted C cards machine old new fault card next_step passes w (verb_move (SetupVerb options) card state) position executed f
+      (fault_by fault (Fault fault) refl h s)
 
-  unchecked_by : (refusal : Unselected) → refusal ≡ Unchecked → IsNotOpened machine.cells machine.file options refusal → (found : Found) (place : ListingPlace) → IsUnchecked place found →
+  unchecked_by : (refusal : Unselected) → refusal ≡ Unchecked → IsNotOpened machine.cells machine.file options refusal →
+      (found : Found) (place : ListingPlace) → IsUnchecked place found →
       {position executed : ℕ} (state : State) (w : walks.Walker) → machines.Represents IsView cards machine position executed state → Faces place w →
       walks.walk_move C w (verb_move (SetupVerb options) card state) ≡ walks.Finds (found_view found)
   unchecked_by (Fault other) is (no_problem none) found place u state w s f = absurd (cc is)
   unchecked_by refusal is (not_selected problem some h) found place u state w s f =
-      let r : IsRefused problem (choice_of state.cells options) = subst (λ (c : Cells). IsRefused problem (choice_of c options)) (sym s.cells) (subst (IsNotMade problem (choice_of machine.cells options)) is h) in
+      let r : IsRefused problem (choice_of state.cells options) =
+      subst (λ (c : Cells). IsRefused problem (choice_of c options)) (sym s.cells) (subst (IsNotMade problem (choice_of machine.cells options)) is h) in
       ap (walks.walk_move C w) (set_up_move card options state problem r.lp (problem_view s (λ (c : Cells). c.xpbname) (Some problem) some) r.is_selected) ∙
       refused_turn C w problem (choice_of state.cells options) (Does (outcome_of problem options r.lp state)) r.is_refused ∙ u w f
 
@@ -137,23 +150,29 @@ module _ (C : Checker) (card : ℕ) (cards : List (List ℕ)) (machine : Machine
       mark = refl;
     }
 
-    pub setup_done : (old new : ListingPlace) (text : List ℕ) (next_step : WalkStep) → text ≡ report_text (SetUp opened.name options.sense) → Passes machine_after old new acts.Next text next_step →
+    pub setup_done : (old new : ListingPlace) (text : List ℕ) (next_step : WalkStep) → text ≡ report_text (SetUp opened.name options.sense) →
+        Passes machine_after old new acts.Next text next_step →
         Walks C (SetupVerb options) card cards machine machine_after old new next_step
     setup_done old new text next_step is passes = λ position executed state w s f.
-        let made : IsMade o.problem (choice_of state.cells options) opened.chosen.lp = subst (λ (c : Cells). IsMade o.problem (choice_of c options) opened.chosen.lp) (sym s.cells) o.made in
+        let made : IsMade o.problem (choice_of state.cells options) opened.chosen.lp =
+        subst (λ (c : Cells). IsMade o.problem (choice_of c options) opened.chosen.lp) (sym s.cells) o.made in
         let is_problem : problem_of state.cells.xpbname state.file ≡ Some o.problem =
-        problem_view s (λ (c : Cells). c.xpbname) (Some o.problem) (filed_by machine.cells.xpbname machine.file opened.chosen.name (Some o.problem) o.is_named o.is_filed) in
+        problem_view s (λ (c : Cells). c.xpbname) (Some o.problem)
+        (filed_by machine.cells.xpbname machine.file opened.chosen.name (Some o.problem) o.is_named o.is_filed) in
         let outcome : StatementOutcome = outcome_of o.problem options opened.chosen.lp state in
         subst (λ (t : walks.WalkTurn). TurnsTo t cards machine_after position executed new next_step)
-        (sym (ap (walks.walk_move C w) (set_up_move card options state o.problem opened.chosen.lp is_problem made.is_selected) ∙ made_turn C w o.problem (choice_of state.cells options) (Does outcome) made.is_made))
+        (sym (ap (walks.walk_move C w) (set_up_move card options state o.problem opened.chosen.lp is_problem made.is_selected)
+        ∙ made_turn C w o.problem (choice_of state.cells options) (Does outcome) made.is_made))
         (passes C w card (Does outcome) cards position executed (Prints (SetUp o.problem.name options.sense)) f refl
         (after_setup o.problem options opened.chosen.lp state, refl, stands_set_up s)
         (ap (λ (n : Name). report_text (SetUp n options.sense)) (sym o.is_own) ∙ sym is))
 
 -- ---- by the result
 
-module _ (C : Checker) (card : ℕ) (cards : List (List ℕ)) (machine : Machine Chosen) (options : SetupOptions) (old new : ListingPlace) (result : Result WalkStep NoMemory) where
-  pub setup_done_by : (opened : Named) (o : IsOpened machine.cells machine.file options opened) (text : List ℕ) → text ≡ report_text (SetUp opened.name options.sense) →
+module _ (C : Checker) (card : ℕ) (cards : List (List ℕ)) (machine : Machine Chosen) (options : SetupOptions) (old new : ListingPlace)
+    (result : Result WalkStep NoMemory) where
+  pub setup_done_by : (opened : Named) (o : IsOpened machine.cells machine.file options opened) (text : List ℕ) →
+      text ≡ report_text (SetUp opened.name options.sense) →
       IfOk result (Passes (record machine { setup = Some opened.chosen; mark = None }) old new acts.Next text) →
       IfOk result (Walks C (SetupVerb options) card cards machine (record machine { setup = Some opened.chosen; mark = None }) old new)
   setup_done_by opened o text is passes = done result passes
@@ -163,10 +182,12 @@ module _ (C : Checker) (card : ℕ) (cards : List (List ℕ)) (machine : Machine
       done (Ok next_step) h = setup_done C card cards machine options opened o old new text next_step is h
       done (Err stop) h = tt
 
-  pub setup_faulted_by : (fault : VerbFault) → IsNotOpened machine.cells machine.file options (Fault fault) → IfOk result (Passes machine old new (acts.Ends (ends.Verb fault card)) []) →
+  pub setup_faulted_by : (fault : VerbFault) → IsNotOpened machine.cells machine.file options (Fault fault) →
+      IfOk result (Passes machine old new (acts.Ends (ends.Verb fault card)) []) →
       IfOk result (Walks C (SetupVerb options) card cards machine machine old new)
   setup_faulted_by fault not passes = faults result passes
     where
-      faults : (r : Result WalkStep NoMemory) → IfOk r (Passes machine old new (acts.Ends (ends.Verb fault card)) []) → IfOk r (Walks C (SetupVerb options) card cards machine machine old new)
+      faults : (r : Result WalkStep NoMemory) → IfOk r (Passes machine old new (acts.Ends (ends.Verb fault card)) []) →
+          IfOk r (Walks C (SetupVerb options) card cards machine machine old new)
       faults (Ok next_step) h = setup_faulted C card cards machine options old new fault next_step not h
       faults (Err stop) h = tt

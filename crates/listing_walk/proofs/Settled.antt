@@ -18,12 +18,14 @@ use Rattle.walk_definitions.specs.Walker.{Walker, Found, Unchecked, WalkTurn, Fi
 
 -- ---- a move that asks nothing
 
-settled_open : (w : Walker) (card : ℕ) (move : StatementMove) (outcome : StatementOutcome) → DecidesAlone card move outcome → opened w move ≡ open_outcome w outcome
+settled_open : (w : Walker) (card : ℕ) (move : StatementMove) (outcome : StatementOutcome) → DecidesAlone card move outcome →
+    opened w move ≡ open_outcome w outcome
 settled_open w card (Does given) outcome e = ap (open_outcome w) (sym e)
 settled_open w card (MayStop refusals move) outcome e = settled_open w card move outcome e
 settled_open w card (Asks question sheet s go) outcome e = absurd e
 
-settled_due : (C : Checker) (w : Walker) (card : ℕ) (move : StatementMove) (outcome : StatementOutcome) → DecidesAlone card move outcome → due C w move ≡ taken w outcome (left_after (gain_text (gain_of outcome)) w.rest)
+settled_due : (C : Checker) (w : Walker) (card : ℕ) (move : StatementMove) (outcome : StatementOutcome) → DecidesAlone card move outcome →
+    due C w move ≡ taken w outcome (left_after (gain_text (gain_of outcome)) w.rest)
 settled_due C w card (Does given) outcome e = ap (λ (o : StatementOutcome). taken w o (left_after (gain_text (gain_of o)) w.rest)) (sym e)
 settled_due C w card (MayStop refusals move) outcome e = settled_due C w card move outcome e
 settled_due C w card (Asks question sheet s go) outcome e = absurd e
@@ -35,23 +37,29 @@ settled_turn w outcome = unless_found (open_outcome w outcome) (taken w outcome 
 abbrev choose : Walker → StatementMove → Option Found → Bool → WalkTurn → WalkTurn
 choose w move found refused turn = unless_found found (if refused then Finds (Unchecked w.rest) else turn)
 
-pub settled : (C : Checker) (w : Walker) (card : ℕ) (move : StatementMove) (outcome : StatementOutcome) → DecidesAlone card move outcome → refuses_selection move ≡ false → walk_move C w move ≡ settled_turn w outcome
+pub settled : (C : Checker) (w : Walker) (card : ℕ) (move : StatementMove) (outcome : StatementOutcome) → DecidesAlone card move outcome →
+    refuses_selection move ≡ false → walk_move C w move ≡ settled_turn w outcome
 settled C w card move outcome e plain =
-    ap (λ (b : Bool). choose w move (opened w move) b (due C w move)) plain ∙ ap (λ (found : Option Found). unless_found found (due C w move)) (settled_open w card move outcome e) ∙
+    ap (λ (b : Bool). choose w move (opened w move) b (due C w move)) plain
+    ∙ ap (λ (found : Option Found). unless_found found (due C w move)) (settled_open w card move outcome e) ∙
     ap (λ (turn : WalkTurn). unless_found (open_outcome w outcome) turn) (settled_due C w card move outcome e)
 
 -- where a selection is refused
-pub settled_refused : (C : Checker) (w : Walker) (card : ℕ) (move : StatementMove) (outcome : StatementOutcome) → DecidesAlone card move outcome → refuses_selection move ≡ true → walk_move C w move ≡ unless_found (open_outcome w outcome) (Finds (Unchecked w.rest))
+pub settled_refused : (C : Checker) (w : Walker) (card : ℕ) (move : StatementMove) (outcome : StatementOutcome) → DecidesAlone card move outcome →
+    refuses_selection move ≡ true → walk_move C w move ≡ unless_found (open_outcome w outcome) (Finds (Unchecked w.rest))
 settled_refused C w card move outcome e refused =
-    ap (λ (b : Bool). choose w move (opened w move) b (due C w move)) refused ∙ ap (λ (found : Option Found). unless_found found (Finds (Unchecked w.rest))) (settled_open w card move outcome e)
+    ap (λ (b : Bool). choose w move (opened w move) b (due C w move)) refused
+    ∙ ap (λ (found : Option Found). unless_found found (Finds (Unchecked w.rest))) (settled_open w card move outcome e)
 
 -- ---- a move without a selection
 
-pub plain_fault : {X : Type 0} (card : ℕ) (fault : VerbFault) (found : Option X) (go : X → StatementMove) → ((x : X) → refuses_selection (go x) ≡ false) → refuses_selection (or_fault card fault found go) ≡ false
+pub plain_fault : {X : Type 0} (card : ℕ) (fault : VerbFault) (found : Option X) (go : X → StatementMove) → ((x : X) → refuses_selection (go x) ≡ false) →
+    refuses_selection (or_fault card fault found go) ≡ false
 plain_fault card fault None go h = refl
 plain_fault card fault (Some x) go h = h x
 
-pub plain_deck : {X : Type 0} (found : Result X DeckFault) (go : X → StatementMove) → ((x : X) → refuses_selection (go x) ≡ false) → refuses_selection (or_deck_fault found go) ≡ false
+pub plain_deck : {X : Type 0} (found : Result X DeckFault) (go : X → StatementMove) → ((x : X) → refuses_selection (go x) ≡ false) →
+    refuses_selection (or_deck_fault found go) ≡ false
 plain_deck (Err fault) go h = refl
 plain_deck (Ok x) go h = h x
 
@@ -82,7 +90,8 @@ loud (Parametric solver chain) = loud_solver solver _
 
 -- ---- what is open at an outcome, by what it prints
 
-open_loud : (w : Walker) (report : Report) (b : Bool) → option_or (open_stop w) (if b then open_pending w else None) ≡ open_by (has_text (report_text report)) b w
+open_loud : (w : Walker) (report : Report) (b : Bool) →
+    option_or (open_stop w) (if b then open_pending w else None) ≡ open_by (has_text (report_text report)) b w
 open_loud w report b = ap (λ (looks : Bool). open_by looks b w) (sym (loud report))
 
 pub open_goes : (w : Walker) (gain : Gain) (after : State) → open_outcome w (Goes gain after) ≡ open_by (has_text (gain_text gain)) (is_none after.mark) w

@@ -55,7 +55,8 @@ pub record IsPresentOf (problem : Problem ℕ) (options : SetupOptions) (viewed 
   pub steps : List Basis
   pub is_viewed : viewed ≡ Some (present_with problem options opening steps)
 
-pub present_at : {cards : List (List ℕ)} {machine : Machine Chosen} {position executed : ℕ} {state : State} → machines.Represents IsView cards machine position executed state → (chosen : Chosen) → machine.setup ≡ Some chosen →
+pub present_at : {cards : List (List ℕ)} {machine : Machine Chosen} {position executed : ℕ} {state : State} →
+    machines.Represents IsView cards machine position executed state → (chosen : Chosen) → machine.setup ≡ Some chosen →
     (problem : Problem ℕ) → filed_under chosen.name machine.file ≡ Some problem → IsPresentOf problem chosen.options state.setup
 present_at {machine = machine} {state = state} s chosen is problem on_file =
     let there = subst (λ (kept : Option Chosen). machines.ShowsSetup IsView machine.file kept state.setup) is s.setup in
@@ -68,14 +69,16 @@ present_at {machine = machine} {state = state} s chosen is problem on_file =
           ∙ ap (λ (o : SetupOptions). Some (present_with problem o present.opening present.steps)) there.2.has_options;
     }
 
-pub none_at : {cards : List (List ℕ)} {machine : Machine Chosen} {position executed : ℕ} {state : State} → machines.Represents IsView cards machine position executed state → machine.setup ≡ None → state.setup ≡ None
+pub none_at : {cards : List (List ℕ)} {machine : Machine Chosen} {position executed : ℕ} {state : State} →
+    machines.Represents IsView cards machine position executed state → machine.setup ≡ None → state.setup ≡ None
 none_at {machine = machine} {state = state} s none = subst (λ (kept : Option Chosen). machines.ShowsSetup IsView machine.file kept state.setup) none s.setup
 
 -- what is kept of a machine is ready, and its problem is on file
 pub ready_of : (file : Filed) (kept : Option Chosen) (chosen : Chosen) → kept ≡ Some chosen → IfSome kept (IsReady file) → IsReady file chosen
 ready_of file kept chosen is h = subst (λ (o : Option Chosen). IfSome o (IsReady file)) is h
 
-pub stays_on_file : (file : Filed) (kept : Option Chosen) (chosen : Chosen) → kept ≡ Some chosen → IfSome kept (IsReady file) → filed_under chosen.name file ≡ None → ⊥
+pub stays_on_file : (file : Filed) (kept : Option Chosen) (chosen : Chosen) → kept ≡ Some chosen → IfSome kept (IsReady file) →
+    filed_under chosen.name file ≡ None → ⊥
 stays_on_file file kept chosen is h none = let on = (ready_of file kept chosen is h).on_file in cc
 
 -- ---- a verb that selects again
@@ -86,7 +89,8 @@ selecting card state go = or_fault card NoSetup state.setup (λ present. selects
 abbrev pub fault_stop : VerbFault → ℕ → StatementMove
 fault_stop fault card = Does (stops (endings.VerbStop (record { fault = fault; card = card })))
 
-module _ (C : Checker) (card : ℕ) (cards : List (List ℕ)) (machine : Machine Chosen) {position executed : ℕ} {state : State} (s : machines.Represents IsView cards machine position executed state) (go : Present → LinearProgram → StatementMove) where
+module _ (C : Checker) (card : ℕ) (cards : List (List ℕ)) (machine : Machine Chosen) {position executed : ℕ} {state : State}
+    (s : machines.Represents IsView cards machine position executed state) (go : Present → LinearProgram → StatementMove) where
   pub no_setup_move : machine.setup ≡ None → selecting card state go ≡ fault_stop NoSetup card
   no_setup_move none = fault_move card NoSetup state.setup (λ (present : Present). selects_present card state present (go present)) (none_at s none)
 
@@ -103,25 +107,37 @@ module _ (C : Checker) (card : ℕ) (cards : List (List ℕ)) (machine : Machine
     pub fault_here : (fault : VerbFault) → HasSelectionFault problem (choice machine.cells) fault → selecting card state go ≡ fault_stop fault card
     fault_here fault h =
         let k : HasSelectionFault problem (choice state.cells) fault = subst (λ (c : Cells). HasSelectionFault problem (choice c) fault) (sym s.cells) h in
-        setup_move ∙ unselected_move card (selected problem (choice state.cells)) (λ (lp : LinearProgram). MayStop (InSelection problem (choice state.cells)) (go present lp)) k.why fault k.is_refused k.is_fault
+        setup_move ∙ unselected_move card (selected problem (choice state.cells))
+        (λ (lp : LinearProgram). MayStop (InSelection problem (choice state.cells)) (go present lp)) k.why fault k.is_refused k.is_fault
 
-    selected_here : (lp : LinearProgram) → selected problem (choice state.cells) ≡ Ok lp → selecting card state go ≡ MayStop (InSelection problem (choice state.cells)) (go present lp)
-    selected_here lp ok = setup_move ∙ selected_move card (selected problem (choice state.cells)) (λ (q : LinearProgram). MayStop (InSelection problem (choice state.cells)) (go present q)) lp ok
+    selected_here : (lp : LinearProgram) → selected problem (choice state.cells) ≡ Ok lp →
+        selecting card state go ≡ MayStop (InSelection problem (choice state.cells)) (go present lp)
+    selected_here lp ok =
+        setup_move ∙ selected_move card (selected problem (choice state.cells))
+        (λ (q : LinearProgram). MayStop (InSelection problem (choice state.cells)) (go present q)) lp ok
 
-    pub made_here : (w : walks.Walker) (lp : LinearProgram) → IsMade problem (choice machine.cells) lp → walks.walk_move C w (selecting card state go) ≡ walks.walk_move C w (go present lp)
+    pub made_here : (w : walks.Walker) (lp : LinearProgram) → IsMade problem (choice machine.cells) lp →
+        walks.walk_move C w (selecting card state go) ≡ walks.walk_move C w (go present lp)
     made_here w lp made =
         let k : IsMade problem (choice state.cells) lp = subst (λ (c : Cells). IsMade problem (choice c) lp) (sym s.cells) made in
         ap (walks.walk_move C w) (selected_here lp k.is_selected) ∙ made_turn C w problem (choice state.cells) (go present lp) k.is_made
 
     -- an operation of the selection is refused, at whatever comes of it
     pub unmade_here : (w : walks.Walker) → IsRefused problem (choice machine.cells) →
-        (lp : LinearProgram) × (walks.walk_move C w (selecting card state go) ≡ walks.unless_found (walks.opened w (go present lp)) (walks.Finds (walks.Unchecked w.rest))) × (selected problem (choice state.cells) ≡ Ok lp)
+        (lp : LinearProgram) ×
+        (walks.walk_move C w (selecting card state go) ≡ walks.unless_found (walks.opened w (go present lp)) (walks.Finds (walks.Unchecked w.rest))) ×
+        (selected problem (choice state.cells) ≡ Ok lp)
     unmade_here w refused =
-        let k : IsRefused problem (choice state.cells) = subst (λ (c : Cells). IsRefused problem (choice c)) (sym s.cells) refused in
-        (k.lp, ap (walks.walk_move C w) (selected_here k.lp k.is_selected) ∙ refused_turn C w problem (choice state.cells) (go present k.lp) k.is_refused, k.is_selected)
+        let k : IsRefused problem (choice state.cells) = subst (λ (c : Cells). IsRefused problem (choice c)) (sym s.cells) refused in (
+          k.lp,
+          ap (walks.walk_move C w) (selected_here k.lp k.is_selected)
+              ∙ refused_turn C w problem (choice state.cells) (go present k.lp) k.is_refused,
+          k.is_selected,
+        )
 
     -- an operation of the selection is refused
-    pub refused_here : (opens : (w : walks.Walker) (lp : LinearProgram) → walks.opened w (go present lp) ≡ open_by true true w) → IsRefused problem (choice machine.cells) → (found : Found) (place : ListingPlace) → IsUnchecked place found →
+    pub refused_here : (opens : (w : walks.Walker) (lp : LinearProgram) → walks.opened w (go present lp) ≡ open_by true true w) →
+        IsRefused problem (choice machine.cells) → (found : Found) (place : ListingPlace) → IsUnchecked place found →
         (w : walks.Walker) → Faces place w → walks.walk_move C w (selecting card state go) ≡ walks.Finds (found_view found)
     refused_here opens refused found place u w f =
         let k : IsRefused problem (choice state.cells) = subst (λ (c : Cells). IsRefused problem (choice c)) (sym s.cells) refused in
@@ -130,44 +146,67 @@ module _ (C : Checker) (card : ℕ) (cards : List (List ℕ)) (machine : Machine
 
 -- ---- by the verdict
 
-module _ (card : ℕ) (cards : List (List ℕ)) (machine : Machine Chosen) (position executed : ℕ) (report : Report) (then : State) (t : machines.Represents IsView cards machine position executed then) where
-  demanded_comes : (set : Option ℕ) → IfSome set (λ to. 1 ≤ to) → (end : End) (code : ℕ) → endings.Ended code ≡ end_view end → IsOutcome (demanded set code report then) cards machine position executed (Prints report) (demanded_act set end)
+module _ (card : ℕ) (cards : List (List ℕ)) (machine : Machine Chosen) (position executed : ℕ) (report : Report) (then : State)
+    (t : machines.Represents IsView cards machine position executed then) where
+  demanded_comes : (set : Option ℕ) → IfSome set (λ to. 1 ≤ to) → (end : End) (code : ℕ) → endings.Ended code ≡ end_view end →
+      IsOutcome (demanded set code report then) cards machine position executed (Prints report) (demanded_act set end)
   demanded_comes (Some to) first end code same = (then, refl, t, first)
   demanded_comes None first end code same = ap (λ (ending : endings.Ending). Ends (Prints report) ending) (sym same)
 
-  pub verdict_comes : (cells : Cells) → AreDemands cells → then.cells ≡ cells → (mark : Mark) → IsOutcome (by_verdict mark report then) cards machine position executed (Prints report) (act_of cells card (Ended mark))
+  pub verdict_comes : (cells : Cells) → AreDemands cells → then.cells ≡ cells → (mark : Mark) →
+      IsOutcome (by_verdict mark report then) cards machine position executed (Prints report) (act_of cells card (Ended mark))
   verdict_comes cells demands same marks.Optimal = (then, refl, t)
   verdict_comes cells demands same marks.Infeasible =
-      subst (λ (c : Cells). IsOutcome (demanded c.xdonfs 1 report then) cards machine position executed (Prints report) (demanded_act cells.xdonfs ends.Infeasible)) (sym same) (demanded_comes cells.xdonfs demands.infeasible ends.Infeasible 1 refl)
+      subst (λ (c : Cells). IsOutcome (demanded c.xdonfs 1 report then) cards machine position executed (Prints report)
+      (demanded_act cells.xdonfs ends.Infeasible)) (sym same) (demanded_comes cells.xdonfs demands.infeasible ends.Infeasible 1 refl)
   verdict_comes cells demands same marks.Unbounded =
-      subst (λ (c : Cells). IsOutcome (demanded c.xdounb 2 report then) cards machine position executed (Prints report) (demanded_act cells.xdounb ends.Unbounded)) (sym same) (demanded_comes cells.xdounb demands.unbounded ends.Unbounded 2 refl)
+      subst (λ (c : Cells). IsOutcome (demanded c.xdounb 2 report then) cards machine position executed (Prints report)
+      (demanded_act cells.xdounb ends.Unbounded)) (sym same) (demanded_comes cells.xdounb demands.unbounded ends.Unbounded 2 refl)
 
 -- ---- a verb that selects again, in the walk
 
-module _ (C : Checker) (verb : Verb ℕ) (card : ℕ) (go : State → Present → LinearProgram → StatementMove) (is_move : (state : State) → verb_move verb card state ≡ selecting card state (go state)) (cards : List (List ℕ)) (machine : Machine Chosen) (old new : ListingPlace) where
-  fault_walks : (fault : VerbFault) → ((position executed : ℕ) (state : State) → machines.Represents IsView cards machine position executed state → verb_move verb card state ≡ fault_stop fault card) → (result : Result WalkStep NoMemory) →
+module _ (C : Checker) (verb : Verb ℕ) (card : ℕ) (go : State → Present → LinearProgram → StatementMove)
+    (is_move : (state : State) → verb_move verb card state ≡ selecting card state (go state)) (cards : List (List ℕ)) (machine : Machine Chosen)
+    (old new : ListingPlace) where
+  fault_walks : (fault : VerbFault) →
+      ((position executed : ℕ) (state : State) → machines.Represents IsView cards machine position executed state →
+      verb_move verb card state ≡ fault_stop fault card) → (result : Result WalkStep NoMemory) →
       IfOk result (Passes machine old new (acts.Ends (ends.Verb fault card)) []) → IfOk result (Walks C verb card cards machine machine old new)
-  fault_walks fault is (Ok w') passes = λ position executed state w s f. faulted C cards machine old new fault card w' passes w (verb_move verb card state) position executed f (is position executed state s)
+  fault_walks fault is (Ok w') passes =
+      λ position executed state w s f. faulted C cards machine old new fault card w' passes w (verb_move verb card state) position executed f
+      (is position executed state s)
   fault_walks fault is (Err stop) passes = tt
 
-  pub no_setup_walks : machine.setup ≡ None → (result : Result WalkStep NoMemory) → IfOk result (Passes machine old new (acts.Ends (ends.Verb NoSetup card)) []) → IfOk result (Walks C verb card cards machine machine old new)
+  pub no_setup_walks : machine.setup ≡ None → (result : Result WalkStep NoMemory) →
+      IfOk result (Passes machine old new (acts.Ends (ends.Verb NoSetup card)) []) → IfOk result (Walks C verb card cards machine machine old new)
   no_setup_walks none = fault_walks NoSetup (λ position executed state s. is_move state ∙ no_setup_move C card cards machine s (go state) none)
 
-  module _ (chosen : Chosen) (is_setup : machine.setup ≡ Some chosen) (problem : Problem ℕ) (on_file : filed_under chosen.name machine.file ≡ Some problem) where
-    pub unselected_walks : (fault : VerbFault) → HasSelectionFault problem (choice_of machine.cells chosen.options) fault → (result : Result WalkStep NoMemory) → IfOk result (Passes machine old new (acts.Ends (ends.Verb fault card)) []) →
+  module _ (chosen : Chosen) (is_setup : machine.setup ≡ Some chosen) (problem : Problem ℕ)
+      (on_file : filed_under chosen.name machine.file ≡ Some problem) where
+    pub unselected_walks : (fault : VerbFault) → HasSelectionFault problem (choice_of machine.cells chosen.options) fault →
+        (result : Result WalkStep NoMemory) → IfOk result (Passes machine old new (acts.Ends (ends.Verb fault card)) []) →
         IfOk result (Walks C verb card cards machine machine old new)
-    unselected_walks fault h = fault_walks fault (λ position executed state s. is_move state ∙ fault_here C card cards machine s (go state) chosen problem (present_at s chosen is_setup problem on_file) fault h)
+    unselected_walks fault h =
+        fault_walks fault
+        (λ position executed state s. is_move state
+        ∙ fault_here C card cards machine s (go state) chosen problem (present_at s chosen is_setup problem on_file) fault h)
 
-    pub refused_walks : ((state : State) (present : Present) (w : walks.Walker) (lp : LinearProgram) → walks.opened w (go state present lp) ≡ open_by true true w) → IsRefused problem (choice_of machine.cells chosen.options) →
+    pub refused_walks :
+        ((state : State) (present : Present) (w : walks.Walker) (lp : LinearProgram) → walks.opened w (go state present lp) ≡ open_by true true w) →
+        IsRefused problem (choice_of machine.cells chosen.options) →
         (found : Found) → IsUnchecked old found → Walks C verb card cards machine machine old new (walk_step.Finds found)
     refused_walks opens refused found u = λ position executed state w s f.
         let p = present_at s chosen is_setup problem on_file in
         ap (walks.walk_move C w) (is_move state) ∙
-        refused_here C card cards machine s (go state) chosen problem p (opens state (present_with problem chosen.options p.opening p.steps)) refused found old u w f
+        refused_here C card cards machine s (go state) chosen problem p
+        (opens state (present_with problem chosen.options p.opening p.steps)) refused found old u w f
 
     -- nothing is selected
-    pub refusal_walks : ((state : State) (present : Present) (w : walks.Walker) (lp : LinearProgram) → walks.opened w (go state present lp) ≡ open_by true true w) → (refusal : Unselected) →
-        IsNotMade problem (choice_of machine.cells chosen.options) refusal → (result : Result WalkStep NoMemory) → IfOk result (Refuses machine old new card refusal) → IfOk result (Walks C verb card cards machine machine old new)
+    pub refusal_walks :
+        ((state : State) (present : Present) (w : walks.Walker) (lp : LinearProgram) → walks.opened w (go state present lp) ≡ open_by true true w) →
+        (refusal : Unselected) →
+        IsNotMade problem (choice_of machine.cells chosen.options) refusal → (result : Result WalkStep NoMemory) →
+        IfOk result (Refuses machine old new card refusal) → IfOk result (Walks C verb card cards machine machine old new)
     refusal_walks opens (unselected.Fault fault) h result refuses = unselected_walks fault h result refuses
     refusal_walks opens unselected.Unchecked h (Ok (walk_step.Finds found)) refuses = refused_walks opens h found refuses
     refusal_walks opens unselected.Unchecked h (Ok walk_step.Next) refuses = absurd refuses
@@ -179,9 +218,13 @@ module _ (C : Checker) (verb : Verb ℕ) (card : ℕ) (go : State → Present �
 
     -- with a linear program
     pub made_walks : (lp : LinearProgram) → IsMade problem (choice_of machine.cells chosen.options) lp → (after : Machine Chosen) (w' : WalkStep) →
-        ((position executed : ℕ) (state : State) (w : walks.Walker) (opening : Basis) (steps : List Basis) → machines.Represents IsView cards machine position executed state → Faces old w → state.setup ≡ Some (present_with problem chosen.options opening steps) →
-        TurnsTo (walks.walk_move C w (go state (present_with problem chosen.options opening steps) lp)) cards after position executed new w') → Walks C verb card cards machine after old new w'
+        ((position executed : ℕ) (state : State) (w : walks.Walker) (opening : Basis) (steps : List Basis) →
+        machines.Represents IsView cards machine position executed state → Faces old w →
+        state.setup ≡ Some (present_with problem chosen.options opening steps) →
+        TurnsTo (walks.walk_move C w (go state (present_with problem chosen.options opening steps) lp)) cards after position executed new w') →
+        Walks C verb card cards machine after old new w'
     made_walks lp made after w' comes = λ position executed state w s f.
         let p = present_at s chosen is_setup problem on_file in
-        subst (λ (t : walks.WalkTurn). TurnsTo t cards after position executed new w') (sym (ap (walks.walk_move C w) (is_move state) ∙ made_here C card cards machine s (go state) chosen problem p w lp made))
+        subst (λ (t : walks.WalkTurn). TurnsTo t cards after position executed new w')
+        (sym (ap (walks.walk_move C w) (is_move state) ∙ made_here C card cards machine s (go state) chosen problem p w lp made))
         (comes position executed state w p.opening p.steps s f p.is_viewed)

@@ -72,13 +72,15 @@ plain_exit card = λ state. refl
 pub plain_convert : (card : ℕ) → IsPlain Convert card
 unfolding verb_move
 plain_convert card = λ state.
-    plain_fault card DeckNotFound (deck_taken state.cells.xdata state.decks) _ (λ taken. plain_deck (conversion taken.0 state.cells.xpbname) _ (λ problem. refl))
+    plain_fault card DeckNotFound (deck_taken state.cells.xdata state.decks) _
+    (λ taken. plain_deck (conversion taken.0 state.cells.xpbname) _ (λ problem. refl))
 
 pub plain_revise : (card : ℕ) → IsPlain Revise card
 unfolding verb_move
 plain_revise card = λ state.
     plain_fault card NoProblem (problem_of state.cells.xoldname state.file) _ (λ old.
-    plain_fault card DeckNotFound (deck_taken state.cells.xdata state.decks) _ (λ taken. plain_deck (revision old taken.0 state.cells.xpbname) _ (λ problem. refl)))
+    plain_fault card DeckNotFound (deck_taken state.cells.xdata state.decks) _
+    (λ taken. plain_deck (revision old taken.0 state.cells.xpbname) _ (λ problem. refl)))
 
 pub plain_bcdout : (card : ℕ) → IsPlain Bcdout card
 unfolding verb_move
@@ -91,14 +93,16 @@ appended : (old new : Option (List ℕ)) (bytes text : List ℕ) → Appends old
 appended old new bytes text h none all =
     sym (subst (λ (n : Option (List ℕ)). Appends (Some []) n bytes) all (subst (λ (o : Option (List ℕ)). Appends o new bytes) none h))
 
-module _ (C : Checker) (verb : Verb ℕ) (card : ℕ) (cards : List (List ℕ)) (old new : Machine Chosen) (place_old place_new : ListingPlace) (act : Act) (text : List ℕ) (plain : IsPlain verb card) where
+module _ (C : Checker) (verb : Verb ℕ) (card : ℕ) (cards : List (List ℕ)) (old new : Machine Chosen) (place_old place_new : ListingPlace) (act : Act)
+    (text : List ℕ) (plain : IsPlain verb card) where
   -- with some gain that has this text, the statement comes to this act
   record Gains (position executed : ℕ) (state : State) : Type 0 where
     gain : Gain
     comes : statements.LeadsTo IsView DecidesAlone verb card cards position executed state new gain act
     is_text : gain_text gain ≡ text
 
-  walks_by : ((position executed : ℕ) (state : State) → machines.Represents IsView cards old position executed state → Gains position executed state) → (result : Result WalkStep NoMemory) →
+  walks_by : ((position executed : ℕ) (state : State) → machines.Represents IsView cards old position executed state → Gains position executed state) →
+      (result : Result WalkStep NoMemory) →
       IfOk result (Passes new place_old place_new act text) → IfOk result (Walks C verb card cards old new place_old place_new)
   walks_by gains (Ok next_step) passes = λ position executed state w s f.
       let g = gains position executed state s in
@@ -120,14 +124,18 @@ module _ (C : Checker) (verb : Verb ℕ) (card : ℕ) (cards : List (List ℕ)) 
         record { gain = a.gain; comes = a.comes; is_text = appended print_old.written print_new.written (gain_text a.gain) text a.prints.bytes none all })
 
 -- a statement that prints nothing
-pub walks_quietly : (C : Checker) (verb : Verb ℕ) (card : ℕ) (cards : List (List ℕ)) (old new : Machine Chosen) (place_old place_new : ListingPlace) (act : Act) → IsPlain verb card → Decides IsView DecidesAlone verb card old new act →
-    (result : Result WalkStep NoMemory) → IfOk result (Passes new place_old place_new act []) → IfOk result (Walks C verb card cards old new place_old place_new)
+pub walks_quietly : (C : Checker) (verb : Verb ℕ) (card : ℕ) (cards : List (List ℕ)) (old new : Machine Chosen) (place_old place_new : ListingPlace)
+    (act : Act) → IsPlain verb card → Decides IsView DecidesAlone verb card old new act →
+    (result : Result WalkStep NoMemory) → IfOk result (Passes new place_old place_new act []) →
+    IfOk result (Walks C verb card cards old new place_old place_new)
 walks_quietly C verb card cards old new place_old place_new act plain decides =
-    walks_by C verb card cards old new place_old place_new act [] plain (λ position executed state s. record { gain = Nothing; comes = decides cards position executed state s; is_text = refl })
+    walks_by C verb card cards old new place_old place_new act [] plain
+    (λ position executed state s. record { gain = Nothing; comes = decides cards position executed state s; is_text = refl })
 
 -- ---- with a sink in memory
 
-module _ (C : Checker) (verb : Verb ℕ) (card : ℕ) (cards : List (List ℕ)) (old new : Machine Chosen) (place_old place_new : ListingPlace) (act : Act) (text : List ℕ) (plain : IsPlain verb card) (from to : SureSink) (none : sure_bytes from ≡ []) (all : text ≡ sure_bytes to)
+module _ (C : Checker) (verb : Verb ℕ) (card : ℕ) (cards : List (List ℕ)) (old new : Machine Chosen) (place_old place_new : ListingPlace) (act : Act)
+    (text : List ℕ) (plain : IsPlain verb card) (from to : SureSink) (none : sure_bytes from ≡ []) (all : text ≡ sure_bytes to)
     (result : Result WalkStep NoMemory) (passes : IfOk result (Passes new place_old place_new act text)) where
   pub walks_loudly : Executes IsView DecidesAlone verb card (sure_sink_state from) (sure_sink_state to) cards old new (Ok act) →
       IfOk result (Walks C verb card cards old new place_old place_new)
@@ -136,7 +144,8 @@ module _ (C : Checker) (verb : Verb ℕ) (card : ℕ) (cards : List (List ℕ)) 
       (ap Some none) (ap Some (sym all)) executes result passes
 
   pub walks_punching : (punch_old punch_new : SinkState) →
-      Performs IsView DecidesAlone verb card (sure_sink_state from) (sure_sink_state to) punch_old punch_new cards old new (Ok act) → IfOk result (Walks C verb card cards old new place_old place_new)
+      Performs IsView DecidesAlone verb card (sure_sink_state from) (sure_sink_state to) punch_old punch_new cards old new (Ok act) →
+      IfOk result (Walks C verb card cards old new place_old place_new)
   walks_punching punch_old punch_new performs =
       walks_punched C verb card cards old new place_old place_new act text plain (sure_sink_state from) (sure_sink_state to)
       (ap Some none) (ap Some (sym all)) punch_old punch_new performs result passes

@@ -52,7 +52,8 @@ sheet_of present lp = record { problem = present.problem; lp = lp }
 
 -- the path of a verb
 abbrev path_move : SolvingVerb → ℕ → State → Present → LinearProgram → StatementMove
-path_move verb card state present lp = asks (OfPath (solver_of verb) (limit_of verb state.cells)) (sheet_of present lp) present (after_path (solver_of verb) card present state)
+path_move verb card state present lp =
+    asks (OfPath (solver_of verb) (limit_of verb state.cells)) (sheet_of present lp) present (after_path (solver_of verb) card present state)
 
 solving_move : (verb : SolvingVerb) (card : ℕ) (state : State) → verb_move (verb_of verb) card state ≡ selecting card state (path_move verb card state)
 unfolding verb_move
@@ -60,46 +61,63 @@ solving_move Primal card state = refl
 solving_move Dual card state = refl
 
 module _ (C : Checker) (verb : SolvingVerb) (card : ℕ) (cards : List (List ℕ)) (machine : Machine Chosen) (old new : ListingPlace) where
-  pub solving_no_setup : machine.setup ≡ None → (result : Result WalkStep NoMemory) → IfOk result (Passes machine old new (acts.Ends (ends.Verb NoSetup card)) []) → IfOk result (Walks C (verb_of verb) card cards machine machine old new)
+  pub solving_no_setup : machine.setup ≡ None → (result : Result WalkStep NoMemory) →
+      IfOk result (Passes machine old new (acts.Ends (ends.Verb NoSetup card)) []) → IfOk result (Walks C (verb_of verb) card cards machine machine old new)
   solving_no_setup = no_setup_walks C (verb_of verb) card (path_move verb card) (solving_move verb card) cards machine old new
 
-  module _ (chosen : Chosen) (is_setup : machine.setup ≡ Some chosen) (problem : Problem ℕ) (on_file : filed_under chosen.name machine.file ≡ Some problem) where
-    pub solving_refused : (refusal : Unselected) → IsNotMade problem (choice_of machine.cells chosen.options) refusal → (result : Result WalkStep NoMemory) → IfOk result (Refuses machine old new card refusal) →
+  module _ (chosen : Chosen) (is_setup : machine.setup ≡ Some chosen) (problem : Problem ℕ)
+      (on_file : filed_under chosen.name machine.file ≡ Some problem) where
+    pub solving_refused : (refusal : Unselected) → IsNotMade problem (choice_of machine.cells chosen.options) refusal → (result : Result WalkStep NoMemory) →
+        IfOk result (Refuses machine old new card refusal) →
         IfOk result (Walks C (verb_of verb) card cards machine machine old new)
-    solving_refused = refusal_walks C (verb_of verb) card (path_move verb card) (solving_move verb card) cards machine old new chosen is_setup problem on_file (λ state present w lp. refl)
+    solving_refused =
+        refusal_walks C (verb_of verb) card (path_move verb card) (solving_move verb card) cards machine old new chosen is_setup problem on_file
+        (λ state present w lp. refl)
 
     module _ (lp : LinearProgram) (made : IsMade problem (choice_of machine.cells chosen.options) lp) where
-      found_walks : (after : Machine Chosen) (found : Found) → ((limit : Option ℕ) → Answered C {X = Mark} (OfPath (solver_of verb) limit) (record { problem = problem; lp = lp }) old new IsMarked (Err (Finds found))) →
+      found_walks : (after : Machine Chosen) (found : Found) →
+          ((limit : Option ℕ) →
+          Answered C {X = Mark} (OfPath (solver_of verb) limit) (record { problem = problem; lp = lp }) old new IsMarked (Err (Finds found))) →
           Walks C (verb_of verb) card cards machine after old new (walk_step.Finds found)
       found_walks after found answered =
-          made_walks C (verb_of verb) card (path_move verb card) (solving_move verb card) cards machine old new chosen is_setup problem on_file lp made after (walk_step.Finds found)
-          (λ position executed state w opening steps s f is_viewed. answered (limit_of verb state.cells) w (after_path (solver_of verb) card (present_with problem chosen.options opening steps) state) f)
+          made_walks C (verb_of verb) card (path_move verb card) (solving_move verb card) cards machine old new chosen is_setup problem on_file lp made after
+          (walk_step.Finds found)
+          (λ position executed state w opening steps s f is_viewed. answered (limit_of verb state.cells) w
+          (after_path (solver_of verb) card (present_with problem chosen.options opening steps) state) f)
 
       -- the walk ends
-      pub solving_stopped : (after : Machine Chosen) (stopped : Stopped) → ((limit : Option ℕ) → Answered C {X = Mark} (OfPath (solver_of verb) limit) (record { problem = problem; lp = lp }) old new IsMarked (Err stopped)) →
+      pub solving_stopped : (after : Machine Chosen) (stopped : Stopped) →
+          ((limit : Option ℕ) → Answered C {X = Mark} (OfPath (solver_of verb) limit) (record { problem = problem; lp = lp }) old new IsMarked (Err stopped)) →
           (result : Result WalkStep NoMemory) → IfOk result (IsStopStep stopped) → IfOk result (Walks C (verb_of verb) card cards machine after old new)
-      solving_stopped after (Finds found) answered (Ok w') is = subst (λ (x : WalkStep). Walks C (verb_of verb) card cards machine after old new x) (sym is) (found_walks after found answered)
+      solving_stopped after (Finds found) answered (Ok w') is =
+          subst (λ (x : WalkStep). Walks C (verb_of verb) card cards machine after old new x) (sym is) (found_walks after found answered)
       solving_stopped after (Finds found) answered (Err stop) is = tt
       solving_stopped after stops.NoMemory answered (Ok w') is = absurd is
       solving_stopped after stops.NoMemory answered (Err stop) is = tt
 
-      pub solving_stopped_by : (by : Solver) → by ≡ solver_of verb → (after : Machine Chosen) (stopped : Stopped) → ((limit : Option ℕ) → Answered C {X = Mark} (OfPath by limit) (record { problem = problem; lp = lp }) old new IsMarked (Err stopped)) →
+      pub solving_stopped_by : (by : Solver) → by ≡ solver_of verb → (after : Machine Chosen) (stopped : Stopped) →
+          ((limit : Option ℕ) → Answered C {X = Mark} (OfPath by limit) (record { problem = problem; lp = lp }) old new IsMarked (Err stopped)) →
           (result : Result WalkStep NoMemory) → IfOk result (IsStopStep stopped) → IfOk result (Walks C (verb_of verb) card cards machine after old new)
       solving_stopped_by by is after stopped answered =
-          solving_stopped after stopped (λ limit. subst (λ (s : Solver). Answered C {X = Mark} (OfPath s limit) (record { problem = problem; lp = lp }) old new IsMarked (Err stopped)) is (answered limit))
+          solving_stopped after stopped
+          (λ limit. subst (λ (s : Solver). Answered C {X = Mark} (OfPath s limit) (record { problem = problem; lp = lp }) old new IsMarked (Err stopped)) is
+          (answered limit))
 
       -- the machine once a verdict is taken
       abbrev pub machine_with : Mark → Machine Chosen
       machine_with mark = record machine { setup = Some (record chosen { lp = lp }); mark = Some mark }
 
-      module _ (demands : AreDemands machine.cells) (mark : Mark) (mid : ListingPlace) (answered : (limit : Option ℕ) → Answered C (OfPath (solver_of verb) limit) (record { problem = problem; lp = lp }) old mid IsMarked (Ok mark))
+      module _ (demands : AreDemands machine.cells) (mark : Mark) (mid : ListingPlace)
+          (answered : (limit : Option ℕ) → Answered C (OfPath (solver_of verb) limit) (record { problem = problem; lp = lp }) old mid IsMarked (Ok mark))
           (act : Act) (is_act : act ≡ act_of machine.cells card (Ended mark)) where
         after_state : Present → State → Mark → List Basis → State
         after_state present state m bases = record state { setup = Some (gone_through bases present); mark = Some m }
 
         -- the machine shows the state after the verdict
-        stands_after : {position executed : ℕ} {state : State} → machines.Represents IsView cards machine position executed state → (present : Present) → present.problem ≡ problem → present.options ≡ chosen.options →
-            (bases : List Basis) (m : Mark) → mark ≡ m → machines.Represents IsView cards (machine_with mark) position executed (record state { setup = Some (gone_through bases present); mark = Some m })
+        stands_after : {position executed : ℕ} {state : State} → machines.Represents IsView cards machine position executed state → (present : Present) →
+            present.problem ≡ problem → present.options ≡ chosen.options →
+            (bases : List Basis) (m : Mark) → mark ≡ m →
+            machines.Represents IsView cards (machine_with mark) position executed (record state { setup = Some (gone_through bases present); mark = Some m })
         stands_after s present same options bases m e = record {
           is_position = s.is_position;
           is_executed = s.is_executed;
@@ -110,29 +128,40 @@ module _ (C : Checker) (verb : SolvingVerb) (card : ℕ) (cards : List (List ℕ
           mark = ap Some (sym e);
         }
 
-        ends_by : (w' : WalkStep) → Finishes mid new act w' → (position executed : ℕ) (state : State) (present : Present) → present.problem ≡ problem → present.options ≡ chosen.options → machines.Represents IsView cards machine position executed state →
-            (turn : walks.WalkTurn) (v : walks.Walker) (answer : PathEnd) → turn ≡ walks.follows v (after_path (solver_of verb) card present state answer) → Faces mid v → IsMarked mark answer → TurnsTo turn cards (machine_with mark) position executed new w'
+        ends_by : (w' : WalkStep) → Finishes mid new act w' → (position executed : ℕ) (state : State) (present : Present) → present.problem ≡ problem →
+            present.options ≡ chosen.options → machines.Represents IsView cards machine position executed state →
+            (turn : walks.WalkTurn) (v : walks.Walker) (answer : PathEnd) → turn ≡ walks.follows v (after_path (solver_of verb) card present state answer) →
+            Faces mid v → IsMarked mark answer → TurnsTo turn cards (machine_with mark) position executed new w'
         ends_by w' finishes position executed state present same options s turn v (Reached bases verdict check) is faces e =
             let then : State = record state { setup = Some (gone_through bases present); mark = Some (mark_of verdict) } in
-            let t : machines.Represents IsView cards (machine_with mark) position executed then = stands_after s present same options bases (mark_of verdict) e in
-            let comes = verdict_comes card cards (machine_with mark) position executed (Solved (solver_of verb) verdict check) then t machine.cells demands s.cells (mark_of verdict) in
+            let t : machines.Represents IsView cards (machine_with mark) position executed then =
+            stands_after s present same options bases (mark_of verdict) e in
+            let comes =
+            verdict_comes card cards (machine_with mark) position executed (Solved (solver_of verb) verdict check) then t machine.cells demands s.cells
+            (mark_of verdict) in
             subst (λ (x : walks.WalkTurn). TurnsTo x cards (machine_with mark) position executed new w') (sym is)
-            (finishes v (after_path (solver_of verb) card present state (Reached bases verdict check)) cards (machine_with mark) position executed (Prints (Solved (solver_of verb) verdict check)) faces
-            (subst (λ (a : Act). IsOutcome (after_path (solver_of verb) card present state (Reached bases verdict check)) cards (machine_with mark) position executed (Prints (Solved (solver_of verb) verdict check)) a)
+            (finishes v (after_path (solver_of verb) card present state (Reached bases verdict check)) cards (machine_with mark) position executed
+            (Prints (Solved (solver_of verb) verdict check)) faces
+            (subst (λ (a : Act). IsOutcome (after_path (solver_of verb) card present state (Reached bases verdict check)) cards
+            (machine_with mark) position executed (Prints (Solved (solver_of verb) verdict check)) a)
             (ap (λ (m : Mark). act_of machine.cells card (Ended m)) (sym e) ∙ sym is_act) comes))
         ends_by w' finishes position executed state present same options s turn v PathLimit is faces e = absurd e
         ends_by w' finishes position executed state present same options s turn v (PricesWrong j) is faces e = absurd e
 
         ended_walks : (w' : WalkStep) → Finishes mid new act w' → Walks C (verb_of verb) card cards machine (machine_with mark) old new w'
         ended_walks w' finishes =
-            made_walks C (verb_of verb) card (path_move verb card) (solving_move verb card) cards machine old new chosen is_setup problem on_file lp made (machine_with mark) w'
+            made_walks C (verb_of verb) card (path_move verb card) (solving_move verb card) cards machine old new chosen is_setup problem on_file lp made
+            (machine_with mark) w'
             (λ position executed state w opening steps s f is_viewed.
             let present = present_with problem chosen.options opening steps in
             let a = answered (limit_of verb state.cells) w (after_path (solver_of verb) card present state) f in
-            ends_by w' finishes position executed state present refl refl s (walks.walk_move C w (path_move verb card state present lp)) a.walker a.answer a.is_turn a.faces a.holds)
+            ends_by w' finishes position executed state present refl refl s
+            (walks.walk_move C w (path_move verb card state present lp)) a.walker a.answer a.is_turn a.faces a.holds)
 
-        pub solving_ended : (after : Machine Chosen) → after ≡ machine_with mark → (result : Result WalkStep NoMemory) → IfOk result (Finishes mid new act) → IfOk result (Walks C (verb_of verb) card cards machine after old new)
-        solving_ended after is (Ok w') finishes = subst (λ (m : Machine Chosen). Walks C (verb_of verb) card cards machine m old new w') (sym is) (ended_walks w' finishes)
+        pub solving_ended : (after : Machine Chosen) → after ≡ machine_with mark → (result : Result WalkStep NoMemory) → IfOk result (Finishes mid new act) →
+            IfOk result (Walks C (verb_of verb) card cards machine after old new)
+        solving_ended after is (Ok w') finishes =
+            subst (λ (m : Machine Chosen). Walks C (verb_of verb) card cards machine m old new w') (sym is) (ended_walks w' finishes)
         solving_ended after is (Err stop) finishes = tt
 
       -- and stays sound
@@ -141,6 +170,9 @@ module _ (C : Checker) (verb : SolvingVerb) (card : ℕ) (cards : List (List ℕ
         first = sound.first;
         last = sound.last;
         demands = sound.demands;
-        ready = record { problem = problem; on_file = on_file; choice = choice_of machine.cells chosen.options; has_options = refl; is_selected = made.is_selected };
-        solved = λ other there. subst (λ (q : Problem ℕ). selected q (choice_of machine.cells chosen.options) ≡ Ok lp) (same_Some problem other (sym on_file ∙ there)) made.is_selected;
+        ready =
+            record { problem = problem; on_file = on_file; choice = choice_of machine.cells chosen.options; has_options = refl; is_selected = made.is_selected };
+        solved =
+            λ other there. subst (λ (q : Problem ℕ). selected q (choice_of machine.cells chosen.options) ≡ Ok lp)
+            (same_Some problem other (sym on_file ∙ there)) made.is_selected;
       })

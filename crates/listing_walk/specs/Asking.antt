@@ -49,7 +49,8 @@ with_check pending check = record { rest = pending.rest.now; objective = pending
 
 -- whether this objective settles a pending verdict, with each check that may stand in the listing
 abbrev pub SettlesBy : Checker → Pending → ℚ → Bool → Type 0
-SettlesBy C pending objective settles = (check : Check) → says_checked check ≡ pending.is_checked → walks.settles C (with_check pending check) objective ≡ settles
+SettlesBy C pending objective settles =
+    (check : Check) → says_checked check ≡ pending.is_checked → walks.settles C (with_check pending check) objective ≡ settles
 
 -- what is pending is settled by this objective, or found wrong
 abbrev pub IsSettling : Checker → Option Pending → ℚ → Option Found → Type 0
@@ -58,19 +59,24 @@ IsSettling C (Some pending) objective None = SettlesBy C pending objective true
 IsSettling C (Some pending) objective (Some found) = SettlesBy C pending objective false × (found ≡ Wrong pending.rest)
 
 abbrev pub asked_turn : Checker → walks.Walker → (question : Question) → Sheet → (AnswerTo question → StatementOutcome) → walks.WalkTurn
-asked_turn C w question sheet go = walks.unless_found (walks.open_question w question sheet go) (walks.answered C w question sheet go (judged C question sheet w.rest))
+asked_turn C w question sheet go =
+    walks.unless_found (walks.open_question w question sheet go) (walks.answered C w question sheet go (judged C question sheet w.rest))
 
 -- an answer of which this holds was taken, and the walk goes on with it from a walker that stands here
-pub record IsTaken (question : Question) (Holds : AnswerTo question → Type 0) (new : ListingPlace) (turn : walks.WalkTurn) (go : AnswerTo question → StatementOutcome) : Type 0 where
+pub record IsTaken (question : Question) (Holds : AnswerTo question → Type 0) (new : ListingPlace) (turn : walks.WalkTurn)
+    (go : AnswerTo question → StatementOutcome) : Type 0 where
   pub answer : AnswerTo question
   pub walker : walks.Walker
   pub is_turn : turn ≡ walks.follows walker (go answer)
   pub faces : Faces new walker
   pub holds : Holds answer
 
-abbrev pub Answered : Checker → {X : Type 0} → (question : Question) → Sheet → ListingPlace → ListingPlace → (X → AnswerTo question → Type 0) → Result X Stopped → Type 0
-Answered C question sheet old new Holds (Ok x) = (w : walks.Walker) (go : AnswerTo question → StatementOutcome) → Faces old w → IsTaken question (Holds x) new (asked_turn C w question sheet go) go
-Answered C question sheet old new Holds (Err (Finds found)) = (w : walks.Walker) (go : AnswerTo question → StatementOutcome) → Faces old w → asked_turn C w question sheet go ≡ walks.Finds (found_view found)
+abbrev pub Answered : Checker → {X : Type 0} → (question : Question) → Sheet → ListingPlace → ListingPlace → (X → AnswerTo question → Type 0) →
+    Result X Stopped → Type 0
+Answered C question sheet old new Holds (Ok x) =
+    (w : walks.Walker) (go : AnswerTo question → StatementOutcome) → Faces old w → IsTaken question (Holds x) new (asked_turn C w question sheet go) go
+Answered C question sheet old new Holds (Err (Finds found)) =
+    (w : walks.Walker) (go : AnswerTo question → StatementOutcome) → Faces old w → asked_turn C w question sheet go ≡ walks.Finds (found_view found)
 Answered C question sheet old new Holds (Err NoMemory) = Unit {0}
 
 -- the mark is that of the verdict

@@ -50,11 +50,13 @@ abbrev pub open_install : Bool → walks.Walker → Option walks.Found
 open_install stands w = option_or (walks.open_stop w) (option_or (walks.open_if stands w) (walks.open_pending w))
 
 abbrev pub IsInstallDue : ListingPlace → Bool → Found → Type 0
-IsInstallDue place stands found = (w : walks.Walker) → Faces place w → walks.unless_found (open_install stands w) (walks.Finds (walks.Wrong w.rest)) ≡ walks.Finds (found_view found)
+IsInstallDue place stands found =
+    (w : walks.Walker) → Faces place w → walks.unless_found (open_install stands w) (walks.Finds (walks.Wrong w.rest)) ≡ walks.Finds (found_view found)
 
 -- the walk ends here, with what is open or unchecked
 abbrev pub IsInstallRefused : ListingPlace → Bool → Found → Type 0
-IsInstallRefused place due found = (w : walks.Walker) → Faces place w → walks.unless_found (open_install due w) (walks.Finds (walks.Unchecked w.rest)) ≡ walks.Finds (found_view found)
+IsInstallRefused place due found =
+    (w : walks.Walker) → Faces place w → walks.unless_found (open_install due w) (walks.Finds (walks.Unchecked w.rest)) ≡ walks.Finds (found_view found)
 
 abbrev pub FindsInstallRefused : ListingPlace → Bool → WalkStep → Type 0
 FindsInstallRefused place due (Finds found) = IsInstallRefused place due found

@@ -50,7 +50,8 @@ IsSound = machines.IsSound IsReady IsSolved
 abbrev pub ShowsPending : Option Pending → Option walks.Pending → Type 0
 ShowsPending None viewed = viewed ≡ None
 ShowsPending (Some pending) viewed =
-    (check : Check) × (viewed ≡ Some (record { rest = pending.rest.now; objective = pending.objective; check = check })) × (says_checked check ≡ pending.is_checked)
+    (check : Check) × (viewed ≡ Some (record { rest = pending.rest.now; objective = pending.objective; check = check })) ×
+    (says_checked check ≡ pending.is_checked)
 
 pub record Faces (place : ListingPlace) (w : walks.Walker) : Type 0 where
   pub rest : w.rest ≡ place.cursor

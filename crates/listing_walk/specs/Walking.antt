@@ -55,8 +55,10 @@ ends_run (acts.Ends end) = true
 -- the walk goes on with a walker that stands here, or it ends
 abbrev pub TurnsTo : walks.WalkTurn → List (List ℕ) → Machine Chosen → ℕ → ℕ → ListingPlace → WalkStep → Type 0
 TurnsTo turn cards machine position executed place Next = (v : walks.Walker) × (turn ≡ walks.Walks v) × Represents cards machine (position + 1) executed place v
-TurnsTo turn cards machine position executed place (Leaves last) = (v : walks.Walker) × (turn ≡ walks.Walks v) × Represents cards (holding (Some last) machine) (position + 1) executed place v
-TurnsTo turn cards machine position executed place (Jump to) = (v : walks.Walker) × (turn ≡ walks.Walks v) × Represents cards machine to executed place v × (1 ≤ to)
+TurnsTo turn cards machine position executed place (Leaves last) =
+    (v : walks.Walker) × (turn ≡ walks.Walks v) × Represents cards (holding (Some last) machine) (position + 1) executed place v
+TurnsTo turn cards machine position executed place (Jump to) =
+    (v : walks.Walker) × (turn ≡ walks.Walks v) × Represents cards machine to executed place v × (1 ≤ to)
 TurnsTo turn cards machine position executed place (Finds found) = turn ≡ walks.Finds (found_view found)
 
 -- the outcome is that of an act, which was reached with this machine
@@ -72,17 +74,22 @@ Finishes old new act next_step =
 -- a move that asks nothing, and comes to an act with this text, whatever the checker is
 abbrev pub Passes : Machine Chosen → ListingPlace → ListingPlace → Act → List ℕ → WalkStep → Type 0
 Passes machine old new act text next_step =
-    (C : Checker) (w : walks.Walker) (card : ℕ) (move : StatementMove) (cards : List (List ℕ)) (position executed : ℕ) (gain : Gain) → Faces old w → walks.refuses_selection move ≡ false →
-    Follows IsView DecidesAlone card move cards machine position executed gain act → gain_text gain ≡ text → TurnsTo (walks.walk_move C w move) cards machine position executed new next_step
+    (C : Checker) (w : walks.Walker) (card : ℕ) (move : StatementMove) (cards : List (List ℕ)) (position executed : ℕ) (gain : Gain) → Faces old w →
+    walks.refuses_selection move ≡ false →
+    Follows IsView DecidesAlone card move cards machine position executed gain act → gain_text gain ≡ text →
+    TurnsTo (walks.walk_move C w move) cards machine position executed new next_step
 
 -- an operation is refused here, where a stop and what is pending come first
 abbrev pub IsUnchecked : ListingPlace → Found → Type 0
-IsUnchecked place found = (w : walks.Walker) → Faces place w → walks.unless_found (open_by true true w) (walks.Finds (walks.Unchecked w.rest)) ≡ walks.Finds (found_view found)
+IsUnchecked place found =
+    (w : walks.Walker) → Faces place w → walks.unless_found (open_by true true w) (walks.Finds (walks.Unchecked w.rest)) ≡ walks.Finds (found_view found)
 
 -- a report that can't be attested is due here, and its line stands or doesn't
 abbrev pub IsReported : ListingPlace → Bool → Bool → Found → Type 0
 IsReported place stands made found =
-    (w : walks.Walker) → Faces place w → walks.unless_found (option_or (walks.open_stop w) (walks.open_if stands w)) (walks.Finds (if made then walks.Wrong w.rest else walks.Unchecked w.rest)) ≡ walks.Finds (found_view found)
+    (w : walks.Walker) → Faces place w →
+    walks.unless_found (option_or (walks.open_stop w) (walks.open_if stands w))
+    (walks.Finds (if made then walks.Wrong w.rest else walks.Unchecked w.rest)) ≡ walks.Finds (found_view found)
 
 -- the walk ends so, where an operation is refused
 abbrev pub FindsUnchecked : ListingPlace → WalkStep → Type 0
@@ -113,9 +120,11 @@ Walks C verb card cards old new place_old place_new next_step =
 
 -- the statement at a position
 abbrev pub ComesTo : walks.WalkTurn → List (List ℕ) → Machine Chosen → ℕ → ListingPlace → AfterStep → Type 0
-ComesTo turn cards machine executed place (after_step.Goes to) = (v : walks.Walker) × (turn ≡ walks.Walks v) × Represents cards machine to executed place v × (1 ≤ to)
+ComesTo turn cards machine executed place (after_step.Goes to) =
+    (v : walks.Walker) × (turn ≡ walks.Walks v) × Represents cards machine to executed place v × (1 ≤ to)
 ComesTo turn cards machine executed place (after_step.Finds found) = turn ≡ walks.Finds (found_view found)
 
 abbrev pub Steps : Checker → Program → List (List ℕ) → ℕ → Machine Chosen → Machine Chosen → ListingPlace → ListingPlace → AfterStep → Type 0
 Steps C program cards position old new place_old place_new next_step =
-    (executed : ℕ) (w : walks.Walker) → executed < max_executed → Represents cards old position executed place_old w → ComesTo (walks.turn C program w) cards new (executed + 1) place_new next_step
+    (executed : ℕ) (w : walks.Walker) → executed < max_executed → Represents cards old position executed place_old w →
+    ComesTo (walks.turn C program w) cards new (executed + 1) place_new next_step

@@ -62,7 +62,8 @@ fn stopped_by<'a>(stop: Stop, rest: &'a [u8]) -> Stopped<'a>
 
 // The mark that a conclusion leaves.
 fn mark_of(conclusion: &Conclusion<'_>) -> Mark
-    ensures { (verdict : PathVerdict) (check : Check) → conclusion.now ≡ conclusion_of verdict check → result ≡ mark_of verdict }
+    ensures { (verdict : PathVerdict) (check : Check) →
+        conclusion.now ≡ conclusion_of verdict check → result ≡ mark_of verdict }
 {
     match conclusion {
         Conclusion::Optimal { .. } => Mark::Optimal,
@@ -73,7 +74,8 @@ fn mark_of(conclusion: &Conclusion<'_>) -> Mark
 
 // What a conclusion leaves pending.
 fn pending_after<'a>(rest: &'a [u8], conclusion: &Conclusion<'a>) -> Option<Pending<'a>>
-    ensures { (verdict : PathVerdict) (check : Check) → conclusion.now ≡ conclusion_of verdict check →
+    ensures { (verdict : PathVerdict) (check : Check) →
+        conclusion.now ≡ conclusion_of verdict check →
         ShowsPending result (walks.pending_after rest.now verdict check) }
 {
     match conclusion {
@@ -100,7 +102,9 @@ pub fn answer_path<'a, T: Checks>(
     requires lawful { IsLinearProgram sheet.lp.now }
     requires no_change { sheet.lp.now.change ≡ None }
     requires few { place.old.reports < max_count }
-    ensures answered { (limit : Option ℕ) → Answered T.checker (OfPath solver limit) (sheet_view sheet.entry) place.old place.new IsMarked result }
+    ensures answered { (limit : Option ℕ) →
+        Answered T.checker (OfPath solver limit)
+        (sheet_view sheet.entry) place.old place.new IsMarked result }
     ensures few { place.new.reports ≤ place.old.reports + 1 }
 {
     if let Some(found) = place.open_here(true, true) {
@@ -155,7 +159,8 @@ pub fn answer_solution<'a, T: Checks>(
     requires lawful { IsLinearProgram sheet.lp.now }
     requires no_change { sheet.lp.now.change ≡ None }
     requires few { place.old.reports < max_count }
-    ensures answered { Answered T.checker (OfSolution mark) (sheet_view sheet.entry) place.old place.new (IsAny (OfSolution mark)) result }
+    ensures answered { Answered T.checker (OfSolution mark)
+        (sheet_view sheet.entry) place.old place.new (IsAny (OfSolution mark)) result }
     ensures few { place.new.reports ≤ place.old.reports + 1 }
 {
     if let Some(found) = place.open_here(true, false) {
@@ -201,7 +206,9 @@ pub fn answer_parametric_run<'a, T: Checks>(
     requires no_change { sheet.lp.now.change ≡ None }
     requires serves { ServesChange sheet.problem.now sheet.lp.now request.now.name request.now.change }
     requires few { place.old.reports < max_count }
-    ensures answered { (limit : ℕ) → Answered T.checker (OfParametricRun (parametric_run_of limit request.now)) (sheet_view sheet.entry) place.old place.new IsParametricRunAnswer result }
+    ensures answered { (limit : ℕ) →
+        Answered T.checker (OfParametricRun (parametric_run_of limit request.now))
+        (sheet_view sheet.entry) place.old place.new IsParametricRunAnswer result }
     ensures few { place.new.reports ≤ place.old.reports + 1 }
 {
     if let Some(found) = place.open_here(true, true) {

@@ -56,7 +56,8 @@ pub fn asked_run<'a, T: Checks>(
     verb: ParametricVerb,
     from: Number<'a>,
 ) -> Result<AskedRun<'a>, RequestStop>
-    ensures asked { IfOk result (λ request. IsAsked verb problem.now (beginning from.entry cells.now)
+    ensures asked { IfOk result
+        (λ request. IsAsked verb problem.now (beginning from.entry cells.now)
         (parametric_run_of (steps_allowed cells.now) request)) }
     ensures of { IfOk result (λ request. IsChangeOf problem.now request.name request.change) }
     ensures refused { IfErr result (IsNotAsked verb problem.now (beginning from.entry cells.now)) }

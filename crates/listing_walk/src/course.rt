@@ -75,7 +75,9 @@ pub fn closes<'a>(
     ending: &Ending<'_>,
 ) -> Result<Found<'a>, NoMemory>
     requires { IsEnding ending.now }
-    ensures { IfOk result (λ found. walks.closes (first_walker [] listing.now) (ending_view ending.now) ≡ walks.Finds (found_view found)) }
+    ensures { IfOk result
+        (λ found. walks.closes (first_walker [] listing.now) (ending_view ending.now) ≡
+        walks.Finds (found_view found)) }
 {
     let mut place = ListingPlace::new(listing);
     place.close(alloc, ending)

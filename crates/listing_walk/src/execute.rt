@@ -43,7 +43,9 @@ fn execute<'a, T: Checks>(
     requires verb { IsSoundVerb (viewed verb.now) }
     requires no_run { IsNoRun (use_of (viewed verb.now)) }
     requires few { place.old.reports < max_count }
-    ensures walks { IfOk result (Walks T.checker (viewed verb.now) card cards.now machine.old machine.new place.old place.new) }
+    ensures walks { IfOk result
+        (Walks T.checker
+        (viewed verb.now) card cards.now machine.old machine.new place.old place.new) }
     ensures sound { IsSound cards.now machine.new }
     ensures few { place.new.reports ≤ place.old.reports + 1 }
 {
@@ -104,7 +106,10 @@ fn execute_apart<'a, T: Checks>(
     requires verb { IsSoundVerb (viewed verb.now) }
     requires apart { use_of (viewed verb.now) ≡ Neither }
     requires few { place.old.reports < max_count }
-    ensures walks { (last : ℚ) → IfOk result (Walks T.checker (viewed verb.now) card cards.now (holding (Some last) machine.old) (holding (Some last) machine.new) place.old place.new) }
+    ensures walks { (last : ℚ) →
+        IfOk result
+        (Walks T.checker (viewed verb.now) card cards.now (holding (Some last) machine.old)
+        (holding (Some last) machine.new) place.old place.new) }
     ensures sound { IsSound cards.now machine.new }
     ensures few { place.new.reports ≤ place.old.reports + 1 }
 {
@@ -127,7 +132,9 @@ fn execute_with<'a, T: Checks>(
     requires sound { IsSound cards.now machine.old }
     requires verb { IsSoundVerb (viewed verb.now) }
     requires few { place.old.reports < max_count }
-    ensures walks { IfOk result (Walks T.checker (viewed verb.now) card cards.now (holding last.old machine.old) (holding last.new machine.new) place.old place.new) }
+    ensures walks { IfOk result
+        (Walks T.checker (viewed verb.now) card cards.now (holding last.old machine.old)
+        (holding last.new machine.new) place.old place.new) }
     ensures sound { IsSound cards.now machine.new }
     ensures few { place.new.reports ≤ place.old.reports + 1 }
 {
@@ -161,7 +168,9 @@ pub fn step<'a, T: Checks>(
     requires within { position ≤ length program.now.statements }
     requires sound { IsSound cards.now machine.old }
     requires few { place.old.reports < max_count }
-    ensures steps { IfOk result (Steps T.checker program.now cards.now position (holding last.old machine.old) (holding last.new machine.new) place.old place.new) }
+    ensures steps { IfOk result
+        (Steps T.checker program.now cards.now position (holding last.old machine.old)
+        (holding last.new machine.new) place.old place.new) }
     ensures sound { IsSound cards.now machine.new }
     ensures few { place.new.reports ≤ place.old.reports + 1 }
 {

@@ -56,7 +56,8 @@ pub fn follow<'a>(
 ) -> Result<WalkStep<'a>, NoMemory>
     requires { place.old.reports < max_count }
     ensures passes { IfOk result (Passes machine.now place.old place.new act.now text.now) }
-    ensures held { (last : Option ℚ) → IfOk result (Passes (holding last machine.now) place.old place.new act.now text.now) }
+    ensures held { (last : Option ℚ) →
+        IfOk result (Passes (holding last machine.now) place.old place.new act.now text.now) }
     ensures few { place.new.reports ≤ place.old.reports + 1 }
 {
     let ends = ends_run(act);
@@ -81,8 +82,12 @@ pub fn fault<'a>(
     card: u32,
 ) -> Result<WalkStep<'a>, NoMemory>
     requires { place.old.reports < max_count }
-    ensures passes { IfOk result (Passes machine.now place.old place.new (acts.Ends (ends.Verb fault card)) []) }
-    ensures held { (last : Option ℚ) → IfOk result (Passes (holding last machine.now) place.old place.new (acts.Ends (ends.Verb fault card)) []) }
+    ensures passes { IfOk result
+        (Passes machine.now place.old place.new (acts.Ends (ends.Verb fault card)) []) }
+    ensures held { (last : Option ℚ) →
+        IfOk result
+        (Passes (holding last machine.now) place.old place.new
+        (acts.Ends (ends.Verb fault card)) []) }
     ensures few { place.new.reports ≤ place.old.reports + 1 }
 {
     follow(
@@ -104,7 +109,8 @@ pub fn refuse<'a>(
 ) -> Result<WalkStep<'a>, NoMemory>
     requires { place.old.reports < max_count }
     ensures refuses { IfOk result (Refuses machine.now place.old place.new card refusal) }
-    ensures held { (last : Option ℚ) → IfOk result (Refuses (holding last machine.now) place.old place.new card refusal) }
+    ensures held { (last : Option ℚ) →
+        IfOk result (Refuses (holding last machine.now) place.old place.new card refusal) }
     ensures few { place.new.reports ≤ place.old.reports + 1 }
 {
     match refusal {

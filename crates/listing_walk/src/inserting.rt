@@ -102,7 +102,8 @@ fn refuse_install<'a>(
     card: u32,
 ) -> Result<WalkStep<'a>, NoMemory>
     requires { place.old.reports < max_count }
-    ensures refuses { IfOk result (RefusesInstall machine.now place.old place.new card due refusal) }
+    ensures refuses { IfOk result
+        (RefusesInstall machine.now place.old place.new card due refusal) }
     ensures few { place.new.reports ≤ place.old.reports + 1 }
 {
     match refusal {
@@ -124,7 +125,9 @@ pub fn insert<'a>(
 ) -> Result<WalkStep<'a>, NoMemory>
     requires sound { IsSound cards.now machine.now }
     requires few { place.old.reports < max_count }
-    ensures walks { (C : Checker) → IfOk result (Walks C program.Insert card cards.now machine.now machine.now place.old place.new) }
+    ensures walks { (C : Checker) →
+        IfOk result
+        (Walks C program.Insert card cards.now machine.now machine.now place.old place.new) }
     ensures few { place.new.reports ≤ place.old.reports + 1 }
 {
     let Some(chosen) = &machine.setup else {

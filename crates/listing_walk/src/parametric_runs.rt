@@ -36,7 +36,8 @@ fn unasked<'a>(
     card: u32,
 ) -> Result<WalkStep<'a>, NoMemory>
     requires { place.old.reports < max_count }
-    ensures unasked { (last : Option ℚ) → IfOk result (IsUnasked (holding last machine.now) place.old place.new card stop) }
+    ensures unasked { (last : Option ℚ) →
+        IfOk result (IsUnasked (holding last machine.now) place.old place.new card stop) }
     ensures few { place.new.reports ≤ place.old.reports + 1 }
 {
     match stop {
@@ -62,7 +63,8 @@ fn finding_of<'a>(answer: &ParametricRunAnswer<'a>) -> Result<Finding, Number<'a
 // A run leaves no mark, and its last value in XPARAM.
 fn leave(machine: &mut Machine<Chosen>, last: &mut Option<Number<'_>>, finding: &Finding)
     ensures machine { machine.new ≡ left_by finding.now machine.old }
-    ensures held { holding last.new machine.new ≡ left_by finding.now (holding last.old machine.old) }
+    ensures held { holding last.new machine.new ≡
+        left_by finding.now (holding last.old machine.old) }
 {
     machine.mark = None;
     if let Finding::RanThrough(value) = finding {
@@ -86,8 +88,12 @@ pub fn parametric_run<'a, T: Checks>(
     requires demands { AreDemands machine.old.cells }
     requires ready { IfSome machine.old.setup (IsReady machine.old.file) }
     requires few { place.old.reports < max_count }
-    ensures walks { (cards : List (List ℕ)) → IfOk result (Walks T.checker (verb_of verb) card cards (holding last.old machine.old) (holding last.new machine.new) place.old place.new) }
-    ensures sound { (cards : List (List ℕ)) → IsSound cards machine.old → IsSound cards machine.new }
+    ensures walks { (cards : List (List ℕ)) →
+        IfOk result
+        (Walks T.checker (verb_of verb) card cards (holding last.old machine.old)
+        (holding last.new machine.new) place.old place.new) }
+    ensures sound { (cards : List (List ℕ)) → IsSound cards machine.old →
+        IsSound cards machine.new }
     ensures few { place.new.reports ≤ place.old.reports + 1 }
 {
     let Some(chosen) = &machine.setup else {

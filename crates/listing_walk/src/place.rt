@@ -79,7 +79,8 @@ impl<'a> ListingPlace<'a> {
 
     // The verdict that is pending.
     fn pending_here(&self) -> Option<Found<'a>>
-        ensures { (w : walks.Walker) → Faces self.now w → option_map found_view result ≡ walks.open_pending w }
+        ensures { (w : walks.Walker) → Faces self.now w →
+            option_map found_view result ≡ walks.open_pending w }
     {
         match &self.pending {
             Some(pending) => Some(Found::Open(pending.rest)),
@@ -89,7 +90,8 @@ impl<'a> ListingPlace<'a> {
 
     /// What can't be attested here: a stop, if one is looked for, and then the verdict that is pending, if it has to be settled.
     pub fn open_here(&self, looks: bool, clears: bool) -> Option<Found<'a>>
-        ensures { (w : walks.Walker) → Faces self.now w → option_map found_view result ≡ open_by looks clears w }
+        ensures { (w : walks.Walker) → Faces self.now w →
+            option_map found_view result ≡ open_by looks clears w }
     {
         let rest = self.cursor.left();
         if looks && is_open_stop(rest) {
@@ -133,7 +135,8 @@ impl<'a> ListingPlace<'a> {
         ensures taken { left_after text.now self.old.cursor ≡ taken result self.new.cursor }
         ensures kept { result ≡ false → self.new ≡ self.old }
         ensures pending { self.new.pending ≡ self.old.pending }
-        ensures reports { result ≡ true → self.new.reports ≡ self.old.reports + one_if (has_text text.now) }
+        ensures reports { result ≡ true →
+            self.new.reports ≡ self.old.reports + one_if (has_text text.now) }
         ensures few { self.new.reports ≤ self.old.reports + 1 }
     {
         if !self.cursor.take(text) {

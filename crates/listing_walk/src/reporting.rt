@@ -27,9 +27,12 @@ pub fn show_ranges<'a>(
 ) -> Result<WalkStep<'a>, NoMemory>
     requires ready { IfSome machine.now.setup (IsReady machine.now.file) }
     requires solved { IfSome machine.now.mark
-        (λ mark. IfSome machine.now.setup (IsSolved mark machine.now.cells.xobj machine.now.cells.xrhs machine.now.file)) }
+        (λ mark. IfSome machine.now.setup
+        (IsSolved mark machine.now.cells.xobj machine.now.cells.xrhs machine.now.file)) }
     requires few { place.old.reports < max_count }
-    ensures walks { (C : Checker) (cards : List (List ℕ)) → IfOk result (Walks C program.Ranging card cards machine.now machine.now place.old place.new) }
+    ensures walks { (C : Checker) (cards : List (List ℕ)) →
+        IfOk result
+        (Walks C program.Ranging card cards machine.now machine.now place.old place.new) }
     ensures few { place.new.reports ≤ place.old.reports + 1 }
 {
     let Some(_chosen) = &machine.setup else {
@@ -55,7 +58,8 @@ fn refuse_report<'a>(
     card: u32,
 ) -> Result<WalkStep<'a>, NoMemory>
     requires { place.old.reports < max_count }
-    ensures refuses { IfOk result (RefusesReport machine.now place.old place.new card stands refusal) }
+    ensures refuses { IfOk result
+        (RefusesReport machine.now place.old place.new card stands refusal) }
     ensures few { place.new.reports ≤ place.old.reports + 1 }
 {
     match refusal {
@@ -74,7 +78,8 @@ pub fn punch_basis<'a>(
 ) -> Result<WalkStep<'a>, NoMemory>
     requires ready { IfSome machine.now.setup (IsReady machine.now.file) }
     requires few { place.old.reports < max_count }
-    ensures walks { (C : Checker) (cards : List (List ℕ)) → IfOk result (Walks C program.Punch card cards machine.now machine.now place.old place.new) }
+    ensures walks { (C : Checker) (cards : List (List ℕ)) →
+        IfOk result (Walks C program.Punch card cards machine.now machine.now place.old place.new) }
     ensures few { place.new.reports ≤ place.old.reports + 1 }
 {
     let Some(chosen) = &machine.setup else {

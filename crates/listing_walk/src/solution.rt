@@ -27,9 +27,12 @@ pub fn show_solution<'a, T: Checks>(
 ) -> Result<WalkStep<'a>, NoMemory>
     requires ready { IfSome machine.now.setup (IsReady machine.now.file) }
     requires solved { IfSome machine.now.mark
-        (λ mark. IfSome machine.now.setup (IsSolved mark machine.now.cells.xobj machine.now.cells.xrhs machine.now.file)) }
+        (λ mark. IfSome machine.now.setup
+        (IsSolved mark machine.now.cells.xobj machine.now.cells.xrhs machine.now.file)) }
     requires few { place.old.reports < max_count }
-    ensures walks { (cards : List (List ℕ)) → IfOk result (Walks T.checker program.Solution card cards machine.now machine.now place.old place.new) }
+    ensures walks { (cards : List (List ℕ)) →
+        IfOk result
+        (Walks T.checker program.Solution card cards machine.now machine.now place.old place.new) }
     ensures few { place.new.reports ≤ place.old.reports + 1 }
 {
     let Some(chosen) = &machine.setup else {

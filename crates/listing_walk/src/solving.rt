@@ -40,7 +40,8 @@ fn solver_of(verb: SolvingVerb) -> Solver
 // Keeps what was selected, and the mark of the verdict.
 fn keep(machine: &mut Machine<Chosen>, lp: Lp, mark: Mark)
     ensures { (chosen : Chosen) → machine.old.setup ≡ Some chosen →
-        machine.new ≡ record machine.old { setup = Some (record chosen { lp = lp }); mark = Some mark } }
+        machine.new ≡
+        record machine.old { setup = Some (record chosen { lp = lp }); mark = Some mark } }
 {
     if let Some(chosen) = &mut machine.setup {
         chosen.lp = lp;
@@ -60,8 +61,11 @@ pub fn solve<'a, T: Checks>(
     requires demands { AreDemands machine.old.cells }
     requires ready { IfSome machine.old.setup (IsReady machine.old.file) }
     requires few { place.old.reports < max_count }
-    ensures walks { (cards : List (List ℕ)) → IfOk result (Walks T.checker (verb_of verb) card cards machine.old machine.new place.old place.new) }
-    ensures sound { (cards : List (List ℕ)) → IsSound cards machine.old → IsSound cards machine.new }
+    ensures walks { (cards : List (List ℕ)) →
+        IfOk result
+        (Walks T.checker (verb_of verb) card cards machine.old machine.new place.old place.new) }
+    ensures sound { (cards : List (List ℕ)) → IsSound cards machine.old →
+        IsSound cards machine.new }
     ensures few { place.new.reports ≤ place.old.reports + 1 }
 {
     let Some(chosen) = &machine.setup else {

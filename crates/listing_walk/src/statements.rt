@@ -24,7 +24,9 @@ pub fn title<'a>(
     text: &Text,
 ) -> Result<WalkStep<'a>, NoMemory>
     requires { place.old.reports < max_count }
-    ensures walks { (C : Checker) (card : ℕ) (cards : List (List ℕ)) → IfOk result (Walks C (program.Title text.now) card cards machine.now machine.now place.old place.new) }
+    ensures walks { (C : Checker) (card : ℕ) (cards : List (List ℕ)) →
+        IfOk result
+        (Walks C (program.Title text.now) card cards machine.now machine.now place.old place.new) }
     ensures few { place.new.reports ≤ place.old.reports + 1 }
 {
     let mut printed = SureSink::new(alloc)?;
@@ -44,7 +46,9 @@ pub fn convert<'a>(
 ) -> Result<WalkStep<'a>, NoMemory>
     requires sound { IsSound cards.now machine.old }
     requires few { place.old.reports < max_count }
-    ensures walks { (C : Checker) → IfOk result (Walks C program.Convert card cards.now machine.old machine.new place.old place.new) }
+    ensures walks { (C : Checker) →
+        IfOk result
+        (Walks C program.Convert card cards.now machine.old machine.new place.old place.new) }
     ensures sound { IsSound cards.now machine.new }
     ensures few { place.new.reports ≤ place.old.reports + 1 }
 {
@@ -65,7 +69,9 @@ pub fn revise<'a>(
 ) -> Result<WalkStep<'a>, NoMemory>
     requires sound { IsSound cards.now machine.old }
     requires few { place.old.reports < max_count }
-    ensures walks { (C : Checker) → IfOk result (Walks C program.Revise card cards.now machine.old machine.new place.old place.new) }
+    ensures walks { (C : Checker) →
+        IfOk result
+        (Walks C program.Revise card cards.now machine.old machine.new place.old place.new) }
     ensures sound { IsSound cards.now machine.new }
     ensures few { place.new.reports ≤ place.old.reports + 1 }
 {
@@ -84,7 +90,9 @@ pub fn punch_problem<'a>(
     card: u32,
 ) -> Result<WalkStep<'a>, NoMemory>
     requires { place.old.reports < max_count }
-    ensures walks { (C : Checker) (cards : List (List ℕ)) → IfOk result (Walks C program.Bcdout card cards machine.now machine.now place.old place.new) }
+    ensures walks { (C : Checker) (cards : List (List ℕ)) →
+        IfOk result
+        (Walks C program.Bcdout card cards machine.now machine.now place.old place.new) }
     ensures few { place.new.reports ≤ place.old.reports + 1 }
 {
     let mut printed = SureSink::new(alloc)?;

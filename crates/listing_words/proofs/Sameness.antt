@@ -42,7 +42,8 @@ same_words v w v_is w_is = by (bytes_eq v w) refl
 -- the fraction of a word is read in 128 bits where it has as many
 pub read_where_it_fits : (word : List ℕ) (x : ℚ) → rational_text x ≡ word → (o : Option ℚ) → o ≡ fraction_in checker_of_128_bits word → SomeIff o (TermsFit x) x
 read_where_it_fits word x text None none =
-    λ fit. let read : fraction_in checker_of_128_bits word ≡ Some x = ap (fraction_in checker_of_128_bits) (sym text) ∙ fraction_of_text x fit in cc (none, read)
+    λ fit. let read : fraction_in checker_of_128_bits word ≡ Some x =
+    ap (fraction_in checker_of_128_bits) (sym text) ∙ fraction_of_text x fit in cc (none, read)
 read_where_it_fits word x text (Some y) some =
     let is = text_of_fraction word y (sym some) in
     let same : y ≡ x = sym (fraction_spells y) ∙ ap spelled (sym is.0 ∙ sym text) ∙ fraction_spells x in

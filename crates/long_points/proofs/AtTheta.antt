@@ -24,7 +24,8 @@ use Rattle.long_points.proofs.Holds.{Reads, append_hold, sums_hold, change_holds
 use Rattle.check_definitions.proofs.Holding.{hold-append, last_holds}
 
 -- one value of a vector
-pub place_of : (values : List ℚ) (theta : ℚ) (spread : Spread) (k : ℕ) (top : ℤ) → IsSpread values theta spread → whole top ≡ value_at values k *ℚ whole spread.column.bottom → IsPlace (value_at values k) theta top spread.column.bottom spread.moved
+pub place_of : (values : List ℚ) (theta : ℚ) (spread : Spread) (k : ℕ) (top : ℤ) → IsSpread values theta spread →
+    whole top ≡ value_at values k *ℚ whole spread.column.bottom → IsPlace (value_at values k) theta top spread.column.bottom spread.moved
 place_of values theta spread k top is is_top = record { positive = is.is_over.positive; is = is_top; moves = is.moves }
 
 -- a number that compares with 0 as its whole number does
@@ -32,12 +33,14 @@ pub sign_over : (x d t : ℚ) → zero_ℚ <ℚ d → t ≡ x *ℚ d → compare
 sign_over x d t positive is = compare_scaled x zero_ℚ d t positive (is ∙ by_ring2 x d (λ x d. x ⊗ d ≐ (x ⊖ number (pos 0)) ⊗ d) refl)
 
 -- the rows of a column are variables
-pub rows_within : (p : LinearProgram) → IsMatrix p.matrix → (j : ℕ) → IsColumn p.matrix j → (n : ℕ) → n ≡ size p.matrix → (es : List Entry) → es ≡ column p.matrix j → All (λ (e : Entry). (1 ≤ e.row) × (e.row ≤ n)) es
+pub rows_within : (p : LinearProgram) → IsMatrix p.matrix → (j : ℕ) → IsColumn p.matrix j → (n : ℕ) → n ≡ size p.matrix → (es : List Entry) →
+    es ≡ column p.matrix j → All (λ (e : Entry). (1 ≤ e.row) × (e.row ≤ n)) es
 rows_within p m j is n counted es are =
     subst (λ (es : List Entry). All (λ (e : Entry). (1 ≤ e.row) × (e.row ≤ n)) es) (sym are)
     (λ k d below. let row = m.on_rows (j - 1) [] (omega (arith, m.columns_counted, is.0, is.1)) k d below in (row.0, omega (arith, row.1, counted)))
 
-pub equations_at : (p : LinearProgram) (change : ChangeAt) (theta : ℚ) (part : ℕ) (z : Vector) → equations (program_of p change theta) part z ≡ equations p part z
+pub equations_at : (p : LinearProgram) (change : ChangeAt) (theta : ℚ) (part : ℕ) (z : Vector) →
+    equations (program_of p change theta) part z ≡ equations p part z
 equations_at p Unchanged theta part z = refl
 equations_at p (Row h) theta part z = refl
 equations_at p (Set shift) theta part z = refl
@@ -78,7 +81,9 @@ module _ (p : LinearProgram) where
 pub reads_keeping : (p q : LinearProgram) (first last : Points) → Reads (kept_steps p q first last) (keeping_test p q first last)
 reads_keeping p q first last k = (
   (λ e.
-      let both = and_parts (keep_test p q (value_at first.point) (value_at last.point) (value_at first.prices k) k) (keep_test p q (value_at first.point) (value_at last.point) (value_at last.prices k) k) e in
+      let both =
+      and_parts (keep_test p q (value_at first.point) (value_at last.point) (value_at first.prices k) k)
+      (keep_test p q (value_at first.point) (value_at last.point) (value_at last.prices k) k) e in
       (both.0, (both.1, tt))),
   (λ h. ap₂ ◌&&◌ h.0 h.1.0),
 )

@@ -33,7 +33,8 @@ pushed_here xs x i is =
     let place : i - 1 - length xs ≡ 0 = omega (arith, is) in
     get_or-append_right xs (x ∷ []) (length xs) (i - 1) zero_ℚ refl (omega (arith, is)) ∙ ap (λ k. get_or (x ∷ []) k zero_ℚ) place
 
-pub opposites_go_on : (values items : List ℚ) (d sum : ℚ) (i : ℕ) → length items ≡ i → ((k : ℕ) → 1 ≤ k → k ≤ i → value_at items k ≡ neg_ℚ (value_at values k *ℚ d)) → sum ≡ neg_ℚ (value_at values (i + 1) *ℚ d) →
+pub opposites_go_on : (values items : List ℚ) (d sum : ℚ) (i : ℕ) → length items ≡ i →
+    ((k : ℕ) → 1 ≤ k → k ≤ i → value_at items k ≡ neg_ℚ (value_at values k *ℚ d)) → sum ≡ neg_ℚ (value_at values (i + 1) *ℚ d) →
     (k : ℕ) → 1 ≤ k → k ≤ i + 1 → value_at (items ++ sum ∷ []) k ≡ neg_ℚ (value_at values k *ℚ d)
 opposites_go_on values items d sum i counted so_far is k first last = split (ℕ_discrete k (i + 1))
   where
@@ -60,14 +61,16 @@ set_at xs row by t new first last made i low = split (ℕ_discrete row i)
 
 -- one more of a column's numbers
 pub numbers_go_on : (es : List Entry) (n i : ℕ) (e : Entry) (t old s new : ℚ) → n < length es → get_or es n e ≡ e →
-    s +ℚ rates_on (drop n es) i *ℚ t ≡ old +ℚ rates_on es i *ℚ t → new ≡ s +ℚ rate_on e.row e.value i *ℚ t → new +ℚ rates_on (drop (n + 1) es) i *ℚ t ≡ old +ℚ rates_on es i *ℚ t
+    s +ℚ rates_on (drop n es) i *ℚ t ≡ old +ℚ rates_on es i *ℚ t → new ≡ s +ℚ rate_on e.row e.value i *ℚ t →
+    new +ℚ rates_on (drop (n + 1) es) i *ℚ t ≡ old +ℚ rates_on es i *ℚ t
 numbers_go_on es n i e t old s new below here so_far made =
     let left : drop n es ≡ e ∷ drop (n + 1) es = drop-cons es n e below ∙ ap₂ (λ (x : Entry) k. x ∷ drop k es) here (sym (add-one n)) in
     ap (λ q. q +ℚ rates_on (drop (n + 1) es) i *ℚ t) made
     ∙ by_ring4 s (rate_on e.row e.value i) (rates_on (drop (n + 1) es) i) t (λ s r q t. s ⊕ r ⊗ t ⊕ q ⊗ t ≐ s ⊕ (r ⊕ q) ⊗ t) refl
     ∙ ap (λ rest. s +ℚ rates_on rest i *ℚ t) (sym left) ∙ so_far
 
-pub numbers_end : (es : List Entry) (n i : ℕ) (t old s : ℚ) → length es ≤ n → s +ℚ rates_on (drop n es) i *ℚ t ≡ old +ℚ rates_on es i *ℚ t → s ≡ old +ℚ rates_on es i *ℚ t
+pub numbers_end : (es : List Entry) (n i : ℕ) (t old s : ℚ) → length es ≤ n → s +ℚ rates_on (drop n es) i *ℚ t ≡ old +ℚ rates_on es i *ℚ t →
+    s ≡ old +ℚ rates_on es i *ℚ t
 numbers_end es n i t old s end so_far =
     let none : drop n es ≡ [] = drop_all n es end in
     by_ring2 s t (λ s t. s ≐ s ⊕ number (pos 0) ⊗ t) refl ∙ ap (λ rest. s +ℚ rates_on rest i *ℚ t) (sym none) ∙ so_far
@@ -92,7 +95,8 @@ rates_are (e ∷ es) apart i = split (ℕ_discrete e.row i) (rates_are es (IsDis
         ap (λ b. cond b e.value zero_ℚ +ℚ rates_on es i) is ∙ zero-add (rates_on es i) ∙ rest ∙ ap (λ b. cond b e.value (on_row es i)) (sym is)
 
 -- the numbers of column j
-pub column_added : (p : LinearProgram) → IsMatrix p.matrix → (j : ℕ) → IsColumn p.matrix j → (i : ℕ) (es : List Entry) → es ≡ column p.matrix j → (old new v d t : ℚ) → t ≡ v *ℚ d → new ≡ old +ℚ rates_on es i *ℚ t →
+pub column_added : (p : LinearProgram) → IsMatrix p.matrix → (j : ℕ) → IsColumn p.matrix j → (i : ℕ) (es : List Entry) → es ≡ column p.matrix j →
+    (old new v d t : ℚ) → t ≡ v *ℚ d → new ≡ old +ℚ rates_on es i *ℚ t →
     new ≡ old +ℚ entry p.matrix i j *ℚ v *ℚ d
 column_added p m j is i es are old new v d t is_t made =
     let apart = m.distinct (j - 1) [] (omega (arith, m.columns_counted, is.0, is.1)) in
@@ -106,7 +110,8 @@ module _ (p : LinearProgram) (z : ℕ → ℚ) (i : ℕ) where
   unfolding sum_to
   columns_begin s d = by_ring2 s d (λ s d. s ≐ s ⊕ number (pos 0) ⊗ d) refl
 
-  pub columns_go_on : (j : ℕ) (old s new d : ℚ) → s ≡ old +ℚ sum_up_to j (terms p z i) *ℚ d → new ≡ s +ℚ entry p.matrix i (j + 1) *ℚ z (p.rows + (j + 1)) *ℚ d → new ≡ old +ℚ sum_up_to (j + 1) (terms p z i) *ℚ d
+  pub columns_go_on : (j : ℕ) (old s new d : ℚ) → s ≡ old +ℚ sum_up_to j (terms p z i) *ℚ d → new ≡ s +ℚ entry p.matrix i (j + 1) *ℚ z (p.rows + (j + 1)) *ℚ d →
+      new ≡ old +ℚ sum_up_to (j + 1) (terms p z i) *ℚ d
   unfolding sum_to
   columns_go_on j old s new d so_far made =
       made ∙ ap (λ s. s +ℚ terms p z i (j + 1) *ℚ d) so_far
@@ -128,8 +133,11 @@ module _ (p : LinearProgram) (z : ℕ → ℚ) (i : ℕ) where
       ∙ by_ring3 (sum_of zero_ℚ (row_products p z i)) (z i) d (λ s z d. opposite (z ⊗ d) ⊕ s ⊗ d ≐ (s ⊖ z) ⊗ d) refl))
 
 -- the sums of all rows
-pub sums_tell : (p : LinearProgram) (z : ℕ → ℚ) (part : ℕ) (holds : Bool) (test : ℕ → Bool) → ((i : ℕ) → IsRow p.matrix i → test i ≡ equation_test p z i) → IsTrue holds ↔ UpTo test p.rows → IsTrue holds ↔ AllHold (equations p part z)
+pub sums_tell : (p : LinearProgram) (z : ℕ → ℚ) (part : ℕ) (holds : Bool) (test : ℕ → Bool) → ((i : ℕ) → IsRow p.matrix i → test i ≡ equation_test p z i) →
+    IsTrue holds ↔ UpTo test p.rows → IsTrue holds ↔ AllHold (equations p part z)
 sums_tell p z part holds test same tells = (
-  (λ e. (all_passed (equation p part z) (equation_test p z) (reads_equation p part z) p.rows p.rows (omega arith) (λ i first last. sym (same i (first, last)) ∙ tells.0 e i first last)).0 refl),
-  (λ h. tells.1 (λ i first last. same i (first, last) ∙ (reads_equation p part z i).1 (each_hold (equation p part z) 1 p.rows i h first (omega (arith, last))))),
+  (λ e. (all_passed (equation p part z) (equation_test p z) (reads_equation p part z) p.rows p.rows (omega arith)
+      (λ i first last. sym (same i (first, last)) ∙ tells.0 e i first last)).0 refl),
+  (λ h. tells.1
+      (λ i first last. same i (first, last) ∙ (reads_equation p part z i).1 (each_hold (equation p part z) 1 p.rows i h first (omega (arith, last))))),
 )

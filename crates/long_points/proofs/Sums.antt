@@ -28,18 +28,21 @@ nothing_added s e v d t is none =
 pub opposite_made : (t a w s : ℚ) → a ≡ zero_ℚ → w ≡ whole (negsuc 0) → s ≡ a +ℚ w *ℚ t → s ≡ neg_ℚ t
 opposite_made t a w s none minus made = made ∙ (λ i. none i +ℚ minus i *ℚ t) ∙ by_ring1 t (λ t. number (pos 0) ⊕ number (negsuc 0) ⊗ t ≐ opposite t) refl
 
-pub cost_compared : (total y cost d a b s w t : ℚ) → a ≡ total *ℚ d → w ≡ one_ℚ → t ≡ y *ℚ d → b ≡ a +ℚ w *ℚ t → s ≡ b -ℚ cost *ℚ d → s ≡ (y -ℚ (cost -ℚ total)) *ℚ d
+pub cost_compared : (total y cost d a b s w t : ℚ) → a ≡ total *ℚ d → w ≡ one_ℚ → t ≡ y *ℚ d → b ≡ a +ℚ w *ℚ t → s ≡ b -ℚ cost *ℚ d →
+    s ≡ (y -ℚ (cost -ℚ total)) *ℚ d
 cost_compared total y cost d a b s w t summed one is made taken =
     taken ∙ ap (λ b. b -ℚ cost *ℚ d) (made ∙ (λ i. summed i +ℚ one i *ℚ is i))
     ∙ by_ring4 total y cost d (λ s y k d. s ⊗ d ⊕ number (pos 1) ⊗ (y ⊗ d) ⊖ k ⊗ d ≐ (y ⊖ (k ⊖ s)) ⊗ d) refl
 
-pub slack_compared : (right z slack d e : ℚ) (scale activity shown : ℚ) (w a b c s u : ℚ) → scale ≡ d *ℚ e → activity ≡ z *ℚ d *ℚ e → shown ≡ slack *ℚ e *ℚ d → w ≡ whole (negsuc 0) → u ≡ right →
+pub slack_compared : (right z slack d e : ℚ) (scale activity shown : ℚ) (w a b c s u : ℚ) → scale ≡ d *ℚ e → activity ≡ z *ℚ d *ℚ e → shown ≡ slack *ℚ e *ℚ d →
+    w ≡ whole (negsuc 0) → u ≡ right →
     a ≡ zero_ℚ → b ≡ a +ℚ u *ℚ scale → c ≡ b +ℚ w *ℚ activity → s ≡ c +ℚ w *ℚ shown → s ≡ ((right -ℚ z) -ℚ slack) *ℚ (d *ℚ e)
 slack_compared right z slack d e scale activity shown w a b c s u is_scale is_activity is_shown minus is_u none first second third =
     let first_is : b ≡ zero_ℚ +ℚ right *ℚ (d *ℚ e) = first ∙ (λ i. none i +ℚ is_u i *ℚ is_scale i) in
     let second_is : c ≡ zero_ℚ +ℚ right *ℚ (d *ℚ e) +ℚ whole (negsuc 0) *ℚ (z *ℚ d *ℚ e) = second ∙ (λ i. first_is i +ℚ minus i *ℚ is_activity i) in
     third ∙ (λ i. second_is i +ℚ minus i *ℚ is_shown i)
-    ∙ by_ring5 right z slack d e (λ r z s d e. number (pos 0) ⊕ r ⊗ (d ⊗ e) ⊕ number (negsuc 0) ⊗ (z ⊗ d ⊗ e) ⊕ number (negsuc 0) ⊗ (s ⊗ e ⊗ d) ≐ ((r ⊖ z) ⊖ s) ⊗ (d ⊗ e)) refl
+    ∙ by_ring5 right z slack d e
+    (λ r z s d e. number (pos 0) ⊕ r ⊗ (d ⊗ e) ⊕ number (negsuc 0) ⊗ (z ⊗ d ⊗ e) ⊕ number (negsuc 0) ⊗ (s ⊗ e ⊗ d) ≐ ((r ⊖ z) ⊖ s) ⊗ (d ⊗ e)) refl
 
 -- ---- a row
 
@@ -59,7 +62,8 @@ module _ (y : Vector) (es : List Entry) where
   pub column_begins : (s d : ℚ) → s ≡ zero_ℚ → IsPart y es 0 d s
   column_begins s d none = record { so_far = zero_ℚ; is = none ∙ sym (zero-mul d); left = refl }
 
-  pub column_goes_on : (i : ℕ) (e : Entry) (d s t new : ℚ) → i < length es → get_or es i e ≡ e → t ≡ y e.row *ℚ d → new ≡ s +ℚ e.value *ℚ t → IsPart y es i d s → IsPart y es (i + 1) d new
+  pub column_goes_on : (i : ℕ) (e : Entry) (d s t new : ℚ) → i < length es → get_or es i e ≡ e → t ≡ y e.row *ℚ d → new ≡ s +ℚ e.value *ℚ t →
+      IsPart y es i d s → IsPart y es (i + 1) d new
   column_goes_on i e d s t new below here is_t made part = record {
     so_far = part.so_far +ℚ y e.row *ℚ e.value;
     is = made ∙ (λ i. part.is i +ℚ e.value *ℚ is_t i) ∙ by_ring4 part.so_far e.value (y e.row) d (λ s v y d. s ⊗ d ⊕ v ⊗ (y ⊗ d) ≐ (s ⊕ y ⊗ v) ⊗ d) refl;

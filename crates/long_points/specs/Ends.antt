@@ -23,7 +23,10 @@ pub record IsEnd (points : Points) (theta : ℚ) (end : End) : Type 0 where
 module _ (p q : LinearProgram) (first last : Points) where
   abbrev pub kept_steps : ℕ → List Step
   kept_steps k =
-      keeps_limit p q (value_at first.point) (value_at last.point) (value_at first.prices k) k ++ keeps_limit p q (value_at first.point) (value_at last.point) (value_at last.prices k) k
+      keeps_limit p q (value_at first.point) (value_at last.point) (value_at first.prices k) k ++ keeps_limit p q (value_at first.point) (value_at last.point)
+      (value_at last.prices k) k
 
   abbrev pub keeping_test : ℕ → Bool
-  keeping_test k = keep_test p q (value_at first.point) (value_at last.point) (value_at first.prices k) k && keep_test p q (value_at first.point) (value_at last.point) (value_at last.prices k) k
+  keeping_test k =
+      keep_test p q (value_at first.point) (value_at last.point) (value_at first.prices k) k && keep_test p q (value_at first.point) (value_at last.point)
+      (value_at last.prices k) k

@@ -40,7 +40,8 @@ module _ (p : LinearProgram) where
 
 abbrev pub keep_test : (p q : LinearProgram) → Vector → Vector → ℚ → ℕ → Bool
 keep_test p q z w price k =
-    by_sign (compare_ℚ (for_min p.sense price) zero_ℚ) (is_at (upper_of p k) (z k) && is_at (upper_of q k) (w k)) (is_at (lower_of p k) (z k) && is_at (lower_of q k) (w k))
+    by_sign (compare_ℚ (for_min p.sense price) zero_ℚ) (is_at (upper_of p k) (z k) && is_at (upper_of q k) (w k))
+    (is_at (lower_of p k) (z k) && is_at (lower_of q k) (w k))
 
 abbrev pub not_below_by : Option Ordering → Bool
 not_below_by None = true

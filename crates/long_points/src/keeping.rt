@@ -33,9 +33,12 @@ fn stands(
     requires variable { IsVariable at.now.lp.now.matrix k }
     requires change { IsChangeIn at.now.lp.now at.now.change }
     requires places { length point.now.column.tops.items ≡ size at.now.lp.now.matrix }
-    ensures { IfOk result (λ stands. (values : List ℚ) → (theta : ℚ) → IsSpread values theta point.now →
-        (stands.0 ≡ is_at (lower_of (program_of at.now.lp.now at.now.change theta) k) (value_at values k)) ×
-        (stands.1 ≡ is_at (upper_of (program_of at.now.lp.now at.now.change theta) k) (value_at values k))) }
+    ensures { IfOk result
+        (λ stands. (values : List ℚ) → (theta : ℚ) → IsSpread values theta point.now →
+        (stands.0 ≡
+        is_at (lower_of (program_of at.now.lp.now at.now.change theta) k) (value_at values k)) ×
+        (stands.1 ≡
+        is_at (upper_of (program_of at.now.lp.now at.now.change theta) k) (value_at values k))) }
 {
     let column = &point.column;
     let top = top_of(column, k);
@@ -60,8 +63,12 @@ fn price_keeps(
     requires start_places { length start.now.column.tops.items ≡ size at.now.lp.now.matrix }
     requires end_places { length end.now.column.tops.items ≡ size at.now.lp.now.matrix }
     requires price_places { length prices.now.tops.items ≡ size at.now.lp.now.matrix }
-    ensures { IfOk result (λ holds. (first last costs : List ℚ) → (from to : ℚ) → IsSpread first from start.now → IsSpread last to end.now → IsOver costs prices.now →
-        holds ≡ keep_test (program_of at.now.lp.now at.now.change from) (program_of at.now.lp.now at.now.change to) (value_at first) (value_at last) (value_at costs k) k) }
+    ensures { IfOk result
+        (λ holds. (first last costs : List ℚ) → (from to : ℚ) → IsSpread first from start.now →
+        IsSpread last to end.now → IsOver costs prices.now →
+        holds ≡ keep_test (program_of at.now.lp.now at.now.change from)
+        (program_of at.now.lp.now at.now.change to) (value_at first)
+        (value_at last) (value_at costs k) k) }
 {
     let lp = at.lp;
     let order = sign_of(alloc, top_of(prices, k));
@@ -87,8 +94,11 @@ fn prices_keep(
     requires end_places { length end.now.point.column.tops.items ≡ size at.now.lp.now.matrix }
     requires start_prices { length start.now.prices.column.tops.items ≡ size at.now.lp.now.matrix }
     requires end_prices { length end.now.prices.column.tops.items ≡ size at.now.lp.now.matrix }
-    ensures { IfOk result (λ holds. (first last : Points) → (from to : ℚ) → IsEnd first from start.now → IsEnd last to end.now →
-        holds ≡ keeping_test (program_of at.now.lp.now at.now.change from) (program_of at.now.lp.now at.now.change to) first last k) }
+    ensures { IfOk result
+        (λ holds. (first last : Points) → (from to : ℚ) →
+        IsEnd first from start.now → IsEnd last to end.now →
+        holds ≡ keeping_test (program_of at.now.lp.now at.now.change from)
+        (program_of at.now.lp.now at.now.change to) first last k) }
 {
     let first = price_keeps(alloc, at, &start.point, &end.point, &start.prices.column, k)?;
     let last = price_keeps(alloc, at, &start.point, &end.point, &end.prices.column, k)?;
@@ -107,8 +117,12 @@ pub fn all_prices_keep(
     requires end_places { length end.now.point.column.tops.items ≡ size at.now.lp.now.matrix }
     requires start_prices { length start.now.prices.column.tops.items ≡ size at.now.lp.now.matrix }
     requires end_prices { length end.now.prices.column.tops.items ≡ size at.now.lp.now.matrix }
-    ensures { IfOk result (λ holds. (first last : Points) → (from to : ℚ) → IsEnd first from start.now → IsEnd last to end.now →
-        IsTrue holds ↔ AllHold (flat_map (kept_steps (program_of at.now.lp.now at.now.change from) (program_of at.now.lp.now at.now.change to) first last) (variables at.now.lp.now.matrix))) }
+    ensures { IfOk result
+        (λ holds. (first last : Points) → (from to : ℚ) →
+        IsEnd first from start.now → IsEnd last to end.now →
+        IsTrue holds ↔ AllHold
+        (flat_map (kept_steps (program_of at.now.lp.now at.now.change from)
+        (program_of at.now.lp.now at.now.change to) first last) (variables at.now.lp.now.matrix))) }
 {
     let lp = at.lp;
     for i in 0..lp.number_of_variables() {

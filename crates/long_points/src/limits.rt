@@ -66,7 +66,8 @@ fn limit_holds(
     requires variable { IsVariable at.now.lp.now.matrix k }
     requires change { IsChangeIn at.now.lp.now at.now.change }
     requires places { length point.now.column.tops.items ≡ size at.now.lp.now.matrix }
-    ensures { IfOk result (λ holds. (values : List ℚ) → (theta : ℚ) → IsSpread values theta point.now →
+    ensures { IfOk result
+        (λ holds. (values : List ℚ) → (theta : ℚ) → IsSpread values theta point.now →
         holds ≡ limit_test (program_of at.now.lp.now at.now.change theta) (value_at values) k) }
 {
     let column = &point.column;
@@ -82,8 +83,10 @@ fn limit_holds(
 pub fn limits_hold(alloc: Global, at: &ProgramAt<'_>, point: &Spread) -> Result<bool, AllocError>
     requires change { IsChangeIn at.now.lp.now at.now.change }
     requires places { length point.now.column.tops.items ≡ size at.now.lp.now.matrix }
-    ensures { IfOk result (λ holds. (values : List ℚ) → (theta : ℚ) → IsSpread values theta point.now →
-        IsTrue holds ↔ AllHold (within_limits (program_of at.now.lp.now at.now.change theta) (value_at values))) }
+    ensures { IfOk result
+        (λ holds. (values : List ℚ) → (theta : ℚ) → IsSpread values theta point.now →
+        IsTrue holds ↔ AllHold
+        (within_limits (program_of at.now.lp.now at.now.change theta) (value_at values))) }
 {
     let lp = at.lp;
     for i in 0..lp.number_of_variables() {
@@ -99,8 +102,10 @@ pub fn limits_hold(alloc: Global, at: &ProgramAt<'_>, point: &Spread) -> Result<
 pub fn feasible(alloc: Global, at: &ProgramAt<'_>, point: &Spread) -> Result<bool, AllocError>
     requires change { IsChangeIn at.now.lp.now at.now.change }
     requires places { length point.now.column.tops.items ≡ size at.now.lp.now.matrix }
-    ensures { IfOk result (λ holds. (values : List ℚ) → (theta : ℚ) → IsSpread values theta point.now →
-        IsTrue holds ↔ AllHold (feasible_point (program_of at.now.lp.now at.now.change theta) (value_at values))) }
+    ensures { IfOk result
+        (λ holds. (values : List ℚ) → (theta : ℚ) → IsSpread values theta point.now →
+        IsTrue holds ↔ AllHold
+        (feasible_point (program_of at.now.lp.now at.now.change theta) (value_at values))) }
 {
     let keeps = equations_hold(alloc, at.lp, &point.column)?;
     let within = limits_hold(alloc, at, point)?;
@@ -148,8 +153,11 @@ fn price_stands(
     requires change { IsChangeIn at.now.lp.now at.now.change }
     requires places { length point.now.column.tops.items ≡ size at.now.lp.now.matrix }
     requires price_places { length prices.now.tops.items ≡ size at.now.lp.now.matrix }
-    ensures { IfOk result (λ holds. (values costs : List ℚ) → (theta : ℚ) → IsSpread values theta point.now → IsOver costs prices.now →
-        holds ≡ price_test (program_of at.now.lp.now at.now.change theta) (value_at values) (value_at costs) k) }
+    ensures { IfOk result
+        (λ holds. (values costs : List ℚ) → (theta : ℚ) → IsSpread values theta point.now →
+        IsOver costs prices.now →
+        holds ≡ price_test (program_of at.now.lp.now at.now.change theta)
+        (value_at values) (value_at costs) k) }
 {
     let lp = at.lp;
     let order = sign_of(alloc, top_of(prices, k));
@@ -173,8 +181,12 @@ pub fn prices_stand(
     requires change { IsChangeIn at.now.lp.now at.now.change }
     requires places { length point.now.column.tops.items ≡ size at.now.lp.now.matrix }
     requires price_places { length prices.now.tops.items ≡ size at.now.lp.now.matrix }
-    ensures { IfOk result (λ holds. (values costs : List ℚ) → (theta : ℚ) → IsSpread values theta point.now → IsOver costs prices.now →
-        IsTrue holds ↔ AllHold (standing_prices (program_of at.now.lp.now at.now.change theta) (value_at values) (value_at costs))) }
+    ensures { IfOk result
+        (λ holds. (values costs : List ℚ) → (theta : ℚ) → IsSpread values theta point.now →
+        IsOver costs prices.now →
+        IsTrue holds ↔ AllHold
+        (standing_prices (program_of at.now.lp.now at.now.change theta)
+        (value_at values) (value_at costs))) }
 {
     let lp = at.lp;
     for i in 0..lp.number_of_variables() {
@@ -197,8 +209,12 @@ pub fn optimal(
     requires plain { IsPlain at.now.lp.now at.now.change }
     requires places { length point.now.column.tops.items ≡ size at.now.lp.now.matrix }
     requires price_places { length prices.now.column.tops.items ≡ size at.now.lp.now.matrix }
-    ensures { IfOk result (λ holds. (values costs : List ℚ) → (theta : ℚ) → IsSpread values theta point.now → IsSpread costs theta prices.now →
-        IsTrue holds ↔ AllHold (optimal_steps (program_of at.now.lp.now at.now.change theta) (value_at values) (value_at costs))) }
+    ensures { IfOk result
+        (λ holds. (values costs : List ℚ) → (theta : ℚ) → IsSpread values theta point.now →
+        IsSpread costs theta prices.now →
+        IsTrue holds ↔ AllHold
+        (optimal_steps (program_of at.now.lp.now at.now.change theta)
+        (value_at values) (value_at costs))) }
 {
     let is_feasible = feasible(alloc, at, point)?;
     let are_reduced = reduced_costs_hold(alloc, at, prices)?;

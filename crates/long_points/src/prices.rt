@@ -20,7 +20,8 @@ use std::alloc::{AllocError, Global};
 pub fn column_sum(alloc: Global, entries: &[Entry], column: &Column) -> Result<Sum, AllocError>
     requires { All (λ e. (1 ≤ e.row) × (e.row ≤ length column.now.tops.items)) entries.now }
     ensures { IfOk result (λ sum. (values : List ℚ) → IsOver values column.now →
-        sum ≡ sum_of zero_ℚ (entry_products (value_at values) entries.now) *ℚ whole column.now.bottom) }
+        sum ≡ sum_of zero_ℚ
+        (entry_products (value_at values) entries.now) *ℚ whole column.now.bottom) }
 {
     let mut sum = Sum::zero(alloc)?;
     for entry in entries {
@@ -39,7 +40,8 @@ fn reduced_cost_holds(
     requires column { IsColumn at.now.lp.now.matrix j }
     requires plain { IsPlain at.now.lp.now at.now.change }
     requires places { length prices.now.column.tops.items ≡ size at.now.lp.now.matrix }
-    ensures { IfOk result (λ holds. (values : List ℚ) → (theta : ℚ) → IsSpread values theta prices.now →
+    ensures { IfOk result
+        (λ holds. (values : List ℚ) → (theta : ℚ) → IsSpread values theta prices.now →
         holds ≡ cost_test (program_of at.now.lp.now at.now.change theta) (value_at values) j) }
 {
     let lp = at.lp;
@@ -59,8 +61,10 @@ pub fn reduced_costs_hold(
 ) -> Result<bool, AllocError>
     requires plain { IsPlain at.now.lp.now at.now.change }
     requires places { length prices.now.column.tops.items ≡ size at.now.lp.now.matrix }
-    ensures { IfOk result (λ holds. (values : List ℚ) → (theta : ℚ) → IsSpread values theta prices.now →
-        IsTrue holds ↔ AllHold (reduced_costs (program_of at.now.lp.now at.now.change theta) (value_at values))) }
+    ensures { IfOk result
+        (λ holds. (values : List ℚ) → (theta : ℚ) → IsSpread values theta prices.now →
+        IsTrue holds ↔ AllHold
+        (reduced_costs (program_of at.now.lp.now at.now.change theta) (value_at values))) }
 {
     let lp = at.lp;
     for j in 0..lp.cols {

@@ -20,7 +20,8 @@ use std::alloc::{AllocError, Global};
 pub fn column_top<'a>(lp: &Lp, column: &'a Column, j: u32) -> &'a Integer
     requires column { IsColumn lp.now.matrix j }
     requires places { length column.now.tops.items ≡ size lp.now.matrix }
-    ensures { (values : List ℚ) → IsOver values column.now → whole result.now ≡ value_at values (lp.now.rows + j) *ℚ whole column.now.bottom }
+    ensures { (values : List ℚ) → IsOver values column.now →
+        whole result.now ≡ value_at values (lp.now.rows + j) *ℚ whole column.now.bottom }
 {
     let _size = lp.number_of_variables();
     top_of(column, lp.rows + j)
@@ -39,7 +40,8 @@ fn opposite(alloc: Global, top: &Integer) -> Result<Sum, AllocError>
 fn opposites(alloc: Global, lp: &Lp, column: &Column) -> Result<Vec<Sum>, AllocError>
     requires { length column.now.tops.items ≡ size lp.now.matrix }
     ensures counted { IfOk result (λ sums. length sums.items ≡ lp.now.matrix.rows) }
-    ensures values { IfOk result (λ sums. (values : List ℚ) → IsOver values column.now → (i : ℕ) → IsRow lp.now.matrix i →
+    ensures values { IfOk result
+        (λ sums. (values : List ℚ) → IsOver values column.now → (i : ℕ) → IsRow lp.now.matrix i →
         value_at sums.items i ≡ neg_ℚ (value_at values i *ℚ whole column.now.bottom)) }
 {
     let _size = lp.number_of_variables();
@@ -61,7 +63,9 @@ fn add_number(
 ) -> Result<(), AllocError>
     requires first { 1 ≤ row }
     requires last { row ≤ length sums.old }
-    ensures { IfOk result (λ done. (i : ℕ) → 1 ≤ i → value_at sums.new i ≡ value_at sums.old i +ℚ rate_on row by i *ℚ whole top.now) }
+    ensures { IfOk result
+        (λ done. (i : ℕ) → 1 ≤ i →
+        value_at sums.new i ≡ value_at sums.old i +ℚ rate_on row by i *ℚ whole top.now) }
 {
     let sum = &mut sums[row as usize - 1];
     sum.add(alloc, by, top)?;
@@ -76,7 +80,9 @@ fn add_numbers(
     top: &Integer,
 ) -> Result<(), AllocError>
     requires { All (λ e. (1 ≤ e.row) × (e.row ≤ length sums.old)) entries.now }
-    ensures { IfOk result (λ done. (i : ℕ) → 1 ≤ i → value_at sums.new i ≡ value_at sums.old i +ℚ rates_on entries.now i *ℚ whole top.now) }
+    ensures { IfOk result
+        (λ done. (i : ℕ) → 1 ≤ i →
+        value_at sums.new i ≡ value_at sums.old i +ℚ rates_on entries.now i *ℚ whole top.now) }
 {
     for entry in entries {
         add_number(alloc, sums, entry.row, entry.value, top)?;
@@ -96,7 +102,8 @@ fn add_column(
     requires places { length column.now.tops.items ≡ size lp.now.matrix }
     requires rows { length sums.old ≡ lp.now.matrix.rows }
     ensures { IfOk result (λ done. (values : List ℚ) → IsOver values column.now → (i : ℕ) → 1 ≤ i →
-        value_at sums.new i ≡ value_at sums.old i +ℚ entry lp.now.matrix i j *ℚ value_at values (lp.now.rows + j) *ℚ whole column.now.bottom) }
+        value_at sums.new i ≡ value_at sums.old i +ℚ entry lp.now.matrix i j *ℚ value_at values
+        (lp.now.rows + j) *ℚ whole column.now.bottom) }
 {
     let _size = lp.number_of_variables();
     let top = column_top(lp, column, j);
@@ -112,7 +119,8 @@ fn add_columns(alloc: Global, sums: &mut [Sum], lp: &Lp, column: &Column) -> Res
     requires places { length column.now.tops.items ≡ size lp.now.matrix }
     requires rows { length sums.old ≡ lp.now.matrix.rows }
     ensures { IfOk result (λ done. (values : List ℚ) → IsOver values column.now → (i : ℕ) → 1 ≤ i →
-        value_at sums.new i ≡ value_at sums.old i +ℚ sum_of zero_ℚ (row_products lp.now (value_at values) i) *ℚ whole column.now.bottom) }
+        value_at sums.new i ≡ value_at sums.old i +ℚ sum_of zero_ℚ
+        (row_products lp.now (value_at values) i) *ℚ whole column.now.bottom) }
 {
     for j in 0..lp.cols {
         add_column(alloc, sums, lp, column, j + 1)?;
@@ -153,7 +161,8 @@ fn sums_vanish(
     requires places { length column.now.tops.items ≡ size lp.now.matrix }
     requires rows { length sums.old ≡ lp.now.matrix.rows }
     ensures { IfOk result (λ holds. (values : List ℚ) → IsOver values column.now → (part : ℕ) →
-        ((i : ℕ) → IsRow lp.now.matrix i → value_at sums.old i ≡ neg_ℚ (value_at values i *ℚ whole column.now.bottom)) →
+        ((i : ℕ) → IsRow lp.now.matrix i →
+        value_at sums.old i ≡ neg_ℚ (value_at values i *ℚ whole column.now.bottom)) →
         IsTrue holds ↔ AllHold (equations lp.now part (value_at values))) }
 {
     add_columns(alloc, sums, lp, column)?;

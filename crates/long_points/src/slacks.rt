@@ -36,7 +36,8 @@ fn is_slack(
 ) -> Result<bool, AllocError>
     requires row { IsRow lp.now.matrix i }
     requires places { length point.now.tops.items ≡ size lp.now.matrix }
-    ensures { IfOk result (λ holds. (values : List ℚ) → (s : ℚ) → IsOver values point.now → IsValue s slack.now →
+    ensures { IfOk result
+        (λ holds. (values : List ℚ) → (s : ℚ) → IsOver values point.now → IsValue s slack.now →
         holds ≡ eq_ℚ (value_at lp.now.rhs i -ℚ value_at values i) s) }
 {
     let _size = lp.number_of_variables();
@@ -80,8 +81,11 @@ pub fn slacks_hold(
 ) -> Result<bool, AllocError>
     requires places { length point.now.tops.items ≡ size lp.now.matrix }
     requires slack_places { length slacks.now ≡ lp.now.matrix.rows }
-    ensures { IfOk result (λ holds. (values : List ℚ) → (problem : Problem ℕ) → IsOver values point.now →
-        IsTrue holds ↔ AllHold (flat_map (slack_steps (record { problem = problem; lp = lp.now }) (value_at values) (value_at slacks.now)) (row_numbers lp.now))) }
+    ensures { IfOk result
+        (λ holds. (values : List ℚ) → (problem : Problem ℕ) → IsOver values point.now →
+        IsTrue holds ↔ AllHold
+        (flat_map (slack_steps (record { problem = problem; lp = lp.now }) (value_at values)
+        (value_at slacks.now)) (row_numbers lp.now))) }
 {
     for i in 0..lp.rows {
         let holds = slack_holds(alloc, lp, point, slacks, i + 1)?;

@@ -13,12 +13,14 @@ still theta None = refl
 still theta (Some l) = ap (λ x. Some x) (by_ring2 l theta (λ l t. l ≐ l ⊕ t ⊗ number (pos 0)) refl)
 
 -- the limits at theta
-pub lower_at : (p : LinearProgram) (change : ChangeAt) (theta : ℚ) (k : ℕ) → IsVariable p.matrix k → lower_of (program_of p change theta) k ≡ moved theta (shift_at p change k) (lower_of p k)
+pub lower_at : (p : LinearProgram) (change : ChangeAt) (theta : ℚ) (k : ℕ) → IsVariable p.matrix k →
+    lower_of (program_of p change theta) k ≡ moved theta (shift_at p change k) (lower_of p k)
 lower_at p Unchanged theta k is = still theta (lower_of p k)
 lower_at p (Row h) theta k is = still theta (lower_of p k)
 lower_at p (Set shift) theta k is = lower_is p shift.now theta k is
 
-pub upper_at : (p : LinearProgram) (change : ChangeAt) (theta : ℚ) (k : ℕ) → IsVariable p.matrix k → upper_of (program_of p change theta) k ≡ moved theta (shift_at p change k) (upper_of p k)
+pub upper_at : (p : LinearProgram) (change : ChangeAt) (theta : ℚ) (k : ℕ) → IsVariable p.matrix k →
+    upper_of (program_of p change theta) k ≡ moved theta (shift_at p change k) (upper_of p k)
 upper_at p Unchanged theta k is = still theta (upper_of p k)
 upper_at p (Row h) theta k is = still theta (upper_of p k)
 upper_at p (Set shift) theta k is = upper_is p shift.now theta k is
@@ -36,7 +38,12 @@ sense_at p (Row h) theta = refl
 sense_at p (Set shift) theta = refl
 
 -- the cost at theta
-pub cost_at : (p : LinearProgram) (change : ChangeAt) (theta : ℚ) (j : ℕ) → IsPlain p change → cost (program_of p change theta) j ≡ entry p.matrix p.objective j +ℚ theta *ℚ rate_at p change j
-cost_at p Unchanged theta j none = ap (λ c. with_change_row c (λ i. entry p.matrix i j) (entry p.matrix p.objective j)) none ∙ by_ring2 (entry p.matrix p.objective j) theta (λ l t. l ≐ l ⊕ t ⊗ number (pos 0)) refl
+pub cost_at : (p : LinearProgram) (change : ChangeAt) (theta : ℚ) (j : ℕ) → IsPlain p change →
+    cost (program_of p change theta) j ≡ entry p.matrix p.objective j +ℚ theta *ℚ rate_at p change j
+cost_at p Unchanged theta j none =
+    ap (λ c. with_change_row c (λ i. entry p.matrix i j) (entry p.matrix p.objective j)) none
+    ∙ by_ring2 (entry p.matrix p.objective j) theta (λ l t. l ≐ l ⊕ t ⊗ number (pos 0)) refl
 cost_at p (Row h) theta j none = refl
-cost_at p (Set shift) theta j none = ap (λ c. with_change_row c (λ i. entry p.matrix i j) (entry p.matrix p.objective j)) none ∙ by_ring2 (entry p.matrix p.objective j) theta (λ l t. l ≐ l ⊕ t ⊗ number (pos 0)) refl
+cost_at p (Set shift) theta j none =
+    ap (λ c. with_change_row c (λ i. entry p.matrix i j) (entry p.matrix p.objective j)) none
+    ∙ by_ring2 (entry p.matrix p.objective j) theta (λ l t. l ≐ l ⊕ t ⊗ number (pos 0)) refl

@@ -72,7 +72,9 @@ pub fn own_theta(alloc: Global, lp: &Lp) -> Result<Value, AllocError>
 
 /// A vector over a denominator over which theta of the change row that a linear program has is a whole number too.
 pub fn spread_own(alloc: Global, lp: &Lp, column: Column) -> Result<Spread, AllocError>
-    ensures { IfOk result (λ made. (values : List ℚ) → IsOver values column → IsSpread values (own_theta lp.now) made) }
+    ensures { IfOk result
+        (λ made. (values : List ℚ) → IsOver values column →
+        IsSpread values (own_theta lp.now) made) }
 {
     let theta = own_theta(alloc, lp)?;
     let made = spread_by(alloc, &theta, &column)?;

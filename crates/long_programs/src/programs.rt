@@ -39,9 +39,12 @@ pub struct ProgramAt<'a> {
 
 /// What changes along a run.
 pub fn change_at(change: &Change) -> ChangeAt<'_>
-    ensures family { (sheet : Views) → (name : Name) → ServesChange sheet.problem sheet.lp name change.now →
-        (theta : ℚ) → family_of sheet (changing_of name change.now) theta ≡ program_of sheet.lp result theta }
-    ensures change { (problem : Problem ℕ) → (p : LinearProgram) → (name : Name) → ServesChange problem p name change.now → IsChangeIn p result }
+    ensures family { (sheet : Views) → (name : Name) →
+        ServesChange sheet.problem sheet.lp name change.now →
+        (theta : ℚ) →
+        family_of sheet (changing_of name change.now) theta ≡ program_of sheet.lp result theta }
+    ensures change { (problem : Problem ℕ) → (p : LinearProgram) → (name : Name) →
+        ServesChange problem p name change.now → IsChangeIn p result }
 {
     match change {
         Change::Row(row) => ChangeAt::Row(*row),
@@ -58,7 +61,9 @@ fn compare_with(
     bottom: &Integer,
     moved: &Integer,
 ) -> Result<Ordering, AllocError>
-    ensures { IfOk result (λ order. (x theta : ℚ) → IsPlace x theta top.now bottom.now moved.now → order ≡ compare_ℚ x (limit +ℚ theta *ℚ shift)) }
+    ensures { IfOk result
+        (λ order. (x theta : ℚ) → IsPlace x theta top.now bottom.now moved.now →
+        order ≡ compare_ℚ x (limit +ℚ theta *ℚ shift)) }
 {
     let mut sum = Sum::zero(alloc)?;
     sum.add(alloc, Frac::whole(1), top)?;
@@ -164,7 +169,8 @@ pub fn subtract_cost(
     requires column { IsColumn at.now.lp.now.matrix j }
     requires plain { IsPlain at.now.lp.now at.now.change }
     ensures { OnOk result ((theta : ℚ) → whole moved.now ≡ theta *ℚ whole bottom.now →
-        sum.new ≡ sum.old -ℚ cost (program_of at.now.lp.now at.now.change theta) j *ℚ whole bottom.now) }
+        sum.new ≡ sum.old -ℚ cost
+        (program_of at.now.lp.now at.now.change theta) j *ℚ whole bottom.now) }
 {
     let lp = at.lp;
     let cost = number_on(lp.column(j), lp.objective);

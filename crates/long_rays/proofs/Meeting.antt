@@ -28,7 +28,8 @@ use Rattle.long_points.proofs.AtTheta.{sign_over}
 use Rattle.long_rays.specs.Tests.{limit_by, meets_test, met_product, IsMet, SumsTo}
 
 -- a multiplier times a limit at theta, added in two parts
-pub limit_added : (old mid new l s x y d : ℚ) (top scaled shifted : ℤ) (theta : Value) → IsValue x theta → whole top ≡ y *ℚ d → scaled ≡ top *ℤ theta.bottom → shifted ≡ top *ℤ theta.top →
+pub limit_added : (old mid new l s x y d : ℚ) (top scaled shifted : ℤ) (theta : Value) → IsValue x theta → whole top ≡ y *ℚ d → scaled ≡ top *ℤ theta.bottom →
+    shifted ≡ top *ℤ theta.top →
     mid ≡ old +ℚ l *ℚ whole scaled → new ≡ mid +ℚ s *ℚ whole shifted → new ≡ old +ℚ y *ℚ (l +ℚ x *ℚ s) *ℚ (d *ℚ whole theta.bottom)
 limit_added old mid new l s x y d top scaled shifted theta is_theta is_top is_scaled is_shifted first second =
     let t : ℚ = whole theta.bottom in
@@ -46,7 +47,8 @@ limit_below Less low high = refl
 limit_below Equal low high = refl
 limit_below Greater low high = refl
 
-pub against_by : (p : LinearProgram) (w : Vector) (k : ℕ) (sign : Ordering) → sign ≡ compare_ℚ (w k) zero_ℚ → limit_by sign (lower_of p k) (upper_of p k) ≡ limit_against p w k
+pub against_by : (p : LinearProgram) (w : Vector) (k : ℕ) (sign : Ordering) → sign ≡ compare_ℚ (w k) zero_ℚ →
+    limit_by sign (lower_of p k) (upper_of p k) ≡ limit_against p w k
 against_by p w k sign is =
     limit_below sign (lower_of p k) (upper_of p k)
     ∙ ap (λ (o : Ordering). cond (is_less o) (upper_of p k) (lower_of p k)) (ap turned is ∙ sym (compare_turned (w k) zero_ℚ))
@@ -71,7 +73,9 @@ module _ (p : LinearProgram) (change : ChangeAt) (x : ℚ) (w : Vector) (k : ℕ
   against_at : IsVariable p.matrix k → limit_against (program_of p change x) w k ≡ option_map (λ l. l +ℚ x *ℚ shift_at p change k) (limit_against p w k)
   against_at is = at (lt_ℚ zero_ℚ (w k))
     where
-      at : (b : Bool) → cond b (upper_of (program_of p change x) k) (lower_of (program_of p change x) k) ≡ option_map (λ l. l +ℚ x *ℚ shift_at p change k) (cond b (upper_of p k) (lower_of p k))
+      at : (b : Bool) →
+          cond b (upper_of (program_of p change x) k) (lower_of (program_of p change x) k) ≡ option_map (λ l. l +ℚ x *ℚ shift_at p change k)
+          (cond b (upper_of p k) (lower_of p k))
       at true = upper_at p change x k is
       at false = lower_at p change x k is
 
@@ -82,12 +86,17 @@ module _ (p : LinearProgram) (change : ChangeAt) (x : ℚ) (w : Vector) (k : ℕ
         by_ring3 old m d (λ o m d. o ≐ o ⊕ number (pos 0) ⊗ m ⊗ d) refl ∙ ap (λ v. old +ℚ v *ℚ m *ℚ d) (sym (same_from_test (w k) zero_ℚ none));
   }
 
-  pub met_some : IsVariable p.matrix k → (met : Bool) (limit : Option ℚ) (shift old new d : ℚ) → eq_ℚ (w k) zero_ℚ ≡ false → limit ≡ limit_against p w k → shift ≡ shift_at p change k →
-      met ≡ is_some limit → (met ≡ true → new ≡ old +ℚ w k *ℚ unwrap_or (option_map (λ l. l +ℚ x *ℚ shift) limit) zero_ℚ *ℚ d) → IsMet (program_of p change x) w k met old new d
+  pub met_some : IsVariable p.matrix k → (met : Bool) (limit : Option ℚ) (shift old new d : ℚ) → eq_ℚ (w k) zero_ℚ ≡ false → limit ≡ limit_against p w k →
+      shift ≡ shift_at p change k →
+      met ≡ is_some limit → (met ≡ true → new ≡ old +ℚ w k *ℚ unwrap_or (option_map (λ l. l +ℚ x *ℚ shift) limit) zero_ℚ *ℚ d) →
+      IsMet (program_of p change x) w k met old new d
   met_some is met limit shift old new d apart is_limit is_shift is_met adds =
-      let moved : option_map (λ l. l +ℚ x *ℚ shift) limit ≡ limit_against (program_of p change x) w k = (λ i. option_map (λ l. l +ℚ x *ℚ is_shift i) (is_limit i)) ∙ sym (against_at is) in
+      let moved : option_map (λ l. l +ℚ x *ℚ shift) limit ≡ limit_against (program_of p change x) w k =
+      (λ i. option_map (λ l. l +ℚ x *ℚ is_shift i) (is_limit i)) ∙ sym (against_at is) in
       record {
-        is = is_met ∙ sym (some_mapped (λ l. l +ℚ x *ℚ shift) limit) ∙ ap is_some moved ∙ sym (ap (λ b. b || is_some (limit_against (program_of p change x) w k)) apart);
+        is =
+            is_met ∙ sym (some_mapped (λ l. l +ℚ x *ℚ shift) limit) ∙ ap is_some moved
+            ∙ sym (ap (λ b. b || is_some (limit_against (program_of p change x) w k)) apart);
         adds = λ m. adds m ∙ ap (λ o. old +ℚ w k *ℚ unwrap_or o zero_ℚ *ℚ d) moved;
       }
 
@@ -113,7 +122,8 @@ module _ (q : LinearProgram) (w : Vector) where
         ∙ ap (λ k. sum_up_to k (met_product q w) *ℚ d) (sym (add-one i));
   }
 
-  all_met : (first n : ℕ) (sum : ℚ) → ((k : ℕ) → first ≤ k → k < first + n → meets_test q w k ≡ true) → AllHold (ray_limits q w sum (multiplied_among w (numbers_from first n)))
+  all_met : (first n : ℕ) (sum : ℚ) → ((k : ℕ) → first ≤ k → k < first + n → meets_test q w k ≡ true) →
+      AllHold (ray_limits q w sum (multiplied_among w (numbers_from first n)))
   all_met first zero sum h = tt
   all_met first (suc n) sum h =
       by_test (not (eq_ℚ (w first) zero_ℚ)) refl (λ next. all_met (suc first) n next (λ k low high. h k (omega (arith, low)) (omega (arith, high))))
@@ -123,7 +133,8 @@ module _ (q : LinearProgram) (w : Vector) where
       by_test true is later = (or_right (eq_ℚ (w first) zero_ℚ) _ (h first (omega arith) (omega arith)) is, later (sum +ℚ product_of (limit_product q w first)))
       by_test false is later = later sum
 
-  pub all_sum : (i : ℕ) (sum d : ℚ) (order : Ordering) → i ≡ size q.matrix → zero_ℚ <ℚ d → IsSoFar q w i sum d → order ≡ compare_ℚ sum zero_ℚ → SumsTo q w (Some order)
+  pub all_sum : (i : ℕ) (sum d : ℚ) (order : Ordering) → i ≡ size q.matrix → zero_ℚ <ℚ d → IsSoFar q w i sum d → order ≡ compare_ℚ sum zero_ℚ →
+      SumsTo q w (Some order)
   all_sum i sum d order end positive so_far is = (
     all_met 1 (size q.matrix) zero_ℚ (λ k low high. so_far.passed k low (omega (arith, high, end))),
     is ∙ sign_over (sum_up_to i (met_product q w)) d sum positive so_far.is
@@ -141,4 +152,6 @@ module _ (q : LinearProgram) (w : Vector) where
 
       by : (zero_ℚ <ℚ w k) ⊎ (w k ≤ℚ zero_ℚ) → ⊥
       by (inl above) = let both : false ≡ true = sym none ∙ ap is_some (limit_of_positive q w k above) ∙ (meets_if_held q w h).meets_upper k is above in cc
-      by (inr le) = let below = lt_from_le le apart in let both : false ≡ true = sym none ∙ ap is_some (limit_of_negative q w k below) ∙ (meets_if_held q w h).meets_lower k is below in cc
+      by (inr le) =
+          let below = lt_from_le le apart in let both : false ≡ true = sym none ∙ ap is_some (limit_of_negative q w k below)
+          ∙ (meets_if_held q w h).meets_lower k is below in cc

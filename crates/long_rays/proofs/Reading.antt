@@ -26,7 +26,8 @@ module _ (p : LinearProgram) where
 
 -- the sum of a column, with its own multiplier
 pub added : (total own d a s w t : ℚ) → a ≡ total *ℚ d → w ≡ one_ℚ → t ≡ own *ℚ d → s ≡ a +ℚ w *ℚ t → s ≡ ((own +ℚ total) -ℚ zero_ℚ) *ℚ d
-added total own d a s w t summed one is made = made ∙ (λ i. summed i +ℚ one i *ℚ is i) ∙ by_ring3 total own d (λ s y d. s ⊗ d ⊕ number (pos 1) ⊗ (y ⊗ d) ≐ ((y ⊕ s) ⊖ number (pos 0)) ⊗ d) refl
+added total own d a s w t summed one is made =
+    made ∙ (λ i. summed i +ℚ one i *ℚ is i) ∙ by_ring3 total own d (λ s y d. s ⊗ d ⊕ number (pos 1) ⊗ (y ⊗ d) ≐ ((y ⊕ s) ⊖ number (pos 0)) ⊗ d) refl
 
 -- a sum that is begun with a number
 pub begun : (y : Vector) (start : ℚ) (es : List Entry) → sum_of start (entry_products y es) ≡ start +ℚ sum_of zero_ℚ (entry_products y es)

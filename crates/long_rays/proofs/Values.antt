@@ -20,12 +20,14 @@ use Rattle.long_rays.specs.Tests.{change_value}
 
 -- ---- one value more
 
-pub value_added : (old new v d one : ℚ) (top scaled times : ℤ) → whole top ≡ v *ℚ d → scaled ≡ top *ℤ times → one ≡ one_ℚ → new ≡ old +ℚ one *ℚ whole scaled → new ≡ old +ℚ v *ℚ d *ℚ whole times
+pub value_added : (old new v d one : ℚ) (top scaled times : ℤ) → whole top ≡ v *ℚ d → scaled ≡ top *ℤ times → one ≡ one_ℚ → new ≡ old +ℚ one *ℚ whole scaled →
+    new ≡ old +ℚ v *ℚ d *ℚ whole times
 value_added old new v d one top scaled times is_top is_scaled is_one made =
     made ∙ (λ i. old +ℚ is_one i *ℚ whole (is_scaled i)) ∙ ap (λ q. old +ℚ one_ℚ *ℚ q) (whole-mul top times ∙ ap (λ q. q *ℚ whole times) is_top)
     ∙ by_ring4 old v d (whole times) (λ o v d t. o ⊕ number (pos 1) ⊗ (v ⊗ d ⊗ t) ≐ o ⊕ v ⊗ d ⊗ t) refl
 
-pub row_added : (old new v d x : ℚ) (theta : Value) → IsValue x theta → new ≡ old +ℚ v *ℚ d *ℚ whole theta.top → new ≡ old +ℚ x *ℚ v *ℚ (d *ℚ whole theta.bottom)
+pub row_added : (old new v d x : ℚ) (theta : Value) → IsValue x theta → new ≡ old +ℚ v *ℚ d *ℚ whole theta.top →
+    new ≡ old +ℚ x *ℚ v *ℚ (d *ℚ whole theta.bottom)
 row_added old new v d x theta is made =
     made ∙ ap (λ q. old +ℚ v *ℚ d *ℚ q) is.is
     ∙ by_ring5 old v d x (whole theta.bottom) (λ o v d x t. o ⊕ v ⊗ d ⊗ (x ⊗ t) ≐ o ⊕ x ⊗ v ⊗ (d ⊗ t)) refl
@@ -35,12 +37,14 @@ nothing_changes old x d = by_ring3 old x d (λ o x d. o ≐ o ⊕ x ⊗ number (
 
 -- ---- the objective
 
-pub objective_at : (p : LinearProgram) (change : ChangeAt) (x : ℚ) (v : Vector) → IsPlain p change → objective_value (program_of p change x) v ≡ v p.objective +ℚ x *ℚ change_value change v
+pub objective_at : (p : LinearProgram) (change : ChangeAt) (x : ℚ) (v : Vector) → IsPlain p change →
+    objective_value (program_of p change x) v ≡ v p.objective +ℚ x *ℚ change_value change v
 objective_at p Unchanged x v none = ap (λ c. with_change_row c v (v p.objective)) none ∙ by_ring2 (v p.objective) x (λ l t. l ≐ l ⊕ t ⊗ number (pos 0)) refl
 objective_at p (Row h) x v none = refl
 objective_at p (Set shift) x v none = ap (λ c. with_change_row c v (v p.objective)) none ∙ by_ring2 (v p.objective) x (λ l t. l ≐ l ⊕ t ⊗ number (pos 0)) refl
 
-pub objective_sum : (none first last own x rate d t : ℚ) → none ≡ zero_ℚ → first ≡ none +ℚ own *ℚ d *ℚ t → last ≡ first +ℚ x *ℚ rate *ℚ (d *ℚ t) → last ≡ (own +ℚ x *ℚ rate) *ℚ (d *ℚ t)
+pub objective_sum : (none first last own x rate d t : ℚ) → none ≡ zero_ℚ → first ≡ none +ℚ own *ℚ d *ℚ t → last ≡ first +ℚ x *ℚ rate *ℚ (d *ℚ t) →
+    last ≡ (own +ℚ x *ℚ rate) *ℚ (d *ℚ t)
 objective_sum none first last own x rate d t is_none is_first is_last =
     is_last ∙ ap (λ s. s +ℚ x *ℚ rate *ℚ (d *ℚ t)) (is_first ∙ ap (λ s. s +ℚ own *ℚ d *ℚ t) is_none)
     ∙ by_ring5 own x rate d t (λ o x r d t. number (pos 0) ⊕ o ⊗ d ⊗ t ⊕ x ⊗ r ⊗ (d ⊗ t) ≐ (o ⊕ x ⊗ r) ⊗ (d ⊗ t)) refl
@@ -52,7 +56,8 @@ module _ (w shift : Vector) where
   unfolding sum_to
   shifts_begin s d none = none ∙ sym (zero-mul d)
 
-  pub shifts_go_on : (j : ℕ) (s new by t d : ℚ) → s ≡ sum_up_to j (λ k. w k *ℚ shift k) *ℚ d → by ≡ shift (j + 1) → t ≡ w (j + 1) *ℚ d → new ≡ s +ℚ by *ℚ t → new ≡ sum_up_to (j + 1) (λ k. w k *ℚ shift k) *ℚ d
+  pub shifts_go_on : (j : ℕ) (s new by t d : ℚ) → s ≡ sum_up_to j (λ k. w k *ℚ shift k) *ℚ d → by ≡ shift (j + 1) → t ≡ w (j + 1) *ℚ d → new ≡ s +ℚ by *ℚ t →
+      new ≡ sum_up_to (j + 1) (λ k. w k *ℚ shift k) *ℚ d
   unfolding sum_to
   shifts_go_on j s new by t d so_far is_by is_t made =
       made ∙ (λ i. so_far i +ℚ is_by i *ℚ is_t i)
@@ -62,8 +67,10 @@ module _ (w shift : Vector) where
 
 -- ---- a number and a value
 
-pub compared_values : (x y d e none first last one minus : ℚ) (own_top bottom own top other value : ℤ) → whole own_top ≡ x *ℚ e → whole top ≡ y *ℚ d → d ≡ whole bottom → e ≡ whole other →
-    own ≡ own_top *ℤ bottom → value ≡ top *ℤ other → none ≡ zero_ℚ → one ≡ one_ℚ → minus ≡ whole (negsuc 0) → first ≡ none +ℚ one *ℚ whole own → last ≡ first +ℚ minus *ℚ whole value →
+pub compared_values : (x y d e none first last one minus : ℚ) (own_top bottom own top other value : ℤ) → whole own_top ≡ x *ℚ e → whole top ≡ y *ℚ d →
+    d ≡ whole bottom → e ≡ whole other →
+    own ≡ own_top *ℤ bottom → value ≡ top *ℤ other → none ≡ zero_ℚ → one ≡ one_ℚ → minus ≡ whole (negsuc 0) → first ≡ none +ℚ one *ℚ whole own →
+    last ≡ first +ℚ minus *ℚ whole value →
     last ≡ (x -ℚ y) *ℚ (d *ℚ e)
 compared_values x y d e none first last one minus own_top bottom own top other value is_own is_top is_d is_e own_is value_is is_none is_one is_minus is_first is_last =
     let left : whole own ≡ x *ℚ e *ℚ d = ap whole own_is ∙ whole-mul own_top bottom ∙ (λ i. is_own i *ℚ sym is_d i) in
@@ -83,6 +90,7 @@ crossed_moved c None high = refl
 crossed_moved c (Some l) None = refl
 crossed_moved c (Some l) (Some h) = ap is_less (compare_moved h l c)
 
-pub crossed_at : (p : LinearProgram) (change : ChangeAt) (x : ℚ) (k : ℕ) → IsVariable p.matrix k → is_crossed (lower_of (program_of p change x) k) (upper_of (program_of p change x) k) ≡ is_crossed (lower_of p k) (upper_of p k)
+pub crossed_at : (p : LinearProgram) (change : ChangeAt) (x : ℚ) (k : ℕ) → IsVariable p.matrix k →
+    is_crossed (lower_of (program_of p change x) k) (upper_of (program_of p change x) k) ≡ is_crossed (lower_of p k) (upper_of p k)
 crossed_at p change x k is =
     (λ i. is_crossed (lower_at p change x k is i) (upper_at p change x k is i)) ∙ crossed_moved (x *ℚ shift_at p change k) (lower_of p k) (upper_of p k)

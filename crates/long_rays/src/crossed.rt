@@ -22,7 +22,9 @@ fn crossed_by(lower: Option<Frac>, upper: Option<Frac>) -> bool
 /// Whether the lower limit of variable `k` is greater than its upper one. Theta moves both by as much.
 pub fn limits_cross(lp: &Lp, k: u32) -> bool
     requires { IsVariable lp.now.matrix k }
-    ensures { (change : Changes) → (x : ℚ) → result ≡ is_crossed (lower_of (program_of lp.now change x) k) (upper_of (program_of lp.now change x) k) }
+    ensures { (change : Changes) → (x : ℚ) →
+        result ≡ is_crossed (lower_of (program_of lp.now change x) k)
+        (upper_of (program_of lp.now change x) k) }
 {
     crossed_by(lp.lower_limit(k), lp.upper_limit(k))
 }

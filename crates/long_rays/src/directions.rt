@@ -19,7 +19,8 @@ use std::alloc::Global;
 fn is_free_to_move(alloc: Global, lp: &Lp, direction: &Column, k: u32) -> bool
     requires variable { IsVariable lp.now.matrix k }
     requires places { length direction.now.tops.items ≡ size lp.now.matrix }
-    ensures { (change : Changes) → (x : ℚ) → (d : List ℚ) → IsOver d direction.now → result ≡ free_test (program_of lp.now change x) (value_at d) k }
+    ensures { (change : Changes) → (x : ℚ) → (d : List ℚ) → IsOver d direction.now →
+        result ≡ free_test (program_of lp.now change x) (value_at d) k }
 {
     let sign = sign_of(alloc, top_of(direction, k));
     let falls = lp.lower_limit(k).is_none();
@@ -31,7 +32,8 @@ fn is_free_to_move(alloc: Global, lp: &Lp, direction: &Column, k: u32) -> bool
 /// where it is.
 pub fn direction_is_free(alloc: Global, lp: &Lp, direction: &Column) -> bool
     requires { length direction.now.tops.items ≡ size lp.now.matrix }
-    ensures { (change : Changes) → (x : ℚ) → (d : List ℚ) → IsOver d direction.now → IsTrue result ↔ AllHold (free_direction (program_of lp.now change x) (value_at d)) }
+    ensures { (change : Changes) → (x : ℚ) → (d : List ℚ) → IsOver d direction.now →
+        IsTrue result ↔ AllHold (free_direction (program_of lp.now change x) (value_at d)) }
 {
     for i in 0..lp.number_of_variables() {
         if !is_free_to_move(alloc, lp, direction, i + 1) {

@@ -24,8 +24,10 @@ fn add_limit(
     theta: &Value,
 ) -> Result<bool, AllocError>
     ensures met { IfOk result (λ met. met ≡ is_some limit) }
-    ensures sum { IfOk result (λ met. (x y d : ℚ) → whole top.now ≡ y *ℚ d → IsValue x theta.now → met ≡ true →
-        sum.new ≡ sum.old +ℚ y *ℚ unwrap_or (option_map (λ l. l +ℚ x *ℚ shift) limit) zero_ℚ *ℚ (d *ℚ whole theta.now.bottom)) }
+    ensures sum { IfOk result
+        (λ met. (x y d : ℚ) → whole top.now ≡ y *ℚ d → IsValue x theta.now → met ≡ true →
+        sum.new ≡ sum.old +ℚ y *ℚ unwrap_or (option_map (λ l. l +ℚ x *ℚ shift) limit) zero_ℚ *ℚ
+        (d *ℚ whole theta.now.bottom)) }
 {
     let Some(limit) = limit else {
         return Ok(false);
@@ -73,7 +75,8 @@ fn add_met(
     requires change { IsChangeIn at.now.lp.now at.now.change }
     requires places { length ray.now.tops.items ≡ size at.now.lp.now.matrix }
     ensures { IfOk result (λ met. (w : List ℚ) → (x : ℚ) → IsOver w ray.now → IsValue x theta.now →
-        IsMet (program_of at.now.lp.now at.now.change x) (value_at w) k met sum.old sum.new (whole ray.now.bottom *ℚ whole theta.now.bottom)) }
+        IsMet (program_of at.now.lp.now at.now.change x) (value_at w) k met sum.old sum.new
+        (whole ray.now.bottom *ℚ whole theta.now.bottom)) }
 {
     let top = top_of(ray, k);
     let sign = sign_of(alloc, top);
@@ -96,7 +99,8 @@ pub fn limits_order(
 ) -> Result<Option<Ordering>, AllocError>
     requires change { IsChangeIn at.now.lp.now at.now.change }
     requires places { length ray.now.tops.items ≡ size at.now.lp.now.matrix }
-    ensures { IfOk result (λ order. (w : List ℚ) → (x : ℚ) → IsOver w ray.now → IsValue x theta.now →
+    ensures { IfOk result
+        (λ order. (w : List ℚ) → (x : ℚ) → IsOver w ray.now → IsValue x theta.now →
         SumsTo (program_of at.now.lp.now at.now.change x) (value_at w) order) }
 {
     let lp = at.lp;

@@ -48,8 +48,10 @@ fn add_change(
 ) -> Result<(), AllocError>
     requires change { IsChangeIn at.now.lp.now at.now.change }
     requires places { length direction.now.tops.items ≡ size at.now.lp.now.matrix }
-    ensures { IfOk result (λ done. (d : List ℚ) → (x : ℚ) → IsOver d direction.now → IsValue x theta.now →
-        sum.new ≡ sum.old +ℚ x *ℚ change_value at.now.change (value_at d) *ℚ (whole direction.now.bottom *ℚ whole theta.now.bottom)) }
+    ensures { IfOk result
+        (λ done. (d : List ℚ) → (x : ℚ) → IsOver d direction.now → IsValue x theta.now →
+        sum.new ≡ sum.old +ℚ x *ℚ change_value at.now.change (value_at d) *ℚ
+        (whole direction.now.bottom *ℚ whole theta.now.bottom)) }
 {
     let lp = at.lp;
     let _size = lp.number_of_variables();
@@ -73,8 +75,11 @@ pub fn objective_order(
     requires change { IsChangeIn at.now.lp.now at.now.change }
     requires plain { IsPlain at.now.lp.now at.now.change }
     requires places { length direction.now.tops.items ≡ size at.now.lp.now.matrix }
-    ensures { IfOk result (λ order. (d : List ℚ) → (x : ℚ) → IsOver d direction.now → IsValue x theta.now →
-        order ≡ compare_ℚ (for_min at.now.lp.now.sense (objective_value (program_of at.now.lp.now at.now.change x) (value_at d))) zero_ℚ) }
+    ensures { IfOk result
+        (λ order. (d : List ℚ) → (x : ℚ) → IsOver d direction.now → IsValue x theta.now →
+        order ≡ compare_ℚ
+        (for_min at.now.lp.now.sense
+        (objective_value (program_of at.now.lp.now at.now.change x) (value_at d))) zero_ℚ) }
 {
     let lp = at.lp;
     let _size = lp.number_of_variables();
@@ -102,8 +107,12 @@ pub fn shift_order(
 ) -> Result<Ordering, AllocError>
     requires shifts { length shift.now ≡ lp.now.matrix.rows }
     requires places { length ray.now.tops.items ≡ size lp.now.matrix }
-    ensures { IfOk result (λ order. (w : List ℚ) → (problem : Problem ℕ) → (changing : Changing) → IsOver w ray.now →
-        order ≡ compare_ℚ (sum_of zero_ℚ (shift_products (record { problem = problem; lp = lp.now }) changing shift.now (value_at w))) zero_ℚ) }
+    ensures { IfOk result
+        (λ order. (w : List ℚ) → (problem : Problem ℕ) → (changing : Changing) → IsOver w ray.now →
+        order ≡ compare_ℚ
+        (sum_of zero_ℚ
+        (shift_products (record { problem = problem; lp = lp.now }) changing shift.now
+        (value_at w))) zero_ℚ) }
 {
     let _size = lp.number_of_variables();
     let mut sum = Sum::zero(alloc)?;
@@ -122,7 +131,9 @@ pub fn is_value_of(
 ) -> Result<bool, AllocError>
     requires first { 1 ≤ k }
     requires last { k ≤ length column.now.tops.items }
-    ensures { IfOk result (λ holds. (x : ℚ) → (values : List ℚ) → IsValue x number.now → IsOver values column.now → holds ≡ eq_ℚ x (value_at values k)) }
+    ensures { IfOk result
+        (λ holds. (x : ℚ) → (values : List ℚ) → IsValue x number.now → IsOver values column.now →
+        holds ≡ eq_ℚ x (value_at values k)) }
 {
     let own = number.top.product(alloc, &column.bottom)?;
     let value = top_of(column, k).product(alloc, &number.bottom)?;

@@ -17,7 +17,8 @@ use std::alloc::{AllocError, Global};
 fn vanishes_on(alloc: Global, lp: &Lp, ray: &Column, j: u32) -> Result<bool, AllocError>
     requires column { IsColumn lp.now.matrix j }
     requires places { length ray.now.tops.items ≡ size lp.now.matrix }
-    ensures { IfOk result (λ holds. (w : List ℚ) → IsOver w ray.now → holds ≡ vanish_test lp.now (value_at w) j) }
+    ensures { IfOk result
+        (λ holds. (w : List ℚ) → IsOver w ray.now → holds ≡ vanish_test lp.now (value_at w) j) }
 {
     let _size = lp.number_of_variables();
     let mut sum = column_sum(alloc, lp.column(j), ray)?;
@@ -28,7 +29,9 @@ fn vanishes_on(alloc: Global, lp: &Lp, ray: &Column, j: u32) -> Result<bool, All
 /// Whether the multipliers vanish on each column.
 pub fn ray_vanishes(alloc: Global, lp: &Lp, ray: &Column) -> Result<bool, AllocError>
     requires { length ray.now.tops.items ≡ size lp.now.matrix }
-    ensures { IfOk result (λ holds. (w : List ℚ) → IsOver w ray.now → IsTrue holds ↔ AllHold (ray_columns lp.now (value_at w))) }
+    ensures { IfOk result
+        (λ holds. (w : List ℚ) → IsOver w ray.now →
+        IsTrue holds ↔ AllHold (ray_columns lp.now (value_at w))) }
 {
     for i in 0..lp.cols {
         let holds = vanishes_on(alloc, lp, ray, i + 1)?;

@@ -27,7 +27,8 @@ use Rattle.long_solutions.proofs.Answered.{answers_of, both_answer, last_answers
 
 -- ---- values at theta
 
-list_along_at : (x : ℚ) (vs rs : List ℚ) → length vs ≡ length rs → (k : ℕ) → get_or (list_along x vs rs) k zero_ℚ ≡ get_or vs k zero_ℚ +ℚ x *ℚ get_or rs k zero_ℚ
+list_along_at : (x : ℚ) (vs rs : List ℚ) → length vs ≡ length rs → (k : ℕ) →
+    get_or (list_along x vs rs) k zero_ℚ ≡ get_or vs k zero_ℚ +ℚ x *ℚ get_or rs k zero_ℚ
 list_along_at x [] [] e k = by_ring1 x (λ x. number (pos 0) ≐ number (pos 0) ⊕ x ⊗ number (pos 0)) refl
 list_along_at x [] (r ∷ rs) e k = absurd (omega (arith, e))
 list_along_at x (v ∷ vs) [] e k = absurd (omega (arith, e))
@@ -66,17 +67,23 @@ module _ (sheet : Sheet) where
   pub making_hold : (changing : Changing) (theta : ℚ) → AllHold (making_steps sheet changing theta)
   making_hold (Row name) theta = tt
   making_hold (Set name) theta =
-      flat_hold (λ i. moving_steps sheet theta (value_at (shifts_of sheet.problem name) i) (lower_of sheet.lp i) ++ moving_steps sheet theta (value_at (shifts_of sheet.problem name) i) (upper_of sheet.lp i))
-      (λ i. append_hold (moving_steps sheet theta (value_at (shifts_of sheet.problem name) i) (lower_of sheet.lp i)) (moving_steps sheet theta (value_at (shifts_of sheet.problem name) i) (upper_of sheet.lp i))
-      (moving_hold theta (value_at (shifts_of sheet.problem name) i) (lower_of sheet.lp i)) (moving_hold theta (value_at (shifts_of sheet.problem name) i) (upper_of sheet.lp i)))
+      flat_hold (λ i. moving_steps sheet theta (value_at (shifts_of sheet.problem name) i) (lower_of sheet.lp i) ++ moving_steps sheet theta
+      (value_at (shifts_of sheet.problem name) i) (upper_of sheet.lp i))
+      (λ i. append_hold (moving_steps sheet theta (value_at (shifts_of sheet.problem name) i) (lower_of sheet.lp i))
+      (moving_steps sheet theta (value_at (shifts_of sheet.problem name) i) (upper_of sheet.lp i))
+      (moving_hold theta (value_at (shifts_of sheet.problem name) i) (lower_of sheet.lp i))
+      (moving_hold theta (value_at (shifts_of sheet.problem name) i) (upper_of sheet.lp i)))
       (row_numbers sheet.lp)
 
   along_hold : (theta : ℚ) (value rate : List ℚ) → AllHold (along_steps sheet theta value rate)
-  along_hold theta value rate = flat_hold (λ k. sum_steps (value_at value k) (record { left = theta; right = value_at rate k } ∷ [])) (λ k. sums_hold (value_at value k) (record { left = theta; right = value_at rate k } ∷ [])) (variables sheet.lp.matrix)
+  along_hold theta value rate =
+      flat_hold (λ k. sum_steps (value_at value k) (record { left = theta; right = value_at rate k } ∷ []))
+      (λ k. sums_hold (value_at value k) (record { left = theta; right = value_at rate k } ∷ [])) (variables sheet.lp.matrix)
 
 -- ---- an end, and both
 
-module _ (sheet : Sheet) (changing : Changing) (p : LinearProgram) (change : ChangeAt) (family : IsFamily sheet changing p change) (columns : Columns) (counted : AreCounted sheet.lp columns) where
+module _ (sheet : Sheet) (changing : Changing) (p : LinearProgram) (change : ChangeAt) (family : IsFamily sheet changing p change) (columns : Columns)
+    (counted : AreCounted sheet.lp columns) where
   same_values : length columns.value.items ≡ length columns.value_rate.items
   same_values = counted.value ∙ sym counted.value_rate
 
@@ -89,7 +96,9 @@ module _ (sheet : Sheet) (changing : Changing) (p : LinearProgram) (change : Cha
   prices : (theta : ℚ) → value_at (points_at theta columns).prices ≡ along theta columns.price.items columns.price_rate.items
   prices theta = along_is theta columns.price.items columns.price_rate.items same_prices
 
-  pub end_answers : (from to theta : ℚ) (holds : Bool) → IsTrue holds ↔ AllHold (optimal_steps (program_of p change theta) (value_at (points_at theta columns).point) (value_at (points_at theta columns).prices)) →
+  pub end_answers : (from to theta : ℚ) (holds : Bool) →
+      IsTrue holds ↔ AllHold
+      (optimal_steps (program_of p change theta) (value_at (points_at theta columns).point) (value_at (points_at theta columns).prices)) →
       Answers holds (end_verdict sheet changing from to columns theta)
   end_answers from to theta holds h =
       let z : Vector = along theta columns.value.items columns.value_rate.items in
@@ -98,12 +107,18 @@ module _ (sheet : Sheet) (changing : Changing) (p : LinearProgram) (change : Cha
       let best : IsTrue holds ↔ AllHold (optimal_steps q z y) =
       subst (λ (steps : List Step). IsTrue holds ↔ AllHold steps) (λ i. optimal_steps (sym (family.same theta) i) (values theta i) (prices theta i)) h in
       after_checked holds _ _ (hold_checked (making_steps sheet changing theta) (making_hold sheet changing theta))
-      (after_checked holds _ _ (hold_checked (along_steps sheet theta columns.value.items columns.value_rate.items) (along_hold sheet theta columns.value.items columns.value_rate.items))
-      (after_checked holds _ _ (hold_checked (along_steps sheet theta columns.price.items columns.price_rate.items) (along_hold sheet theta columns.price.items columns.price_rate.items))
+      (after_checked holds _ _
+      (hold_checked (along_steps sheet theta columns.value.items columns.value_rate.items)
+      (along_hold sheet theta columns.value.items columns.value_rate.items))
+      (after_checked holds _ _
+      (hold_checked (along_steps sheet theta columns.price.items columns.price_rate.items)
+      (along_hold sheet theta columns.price.items columns.price_rate.items))
       (last_answers holds (verdict_by of_any_length (optimal_steps q z y)) (answers_of holds (optimal_steps q z y) best))))
 
   -- the comparisons of what is kept are those of the definition
-  kept_is : (from to : ℚ) → flat_map (kept_steps (program_of p change from) (program_of p change to) (points_at from columns) (points_at to columns)) (variables p.matrix) ≡ keeping_steps sheet changing from to columns.value.items columns.value_rate.items columns.price.items columns.price_rate.items
+  kept_is : (from to : ℚ) →
+      flat_map (kept_steps (program_of p change from) (program_of p change to) (points_at from columns) (points_at to columns))
+      (variables p.matrix) ≡ keeping_steps sheet changing from to columns.value.items columns.value_rate.items columns.price.items columns.price_rate.items
   kept_is from to = λ i.
       flat_map (λ k.
       keeps_limit (sym (family.same from) i) (sym (family.same to) i) (values from i) (values to i) (prices from i k) k
@@ -113,10 +128,12 @@ module _ (sheet : Sheet) (changing : Changing) (p : LinearProgram) (change : Cha
   pub ends_answer : (from to : ℚ) (begins closes keeps : Bool) →
       IsTrue begins ↔ AllHold (optimal_steps (program_of p change from) (value_at (points_at from columns).point) (value_at (points_at from columns).prices)) →
       IsTrue closes ↔ AllHold (optimal_steps (program_of p change to) (value_at (points_at to columns).point) (value_at (points_at to columns).prices)) →
-      IsTrue keeps ↔ AllHold (flat_map (kept_steps (program_of p change from) (program_of p change to) (points_at from columns) (points_at to columns)) (variables p.matrix)) →
+      IsTrue keeps ↔ AllHold
+      (flat_map (kept_steps (program_of p change from) (program_of p change to) (points_at from columns) (points_at to columns)) (variables p.matrix)) →
       Answers (begins && (closes && keeps)) (ends_verdict sheet changing from to columns)
   ends_answer from to begins closes keeps first last kept =
       let steps : List Step = keeping_steps sheet changing from to columns.value.items columns.value_rate.items columns.price.items columns.price_rate.items in
       both_answer begins (closes && keeps) (end_verdict sheet changing from to columns from) _ (end_answers from to from begins first)
       (both_answer closes keeps (end_verdict sheet changing from to columns to) _ (end_answers from to to closes last)
-      (last_answers keeps (verdict_by of_any_length steps) (answers_of keeps steps (subst (λ (s : List Step). IsTrue keeps ↔ AllHold s) (kept_is from to) kept))))
+      (last_answers keeps (verdict_by of_any_length steps)
+      (answers_of keeps steps (subst (λ (s : List Step). IsTrue keeps ↔ AllHold s) (kept_is from to) kept))))

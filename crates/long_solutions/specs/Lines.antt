@@ -39,7 +39,8 @@ pub record IsNumber (value : Value) : Type 0 where
   pub is : IsValue number value
 
 abbrev pub points_at : ℚ → Columns → Points
-points_at theta columns = record { point = list_along theta columns.value.items columns.value_rate.items; prices = list_along theta columns.price.items columns.price_rate.items }
+points_at theta columns =
+    record { point = list_along theta columns.value.items columns.value_rate.items; prices = list_along theta columns.price.items columns.price_rate.items }
 
 pub record IsFamily (sheet : Sheet) (changing : Changing) (p : LinearProgram) (change : ChangeAt) : Type 0 where
   pub lp : sheet.lp ≡ p
@@ -47,8 +48,10 @@ pub record IsFamily (sheet : Sheet) (changing : Changing) (p : LinearProgram) (c
 
 module _ (sheet : Sheet) (changing : Changing) (from to : ℚ) (columns : Columns) where
   abbrev pub end_verdict : ℚ → Verdict
-  end_verdict theta = end_test checker_of_any_length sheet changing theta columns.value.items columns.value_rate.items columns.price.items columns.price_rate.items
+  end_verdict theta =
+      end_test checker_of_any_length sheet changing theta columns.value.items columns.value_rate.items columns.price.items columns.price_rate.items
 
   abbrev pub ends_verdict : Verdict
   ends_verdict =
-      in_turn (end_verdict from ∷ end_verdict to ∷ says checker_of_any_length (keeping_steps sheet changing from to columns.value.items columns.value_rate.items columns.price.items columns.price_rate.items) ∷ [])
+      in_turn (end_verdict from ∷ end_verdict to ∷ says checker_of_any_length
+      (keeping_steps sheet changing from to columns.value.items columns.value_rate.items columns.price.items columns.price_rate.items) ∷ [])

@@ -62,7 +62,9 @@ fn numbers_at(
     rate: &Column,
 ) -> Result<Spread, AllocError>
     requires { length value.now.tops.items ≡ length rate.now.tops.items }
-    ensures { IfOk result (λ made. (x : ℚ) (values rates : List ℚ) → IsValue x theta.now → IsOver values value.now → IsOver rates rate.now → IsSpread (list_along x values rates) x made) }
+    ensures { IfOk result
+        (λ made. (x : ℚ) (values rates : List ℚ) → IsValue x theta.now → IsOver values value.now →
+        IsOver rates rate.now → IsSpread (list_along x values rates) x made) }
 {
     let column = along(alloc, theta, value, rate)?;
     let made = spread_by(alloc, theta, &column)?;
@@ -72,7 +74,9 @@ fn numbers_at(
 // The point and the prices at theta.
 fn end_at(alloc: Global, theta: &Value, lines: &Lines) -> Result<End, AllocError>
     requires lines { (p : LinearProgram) × AreLinesOf p lines.now }
-    ensures { IfOk result (λ end. (x : ℚ) (columns : ColumnsView) → IsValue x theta.now → AreOver columns lines.now → IsEnd (points_at x columns) x end) }
+    ensures { IfOk result
+        (λ end. (x : ℚ) (columns : ColumnsView) → IsValue x theta.now → AreOver columns lines.now →
+        IsEnd (points_at x columns) x end) }
 {
     let point = numbers_at(alloc, theta, &lines.value, &lines.value_rate)?;
     let prices = numbers_at(alloc, theta, &lines.price, &lines.price_rate)?;
@@ -82,7 +86,9 @@ fn end_at(alloc: Global, theta: &Value, lines: &Lines) -> Result<End, AllocError
 // Two lines at theta, which are let go.
 fn joined(alloc: Global, theta: &Value, value: Column, rate: Column) -> Result<Column, AllocError>
     requires { length value.tops.items ≡ length rate.tops.items }
-    ensures { IfOk result (λ made. (x : ℚ) (values rates : List ℚ) → IsValue x theta.now → IsOver values value → IsOver rates rate → IsOver (list_along x values rates) made) }
+    ensures { IfOk result
+        (λ made. (x : ℚ) (values rates : List ℚ) → IsValue x theta.now → IsOver values value →
+        IsOver rates rate → IsOver (list_along x values rates) made) }
 {
     let made = along(alloc, theta, &value, &rate)?;
     Ok(made)
@@ -96,7 +102,9 @@ fn last_numbers(
     rate: Column,
 ) -> Result<Spread, AllocError>
     requires { length value.tops.items ≡ length rate.tops.items }
-    ensures { IfOk result (λ made. (x : ℚ) (values rates : List ℚ) → IsValue x theta.now → IsOver values value → IsOver rates rate → IsSpread (list_along x values rates) x made) }
+    ensures { IfOk result
+        (λ made. (x : ℚ) (values rates : List ℚ) → IsValue x theta.now → IsOver values value →
+        IsOver rates rate → IsSpread (list_along x values rates) x made) }
 {
     let column = joined(alloc, theta, value, rate)?;
     let made = spread_by(alloc, theta, &column)?;
@@ -106,7 +114,9 @@ fn last_numbers(
 // The point and the prices at theta, of lines that are let go.
 fn last_end(alloc: Global, theta: &Value, lines: Lines) -> Result<End, AllocError>
     requires lines { (p : LinearProgram) × AreLinesOf p lines }
-    ensures { IfOk result (λ end. (x : ℚ) (columns : ColumnsView) → IsValue x theta.now → AreOver columns lines → IsEnd (points_at x columns) x end) }
+    ensures { IfOk result
+        (λ end. (x : ℚ) (columns : ColumnsView) → IsValue x theta.now → AreOver columns lines →
+        IsEnd (points_at x columns) x end) }
 {
     let Lines {
         value,
@@ -132,8 +142,11 @@ fn ends_hold(
     requires lines { AreLinesOf at.now.lp.now lines }
     requires from { IsNumber from.now }
     requires to { IsNumber to.now }
-    ensures { IfOk result (λ holds. (sheet : Views) (changing : Changing) (first last : ℚ) (columns : ColumnsView) → IsFamily sheet changing at.now.lp.now at.now.change →
-        AreCounted sheet.lp columns → IsValue first from.now → IsValue last to.now → AreOver columns lines → Answers holds (ends_verdict sheet changing first last columns)) }
+    ensures { IfOk result
+        (λ holds. (sheet : Views) (changing : Changing) (first last : ℚ) (columns : ColumnsView) →
+        IsFamily sheet changing at.now.lp.now at.now.change →
+        AreCounted sheet.lp columns → IsValue first from.now → IsValue last to.now →
+        AreOver columns lines → Answers holds (ends_verdict sheet changing first last columns)) }
 {
     let start = end_at(alloc, from, &lines)?;
     let begins = optimal(alloc, at, &start.point, &start.prices)?;
@@ -162,7 +175,10 @@ fn interval_holds(
 ) -> Result<bool, AllocError>
     requires asked { IsAskedOf sheet request.now }
     requires counted { AreCounted sheet.lp.now part.now.columns }
-    ensures { IfOk result (λ holds. Answers holds (part_verdict checker_of_any_length (sheet_view sheet.entry) (changing_of request.now.name request.now.change)
+    ensures { IfOk result
+        (λ holds. Answers holds
+        (part_verdict checker_of_any_length (sheet_view sheet.entry)
+        (changing_of request.now.name request.now.change)
         from.now part.now.to part.now.columns is_first request.now.to)) }
 {
     let at = ProgramAt {
@@ -192,7 +208,9 @@ pub fn test_interval(
 ) -> Result<(), Stop>
     requires asked { IsAskedOf sheet request.now }
     requires counted { AreCounted sheet.lp.now part.now.columns }
-    ensures { Judges (part_verdict checker_of_any_length (sheet_view sheet.entry) (changing_of request.now.name request.now.change) from.now
+    ensures { Judges
+        (part_verdict checker_of_any_length (sheet_view sheet.entry)
+        (changing_of request.now.name request.now.change) from.now
         part.now.to part.now.columns is_first request.now.to) result }
 {
     match interval_holds(alloc, sheet, request, is_first, from, part) {

@@ -39,9 +39,15 @@ fn best_holds(
 ) -> Result<bool, AllocError>
     requires places { length point.now.column.tops.items ≡ size lp.now.matrix }
     requires price_places { length prices.now.column.tops.items ≡ size lp.now.matrix }
-    ensures { IfOk result (λ holds. (problem : Problem ℕ) → (values costs : List ℚ) → IsSpread values (own_theta lp.now) point.now → IsSpread costs (own_theta lp.now) prices.now →
-        IsTrue keeps ↔ AllHold (equations lp.now 1 (value_at values)) → IsTrue priced ↔ AllHold (reduced_costs lp.now (value_at costs)) →
-        Answers holds (best_test checker_of_any_length (record { problem = problem; lp = lp.now }) mark (value_at values) (value_at costs))) }
+    ensures { IfOk result
+        (λ holds. (problem : Problem ℕ) → (values costs : List ℚ) →
+        IsSpread values (own_theta lp.now) point.now →
+        IsSpread costs (own_theta lp.now) prices.now →
+        IsTrue keeps ↔ AllHold (equations lp.now 1 (value_at values)) →
+        IsTrue priced ↔ AllHold (reduced_costs lp.now (value_at costs)) →
+        Answers holds
+        (best_test checker_of_any_length (record { problem = problem; lp = lp.now }) mark
+        (value_at values) (value_at costs))) }
 {
     match mark {
         Mark::Optimal => {
@@ -68,8 +74,13 @@ fn values_hold(
     requires places { length point.now.column.tops.items ≡ size lp.now.matrix }
     requires price_places { length prices.now.column.tops.items ≡ size lp.now.matrix }
     requires slack_places { length slacks.now ≡ lp.now.matrix.rows }
-    ensures { IfOk result (λ holds. (problem : Problem ℕ) → (values costs : List ℚ) → IsSpread values (own_theta lp.now) point.now → IsSpread costs (own_theta lp.now) prices.now →
-        Answers holds (printed_test checker_of_any_length (record { problem = problem; lp = lp.now }) mark (value_at values) (value_at costs) (value_at slacks.now))) }
+    ensures { IfOk result
+        (λ holds. (problem : Problem ℕ) → (values costs : List ℚ) →
+        IsSpread values (own_theta lp.now) point.now →
+        IsSpread costs (own_theta lp.now) prices.now →
+        Answers holds
+        (printed_test checker_of_any_length (record { problem = problem; lp = lp.now }) mark
+        (value_at values) (value_at costs) (value_at slacks.now))) }
 {
     let at = as_it_is(lp);
     let keeps = equations_hold(alloc, lp, &point.column)?;
@@ -90,7 +101,9 @@ fn printed_holds(
 ) -> Result<bool, AllocError>
     requires { Counted lp.now printed.now }
     ensures { IfOk result (λ holds. (problem : Problem ℕ) →
-        Answers holds (printed_test checker_of_any_length (record { problem = problem; lp = lp.now }) mark (value_at printed.now.point.items)
+        Answers holds
+        (printed_test checker_of_any_length (record { problem = problem; lp = lp.now }) mark
+        (value_at printed.now.point.items)
         (value_at printed.now.prices.items) (value_at printed.now.slacks.items))) }
 {
     let point_column = column_of(alloc, &printed.point)?;
@@ -110,7 +123,9 @@ pub fn test_solution(
 ) -> Result<(), Stop>
     requires lawful { IsLinearProgram sheet.lp.now }
     requires counted { Counted sheet.lp.now printed.now }
-    ensures { Judges (printed_test checker_of_any_length (sheet_view sheet.entry) mark (value_at printed.now.point.items)
+    ensures { Judges
+        (printed_test checker_of_any_length (sheet_view sheet.entry) mark
+        (value_at printed.now.point.items)
         (value_at printed.now.prices.items) (value_at printed.now.slacks.items)) result }
 {
     let lp = sheet.lp;

@@ -52,7 +52,8 @@ each : {X : Type 0} (test : X → Bool) (P : X → Type 0) → ((x : X) → test
 each test P tells [] e = λ i d below. absurd (omega arith)
 each test P tells (x ∷ xs) e = let h = and_parts (test x) (list_all test xs) e in All-cons P x xs (tells x h.0) (each test P tells xs h.1)
 
-each_by_recursion : {X : Type 0} (test : X → Bool) (P : X → Type 0) → ((x : X) → test x ≡ true → P x) → (xs : List X) → list_all test xs ≡ true → AllByRecursion P xs
+each_by_recursion : {X : Type 0} (test : X → Bool) (P : X → Type 0) → ((x : X) → test x ≡ true → P x) → (xs : List X) → list_all test xs ≡ true →
+    AllByRecursion P xs
 each_by_recursion test P tells [] e = tt
 each_by_recursion test P tells (x ∷ xs) e = let h = and_parts (test x) (list_all test xs) e in (tells x h.0, each_by_recursion test P tells xs h.1)
 
@@ -90,8 +91,12 @@ matrix a e =
     let j = and_parts counted on_rows i.0 in
     record {
       columns_counted = equal (length a.columns) a.cols j.0;
-      on_rows = each (λ c. list_all (λ (e : Entry). is_row a e.row) c) (All (λ e. IsRow a e.row)) (λ c. each (λ (e : Entry). is_row a e.row) (λ e. IsRow a e.row) (λ e. row a e.row) c) a.columns j.1;
-      distinct = each (λ c. is_distinct (map (λ (e : Entry). e.row) c)) (λ c. IsDistinct nat_eq (map (λ (e : Entry). e.row) c)) (λ c. distinct (map (λ (e : Entry). e.row) c)) a.columns i.1;
+      on_rows =
+          each (λ c. list_all (λ (e : Entry). is_row a e.row) c) (All (λ e. IsRow a e.row))
+          (λ c. each (λ (e : Entry). is_row a e.row) (λ e. IsRow a e.row) (λ e. row a e.row) c) a.columns j.1;
+      distinct =
+          each (λ c. is_distinct (map (λ (e : Entry). e.row) c)) (λ c. IsDistinct nat_eq (map (λ (e : Entry). e.row) c))
+          (λ c. distinct (map (λ (e : Entry). e.row) c)) a.columns i.1;
       small = below (size a) (2 ^ 32) h.1;
     }
 

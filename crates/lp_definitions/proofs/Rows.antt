@@ -79,7 +79,8 @@ testprob_certificate : IsDualCertificate testprob (value_at testprob_point) (val
 unfolding sum_to ◌+ℚ◌ ◌*ℚ◌ fraction whole gcd neg_ℚ
 testprob_certificate = record { reduced = reduced; at_lower = at_lower; at_upper = at_upper }
   where
-    reduced : (j : ℕ) → IsColumn testprob.matrix j → value_at testprob_prices (4 + j) ≡ cost testprob j -ℚ sum_up_to 4 (λ i. value_at testprob_prices i *ℚ entry testprob.matrix i j)
+    reduced : (j : ℕ) → IsColumn testprob.matrix j →
+        value_at testprob_prices (4 + j) ≡ cost testprob j -ℚ sum_up_to 4 (λ i. value_at testprob_prices i *ℚ entry testprob.matrix i j)
     reduced zero is = absurd (omega (arith, is.0))
     reduced (suc zero) is = same_parts _ _ refl refl
     reduced (suc (suc zero)) is = same_parts _ _ refl refl
@@ -164,7 +165,8 @@ crossed = record {
 
 crossed_at_2 : IsCrossed crossed 2
 unfolding sum_to ◌+ℚ◌ ◌*ℚ◌ fraction whole gcd neg_ℚ
-crossed_at_2 = record { is_variable = (omega arith, omega arith); low = zero_ℚ; high = whole (negsuc 0); lower = refl; upper = refl; crossed = record { below = refl } }
+crossed_at_2 =
+    record { is_variable = (omega arith, omega arith); low = zero_ℚ; high = whole (negsuc 0); lower = refl; upper = refl; crossed = record { below = refl } }
 
 -- ---- a column of cost -1 without an upper limit
 
@@ -181,7 +183,8 @@ falling = record {
 
 falling_is_unbounded : ProvesUnbounded falling (value_at (zero_ℚ ∷ zero_ℚ ∷ [])) (value_at (whole (negsuc 0) ∷ whole (pos 1) ∷ []))
 unfolding sum_to ◌+ℚ◌ ◌*ℚ◌ fraction whole gcd neg_ℚ
-falling_is_unbounded = record { feasible = record { keeps = at_zero; within = within }; keeps = along; falls = falls; rises = rises; improves = record { below = refl } }
+falling_is_unbounded =
+    record { feasible = record { keeps = at_zero; within = within }; keeps = along; falls = falls; rises = rises; improves = record { below = refl } }
   where
     at_zero : KeepsEquations falling.matrix (value_at (zero_ℚ ∷ zero_ℚ ∷ []))
     at_zero zero row = absurd (omega (arith, row.0))
@@ -224,23 +227,28 @@ greatest = record {
   sense = Max;
 }
 
-greatest_certificate : IsDualCertificate greatest (value_at (whole (pos 12) ∷ whole (pos 4) ∷ whole (pos 4) ∷ [])) (value_at (zero_ℚ ∷ whole (pos 3) ∷ zero_ℚ ∷ []))
+greatest_certificate : IsDualCertificate greatest (value_at (whole (pos 12) ∷ whole (pos 4) ∷ whole (pos 4) ∷ []))
+    (value_at (zero_ℚ ∷ whole (pos 3) ∷ zero_ℚ ∷ []))
 unfolding sum_to ◌+ℚ◌ ◌*ℚ◌ fraction whole gcd neg_ℚ
 greatest_certificate = record { reduced = reduced; at_lower = at_lower; at_upper = at_upper }
   where
-    reduced : (j : ℕ) → IsColumn greatest.matrix j → value_at (zero_ℚ ∷ whole (pos 3) ∷ zero_ℚ ∷ []) (2 + j) ≡ cost greatest j -ℚ sum_up_to 2 (λ i. value_at (zero_ℚ ∷ whole (pos 3) ∷ zero_ℚ ∷ []) i *ℚ entry greatest.matrix i j)
+    reduced : (j : ℕ) → IsColumn greatest.matrix j →
+        value_at (zero_ℚ ∷ whole (pos 3) ∷ zero_ℚ ∷ []) (2 + j) ≡ cost greatest j -ℚ sum_up_to 2
+        (λ i. value_at (zero_ℚ ∷ whole (pos 3) ∷ zero_ℚ ∷ []) i *ℚ entry greatest.matrix i j)
     reduced zero is = absurd (omega (arith, is.0))
     reduced (suc zero) is = same_parts _ _ refl refl
     reduced (suc (suc j)) is = absurd (omega (arith, is.1))
 
-    at_lower : (k : ℕ) → IsVariable greatest.matrix k → zero_ℚ <ℚ neg_ℚ (value_at (zero_ℚ ∷ whole (pos 3) ∷ zero_ℚ ∷ []) k) → lower_of greatest k ≡ Some (value_at (whole (pos 12) ∷ whole (pos 4) ∷ whole (pos 4) ∷ []) k)
+    at_lower : (k : ℕ) → IsVariable greatest.matrix k → zero_ℚ <ℚ neg_ℚ (value_at (zero_ℚ ∷ whole (pos 3) ∷ zero_ℚ ∷ []) k) →
+        lower_of greatest k ≡ Some (value_at (whole (pos 12) ∷ whole (pos 4) ∷ whole (pos 4) ∷ []) k)
     at_lower zero is h = absurd (omega (arith, is.0))
     at_lower (suc zero) is h = absurd (never h.below)
     at_lower (suc (suc zero)) is h = absurd (never h.below)
     at_lower (suc (suc (suc zero))) is h = absurd (never h.below)
     at_lower (suc (suc (suc (suc k)))) is h = absurd (omega (arith, is.1))
 
-    at_upper : (k : ℕ) → IsVariable greatest.matrix k → neg_ℚ (value_at (zero_ℚ ∷ whole (pos 3) ∷ zero_ℚ ∷ []) k) <ℚ zero_ℚ → upper_of greatest k ≡ Some (value_at (whole (pos 12) ∷ whole (pos 4) ∷ whole (pos 4) ∷ []) k)
+    at_upper : (k : ℕ) → IsVariable greatest.matrix k → neg_ℚ (value_at (zero_ℚ ∷ whole (pos 3) ∷ zero_ℚ ∷ []) k) <ℚ zero_ℚ →
+        upper_of greatest k ≡ Some (value_at (whole (pos 12) ∷ whole (pos 4) ∷ whole (pos 4) ∷ []) k)
     at_upper zero is h = absurd (omega (arith, is.0))
     at_upper (suc zero) is h = absurd (never h.below)
     at_upper (suc (suc zero)) is h = refl
@@ -251,7 +259,13 @@ greatest_certificate = record { reduced = reduced; at_lower = at_lower; at_upper
 
 abbrev changing : LinearProgram
 changing = record {
-  matrix = record { rows = 3; cols = 2; columns = (on 1 (whole (negsuc 0)) ∷ on 2 (whole (negsuc 0)) ∷ on 3 (whole (pos 1)) ∷ []) ∷ (on 1 (whole (negsuc 1)) ∷ on 3 (whole (pos 1)) ∷ []) ∷ [] };
+  matrix =
+      record {
+        rows = 3;
+        cols = 2;
+        columns = (on 1 (whole (negsuc 0)) ∷ on 2 (whole (negsuc 0)) ∷ on 3 (whole (pos 1)) ∷ []) ∷
+            (on 1 (whole (negsuc 1)) ∷ on 3 (whole (pos 1)) ∷ []) ∷ [];
+      };
   lower = None ∷ None ∷ None ∷ Some zero_ℚ ∷ Some zero_ℚ ∷ [];
   upper = None ∷ None ∷ Some (whole (pos 4)) ∷ Some (whole (pos 3)) ∷ None ∷ [];
   rhs = zero_ℚ ∷ zero_ℚ ∷ whole (pos 4) ∷ [];
@@ -270,7 +284,8 @@ unfolding sum_to ◌+ℚ◌ ◌*ℚ◌ fraction whole gcd neg_ℚ
 second_cost = same_parts _ _ refl refl
 
 -- at x = 3 and y = 1 the objective is -5 and the change row -3
-changed_objective : objective_value changing (value_at (whole (negsuc 4) ∷ whole (negsuc 2) ∷ whole (pos 4) ∷ whole (pos 3) ∷ whole (pos 1) ∷ [])) ≡ whole (negsuc 13)
+changed_objective : objective_value changing (value_at (whole (negsuc 4) ∷ whole (negsuc 2) ∷ whole (pos 4) ∷ whole (pos 3) ∷ whole (pos 1) ∷ [])) ≡ whole
+    (negsuc 13)
 unfolding sum_to ◌+ℚ◌ ◌*ℚ◌ fraction whole gcd neg_ℚ
 changed_objective = same_parts _ _ refl refl
 

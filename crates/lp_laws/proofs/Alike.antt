@@ -8,7 +8,8 @@ use Rattle.lp_definitions.specs.declared.Status.{Status}
 use Rattle.lp_definitions.specs.declared.Status.TheVariants.{Bs, Ll, Ul, Fr}
 use Rattle.lp_laws.proofs.Equations.{KeepsEquations-same}
 
-pub direction_same : (a : Matrix) (b : Basics) (j : ℕ) (d e : Vector) → IsVariable a j → ((k : ℕ) → IsVariable a k → e k ≡ d k) → IsDirectionOf a b j d → IsDirectionOf a b j e
+pub direction_same : (a : Matrix) (b : Basics) (j : ℕ) (d e : Vector) → IsVariable a j → ((k : ℕ) → IsVariable a k → e k ≡ d k) → IsDirectionOf a b j d →
+    IsDirectionOf a b j e
 direction_same a b j d e var same is = record {
   keeps = KeepsEquations-same a d e (λ k is_var. sym (same k is_var)) is.keeps;
   own = same j var ∙ is.own;

@@ -20,7 +20,9 @@ module _ (a : Matrix) (b : Basics) (rate : ℕ → ℕ → ℚ) (are : AreRates 
   -- the part of a row's equation that one variable has
   part : (v : Vector) (i : ℕ) → IsRow a i → (j : ℕ) → IsVariable a j → (mark : Bool) → is_in b j ≡ mark
       → cond mark zero_ℚ (v j) *ℚ rate i j ≡ sum_to a.cols (λ c. entry a i (suc c) *ℚ (cond mark zero_ℚ (v j) *ℚ rate (a.rows + suc c) j))
-  part v i row j var true mark = zero-mul (rate i j) ∙ sym (sum_to-zero a.cols _ (λ c _. ap (λ y. entry a i (suc c) *ℚ y) (zero-mul (rate (a.rows + suc c) j)) ∙ mul-zero (entry a i (suc c))))
+  part v i row j var true mark =
+      zero-mul (rate i j)
+      ∙ sym (sum_to-zero a.cols _ (λ c _. ap (λ y. entry a i (suc c) *ℚ y) (zero-mul (rate (a.rows + suc c) j)) ∙ mul-zero (entry a i (suc c))))
   part v i row j var false mark =
       ap (λ x. v j *ℚ x) ((are j (var, mark)).keeps i row)
       ∙ sym (sum_to-mul_left a.cols (v j) (λ c. entry a i (suc c) *ℚ rate (a.rows + suc c) j))
@@ -36,13 +38,15 @@ module _ (a : Matrix) (b : Basics) (rate : ℕ → ℕ → ℚ) (are : AreRates 
   pub combination_at : (v : Vector) (k : ℕ) → IsNonbasic a b k → combination a b rate v k ≡ v k
   combination_at v zero out = absurd (omega (arith, out.0.0))
   combination_at v (suc k) out =
-      sum_to-only (size a) k (λ j. weight b v (suc j) *ℚ rate (suc k) (suc j)) (omega (arith, out.0.1)) (λ j below other. apart j below other (is_in b (suc j)) refl)
+      sum_to-only (size a) k (λ j. weight b v (suc j) *ℚ rate (suc k) (suc j)) (omega (arith, out.0.1))
+      (λ j below other. apart j below other (is_in b (suc j)) refl)
       ∙ rw out.1 (ap (λ x. v (suc k) *ℚ x) (are (suc k) out).own ∙ mul-one (v (suc k)))
     where
       apart : (j : ℕ) → j < size a → j ≢ k → (mark : Bool) → is_in b (suc j) ≡ mark → cond mark zero_ℚ (v (suc j)) *ℚ rate (suc k) (suc j) ≡ zero_ℚ
       apart j below other true mark = zero-mul (rate (suc k) (suc j))
       apart j below other false mark =
-          ap (λ x. v (suc j) *ℚ x) ((are (suc j) ((omega arith, omega (arith, below)), mark)).others (suc k) out (λ e. other (omega (arith, e)))) ∙ mul-zero (v (suc j))
+          ap (λ x. v (suc j) *ℚ x) ((are (suc j) ((omega arith, omega (arith, below)), mark)).others (suc k) out (λ e. other (omega (arith, e))))
+          ∙ mul-zero (v (suc j))
 
   module _ (one : IsNonsingular a b) where
     -- each value of a vector that keeps the equations is the sum of the rates, each times the value of its nonbasic
@@ -86,13 +90,16 @@ module _ (a : Matrix) (b : Basics) (rate : ℕ → ℕ → ℚ) (are : AreRates 
 
         own : sum_to (size a) (λ k. if nat_eq (suc k) (suc r) then x (suc k) else zero_ℚ) ≡ x (suc r)
         own =
-            sum_to-only (size a) r (λ k. if nat_eq (suc k) (suc r) then x (suc k) else zero_ℚ) (omega (arith, basic.0.1)) (λ k below other. ap (λ t. cond t (x (suc k)) zero_ℚ) (elsewhere k other))
+            sum_to-only (size a) r (λ k. if nat_eq (suc k) (suc r) then x (suc k) else zero_ℚ) (omega (arith, basic.0.1))
+            (λ k below other. ap (λ t. cond t (x (suc k)) zero_ℚ) (elsewhere k other))
             ∙ ap (λ t. cond t (x (suc r)) zero_ℚ) at_own
 
     -- so they vanish on each column
     pub multiplier_on_column : (r : ℕ) → IsBasic a b r → (j : ℕ) → IsColumn a j → column_value a (multiplier b rate r) j ≡ zero_ℚ
-    multiplier_on_column r basic j is = sym (functional_at_unit a (multiplier b rate r) j is) ∙ multiplier_vanishes r basic (unit a j) (KeepsEquations-unit a j is)
+    multiplier_on_column r basic j is =
+        sym (functional_at_unit a (multiplier b rate r) j is) ∙ multiplier_vanishes r basic (unit a j) (KeepsEquations-unit a j is)
 
 -- a vector that has, at each variable, the sum of the rates times the values of its nonbasics keeps the equations
-pub KeepsEquations-from_nonbasics : (a : Matrix) (b : Basics) (rate : ℕ → ℕ → ℚ) → AreRates a b rate → (x : Vector) → ((i : ℕ) → IsVariable a i → x i ≡ combination a b rate x i) → KeepsEquations a x
+pub KeepsEquations-from_nonbasics : (a : Matrix) (b : Basics) (rate : ℕ → ℕ → ℚ) → AreRates a b rate → (x : Vector) →
+    ((i : ℕ) → IsVariable a i → x i ≡ combination a b rate x i) → KeepsEquations a x
 KeepsEquations-from_nonbasics a b rate are x is = KeepsEquations-same a (combination a b rate x) x (λ k var. sym (is k var)) (combination_keeps a b rate are x)

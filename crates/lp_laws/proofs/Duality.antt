@@ -48,7 +48,8 @@ least_at_limit v x u low high at_lower at_upper above below = by_sign (lt_or_le 
     by_sign : (v <ℚ zero_ℚ) ⊎ (zero_ℚ ≤ℚ v) → (zero_ℚ <ℚ v) ⊎ (v ≤ℚ zero_ℚ) → v *ℚ x ≤ℚ v *ℚ u
     by_sign (inl negative) _ = mul-le-mul_negative (le_of_lt negative) (high_met (at_upper negative))
     by_sign _ (inl positive) = mul-le-mul_left (le_of_lt positive) (low_met (at_lower positive))
-    by_sign (inr some) (inr none) = let none : v ≡ zero_ℚ = le_antisymm none some in le_of_eq (ap (λ s. s *ℚ x) none ∙ zero-mul x ∙ sym (zero-mul u) ∙ ap (λ s. s *ℚ u) (sym none))
+    by_sign (inr some) (inr none) =
+        let none : v ≡ zero_ℚ = le_antisymm none some in le_of_eq (ap (λ s. s *ℚ x) none ∙ zero-mul x ∙ sym (zero-mul u) ∙ ap (λ s. s *ℚ u) (sym none))
 
 -- a functional, as it counts where less is better
 for_min-functional : (s : Sense) (a : Matrix) (y x : Vector) → for_min s (functional a y x) ≡ functional a (λ k. for_min s (y k)) x
@@ -62,7 +63,8 @@ pub best_by_prices : (p : LinearProgram) → IsLinearProgram p → (z y : Vector
 best_by_prices p lawful z y feasible certificate = record { feasible = feasible; unimproved = unimproved }
   where
     worth : (x : Vector) → KeepsEquations p.matrix x → functional p.matrix (λ k. for_min p.sense (y k)) x ≡ for_min p.sense (objective_value p x)
-    worth x keeps = sym (for_min-functional p.sense p.matrix y x) ∙ ap (for_min p.sense) (objective_by_prices p lawful y (priced_by_certificate p z y certificate) x keeps)
+    worth x keeps =
+        sym (for_min-functional p.sense p.matrix y x) ∙ ap (for_min p.sense) (objective_by_prices p lawful y (priced_by_certificate p z y certificate) x keeps)
 
     unimproved : (w : Vector) → IsFeasible p w → for_min p.sense (objective_value p z) ≤ℚ for_min p.sense (objective_value p w)
     unimproved w other =
@@ -111,14 +113,16 @@ most_at_limit w x low high test is meets_upper meets_lower above below = by_sign
     at_zero : (u : ℚ) → w ≡ zero_ℚ → w *ℚ x ≤ℚ w *ℚ u
     at_zero u none = le_of_eq (ap (λ s. s *ℚ x) none ∙ zero-mul x ∙ sym (zero-mul u) ∙ ap (λ s. s *ℚ u) (sym none))
 
-    by_sign : (test : Bool) → lt_ℚ zero_ℚ w ≡ test → (zero_ℚ <ℚ w) ⊎ (w ≤ℚ zero_ℚ) → (w <ℚ zero_ℚ) ⊎ (zero_ℚ ≤ℚ w) → w *ℚ x ≤ℚ w *ℚ unwrap_or (cond test high low) zero_ℚ
+    by_sign : (test : Bool) → lt_ℚ zero_ℚ w ≡ test → (zero_ℚ <ℚ w) ⊎ (w ≤ℚ zero_ℚ) → (w <ℚ zero_ℚ) ⊎ (zero_ℚ ≤ℚ w) →
+        w *ℚ x ≤ℚ w *ℚ unwrap_or (cond test high low) zero_ℚ
     by_sign true is _ _ = let positive : zero_ℚ <ℚ w = below_of_test is in at_high high positive (meets_upper positive) below
     by_sign false is (inl positive) _ = absurd (clash (sym (test_of_below positive) ∙ is))
     by_sign false is (inr none) (inl negative) = at_low low negative (meets_lower negative) above
     by_sign false is (inr none) (inr some) = at_zero (unwrap_or low zero_ℚ) (le_antisymm none some)
 
 -- a functional that counts each column at nothing values each vector that keeps the equations at nothing
-pub vanishes_by_columns : (a : Matrix) (w : Vector) → ((j : ℕ) → IsColumn a j → column_value a w j ≡ zero_ℚ) → (x : Vector) → KeepsEquations a x → functional a w x ≡ zero_ℚ
+pub vanishes_by_columns : (a : Matrix) (w : Vector) → ((j : ℕ) → IsColumn a j → column_value a w j ≡ zero_ℚ) → (x : Vector) → KeepsEquations a x →
+    functional a w x ≡ zero_ℚ
 vanishes_by_columns a w vanishes x keeps =
     functional_by_columns a w x keeps
     ∙ sum_to-zero a.cols _ (λ j below. ap (λ s. s *ℚ x (a.rows + suc j)) (vanishes (suc j) (omega arith, omega (arith, below))) ∙ zero-mul (x (a.rows + suc j)))
@@ -126,7 +130,8 @@ vanishes_by_columns a w vanishes x keeps =
 pub infeasible_by_ray : (p : LinearProgram) (w : Vector) → IsRay p w → IsInfeasible p
 infeasible_by_ray p w ray z feasible =
     lt_irrefl (lt_of_le_of_lt
-    (subst (λ s. s ≤ℚ sum_to (size p.matrix) (λ k. w (suc k) *ℚ unwrap_or (limit_against p w (suc k)) zero_ℚ)) (vanishes_by_columns p.matrix w ray.vanishes z feasible.keeps)
+    (subst (λ s. s ≤ℚ sum_to (size p.matrix) (λ k. w (suc k) *ℚ unwrap_or (limit_against p w (suc k)) zero_ℚ))
+    (vanishes_by_columns p.matrix w ray.vanishes z feasible.keeps)
     (sum_to-le (size p.matrix) _ _ (λ k below.
     let is : IsVariable p.matrix (suc k) = (omega arith, omega (arith, below)) in
     most_at_limit (w (suc k)) (z (suc k)) (lower_of p (suc k)) (upper_of p (suc k)) (lt_ℚ zero_ℚ (w (suc k))) refl
@@ -144,7 +149,8 @@ pub for_min-along : (p : LinearProgram) (z : Vector) (t : ℚ) (d : Vector)
     → for_min p.sense (objective_value p (along z t d)) ≡ for_min p.sense (objective_value p z) +ℚ t *ℚ for_min p.sense (objective_value p d)
 for_min-along p z t d = turned p.sense (objective_value p z) (objective_value p d) (objective_value p (along z t d)) (at p.change)
   where
-    at : (c : Option Change) → with_change_row c (along z t d) (along z t d p.objective) ≡ with_change_row c z (z p.objective) +ℚ t *ℚ with_change_row c d (d p.objective)
+    at : (c : Option Change) →
+        with_change_row c (along z t d) (along z t d p.objective) ≡ with_change_row c z (z p.objective) +ℚ t *ℚ with_change_row c d (d p.objective)
     at None = refl
     at (Some c) =
         by_normal (z p.objective ∷ t ∷ d p.objective ∷ c.theta ∷ z c.row ∷ d c.row ∷ [])
@@ -162,15 +168,19 @@ pub along_within : (p : LinearProgram) (z : Vector) (t : ℚ) (d : Vector) → z
 along_within p z t d some falls rises within k is =
     (above (lower_of p k) (falls k is) (lt_or_le (d k) zero_ℚ) (within k is).0, below (upper_of p k) (rises k is) (lt_or_le zero_ℚ (d k)) (within k is).1)
   where
-    above : (low : Option ℚ) → (d k <ℚ zero_ℚ → low ≡ None) → (d k <ℚ zero_ℚ) ⊎ (zero_ℚ ≤ℚ d k) → IfSome low (λ l. l ≤ℚ z k) → IfSome low (λ l. l ≤ℚ z k +ℚ t *ℚ d k)
+    above : (low : Option ℚ) → (d k <ℚ zero_ℚ → low ≡ None) → (d k <ℚ zero_ℚ) ⊎ (zero_ℚ ≤ℚ d k) → IfSome low (λ l. l ≤ℚ z k) →
+        IfSome low (λ l. l ≤ℚ z k +ℚ t *ℚ d k)
     above None none sign before = tt
     above (Some l) none (inl negative) before = absurd (let P : Some l ≡ None → ⊥ = λ e. cc in P (none negative))
-    above (Some l) none (inr rising) before = le_trans before (le_by_product some rising (by_ring3 (z k) t (d k) (λ x t d. x ⊕ t ⊗ d ≐ x ⊕ (t ⊖ number (pos 0)) ⊗ (d ⊖ number (pos 0))) refl))
+    above (Some l) none (inr rising) before =
+        le_trans before (le_by_product some rising (by_ring3 (z k) t (d k) (λ x t d. x ⊕ t ⊗ d ≐ x ⊕ (t ⊖ number (pos 0)) ⊗ (d ⊖ number (pos 0))) refl))
 
-    below : (high : Option ℚ) → (zero_ℚ <ℚ d k → high ≡ None) → (zero_ℚ <ℚ d k) ⊎ (d k ≤ℚ zero_ℚ) → IfSome high (λ u. z k ≤ℚ u) → IfSome high (λ u. z k +ℚ t *ℚ d k ≤ℚ u)
+    below : (high : Option ℚ) → (zero_ℚ <ℚ d k → high ≡ None) → (zero_ℚ <ℚ d k) ⊎ (d k ≤ℚ zero_ℚ) → IfSome high (λ u. z k ≤ℚ u) →
+        IfSome high (λ u. z k +ℚ t *ℚ d k ≤ℚ u)
     below None none sign before = tt
     below (Some u) none (inl positive) before = absurd (let P : Some u ≡ None → ⊥ = λ e. cc in P (none positive))
-    below (Some u) none (inr falling) before = le_trans (le_by_product some falling (by_ring3 (z k) t (d k) (λ x t d. x ≐ x ⊕ t ⊗ d ⊕ (t ⊖ number (pos 0)) ⊗ (number (pos 0) ⊖ d)) refl)) before
+    below (Some u) none (inr falling) before =
+        le_trans (le_by_product some falling (by_ring3 (z k) t (d k) (λ x t d. x ≐ x ⊕ t ⊗ d ⊕ (t ⊖ number (pos 0)) ⊗ (number (pos 0) ⊖ d)) refl)) before
 
 -- from each feasible vector the direction leads to a better one, at the length 1
 pub improved_by_direction : (p : LinearProgram) (z d w : Vector) → ProvesUnbounded p z d → IsFeasible p w → IsBettered p w (along w one_ℚ d)
@@ -187,4 +197,5 @@ improved_by_direction p z d w proof feasible = record {
     worth x = for_min p.sense (objective_value p x)
 
 pub unbounded_by_direction : (p : LinearProgram) (z d : Vector) → ProvesUnbounded p z d → IsUnbounded p
-unbounded_by_direction p z d proof = record { point = z; feasible = proof.feasible; improved = λ w feasible. (along w one_ℚ d, improved_by_direction p z d w proof feasible) }
+unbounded_by_direction p z d proof =
+    record { point = z; feasible = proof.feasible; improved = λ w feasible. (along w one_ℚ d, improved_by_direction p z d w proof feasible) }

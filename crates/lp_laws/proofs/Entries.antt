@@ -37,7 +37,8 @@ sum_over_rows f m [] on apart = sum_to-zero m _ (λ i _. mul-zero (f (suc i)))
 sum_over_rows f m (e ∷ es) on apart =
     sum_to-same m _ _ (λ i below. split i (ℕ_discrete e.row (suc i)))
     ∙ sum_to-add m (λ i. only i) (λ i. f (suc i) *ℚ on_row es (suc i))
-    ∙ ap₂ ◌+ℚ◌ own (sum_over_rows f m es (λ i d below. on (suc i) d (omega (arith, below))) (IsDistinct-tail nat_eq e.row (map (λ (e : Entry). e.row) es) apart))
+    ∙ ap₂ ◌+ℚ◌ own
+    (sum_over_rows f m es (λ i d below. on (suc i) d (omega (arith, below))) (IsDistinct-tail nat_eq e.row (map (λ (e : Entry). e.row) es) apart))
   where
     -- the first number, on its row alone
     only : ℕ → ℚ
@@ -46,7 +47,9 @@ sum_over_rows f m (e ∷ es) on apart =
     none_more : on_row es e.row ≡ zero_ℚ
     none_more = absent e.row es (IsDistinct-head nat_eq e.row (map (λ (e : Entry). e.row) es) apart)
 
-    split : (i : ℕ) → Dec (e.row ≡ suc i) → f (suc i) *ℚ cond (nat_eq e.row (suc i)) e.value (on_row es (suc i)) ≡ cond (nat_eq e.row (suc i)) (f (suc i) *ℚ e.value) zero_ℚ +ℚ f (suc i) *ℚ on_row es (suc i)
+    split : (i : ℕ) → Dec (e.row ≡ suc i) →
+        f (suc i) *ℚ cond (nat_eq e.row (suc i)) e.value (on_row es (suc i)) ≡ cond (nat_eq e.row (suc i)) (f (suc i) *ℚ e.value) zero_ℚ +ℚ f
+        (suc i) *ℚ on_row es (suc i)
     split i (yes same) =
         let is : nat_eq e.row (suc i) ≡ true = grind (arith, same) in
         let gone : on_row es (suc i) ≡ zero_ℚ = ap (on_row es) (sym same) ∙ none_more in
@@ -60,7 +63,8 @@ sum_over_rows f m (e ∷ es) on apart =
         at zero is row = absurd (omega (arith, is, row.0))
         at (suc k) is row =
             let here : nat_eq e.row (suc k) ≡ true = grind (arith, is) in
-            sum_to-only m k only (omega (arith, is, row.1)) (λ i below other. let gone : nat_eq e.row (suc i) ≡ false = grind (arith, is, other) in ap (λ t. cond t (f (suc i) *ℚ e.value) zero_ℚ) gone)
+            sum_to-only m k only (omega (arith, is, row.1))
+            (λ i below other. let gone : nat_eq e.row (suc i) ≡ false = grind (arith, is, other) in ap (λ t. cond t (f (suc i) *ℚ e.value) zero_ℚ) gone)
             ∙ ap (λ t. cond t (f (suc k) *ℚ e.value) zero_ℚ) here ∙ ap (λ i. f i *ℚ e.value) is
 
 module _ (a : Matrix) (lawful : IsMatrix a) where
@@ -74,4 +78,5 @@ module _ (a : Matrix) (lawful : IsMatrix a) where
   -- the numbers of a column, each times the multiplier of its row, added in order to what the sum began with
   pub sum_of_entries : (f : ℕ → ℚ) (start : ℚ) (j : ℕ) → IsColumn a j
       → sum_from start (map (λ (e : Entry). f e.row *ℚ e.value) (column a j)) ≡ start +ℚ sum_to a.rows (λ i. f (suc i) *ℚ entry a (suc i) j)
-  sum_of_entries f start j is = sum_from_is f start (column a j) ∙ ap (λ s. start +ℚ s) (sym (sum_over_rows f a.rows (column a j) (column_on_rows j is) (column_distinct j is)))
+  sum_of_entries f start j is =
+      sum_from_is f start (column a j) ∙ ap (λ s. start +ℚ s) (sym (sum_over_rows f a.rows (column a j) (column_on_rows j is) (column_distinct j is)))

@@ -20,7 +20,8 @@ abbrev large : ℚ
 large = whole (pos 999999999000000000000000000)
 
 abbrev steep : Matrix
-steep = record { rows = 2; cols = 1; columns = (record { row = 1; value = large } ∷ record { row = 2; value = fraction (pos 1) 10000000000000000000 } ∷ []) ∷ [] }
+steep =
+    record { rows = 2; cols = 1; columns = (record { row = 1; value = large } ∷ record { row = 2; value = fraction (pos 1) 10000000000000000000 } ∷ []) ∷ [] }
 
 abbrev viewed : Evidence
 viewed = record {
@@ -61,7 +62,11 @@ price_refused = record {
     is_waypoint = refl;
     nonsingular = IsNonsingular-row_basics steep;
     are_rates = AreRates-opening steep;
-    reaches = (IsNonsingular-exchanged steep (row_basics steep) 2 3 (λ i. opening_rate steep i 3) (IsNonsingular-row_basics steep) second_row the_column (AreRates-opening steep 3 the_column) not_zero, inr (inl (within_itself steep (exchanged (row_basics steep) 2 3))));
+    reaches = (
+      IsNonsingular-exchanged steep (row_basics steep) 2 3 (λ i. opening_rate steep i 3) (IsNonsingular-row_basics steep) second_row the_column
+          (AreRates-opening steep 3 the_column) not_zero,
+      inr (inl (within_itself steep (exchanged (row_basics steep) 2 3))),
+    );
     no_theta = refl;
   };
   formula = f5 2 3 1 (record { is_formula = refl; is_p = refl; is_q = refl; is_i = refl; is_j = refl; is_term = refl })

@@ -73,7 +73,8 @@ module _ (a : Matrix) (b : Basics) (counted : length b ≡ size a) (p q : ℕ) (
 
 -- ---- the vectors
 
-pub IsNonsingular-exchanged : (a : Matrix) (b : Basics) (p q : ℕ) (d : Vector) → IsNonsingular a b → IsBasic a b p → IsNonbasic a b q → IsDirectionOf a b q d → d p ≢ zero_ℚ → IsNonsingular a (exchanged b p q)
+pub IsNonsingular-exchanged : (a : Matrix) (b : Basics) (p q : ℕ) (d : Vector) → IsNonsingular a b → IsBasic a b p → IsNonbasic a b q → IsDirectionOf a b q d →
+    d p ≢ zero_ℚ → IsNonsingular a (exchanged b p q)
 IsNonsingular-exchanged a b p q d one leaves enters direction pivot = record {
   counted = length-exchanged a b one.counted p q leaves enters;
   m_basics = marked-exchanged a b one.counted p q leaves enters ∙ one.m_basics;
@@ -93,7 +94,8 @@ IsNonsingular-exchanged a b p q d one leaves enters direction pivot = record {
         at i nonbasic (inl same) = ap rest same.1 ∙ ap (λ x. z q -ℚ z q *ℚ x) direction.own ∙ ap (λ x. z q -ℚ x) (mul-one (z q)) ∙ sub-self (z q)
         at i nonbasic (inr other) =
             let other_p : i ≢ p = λ e. clash (sym leaves.1 ∙ ap (is_in b) (sym e) ∙ nonbasic.1) in
-            let still_out : IsNonbasic a (exchanged b p q) i = (nonbasic.0, others_stay a b one.counted p q leaves enters i nonbasic.0 other_p other.1 ∙ nonbasic.1) in
+            let still_out : IsNonbasic a (exchanged b p q) i =
+            (nonbasic.0, others_stay a b one.counted p q leaves enters i nonbasic.0 other_p other.1 ∙ nonbasic.1) in
             ap (λ x. x -ℚ z q *ℚ d i) (out i still_out) ∙ ap (λ x. zero_ℚ -ℚ z q *ℚ x) (direction.others i nonbasic other.1)
             ∙ ap (λ x. zero_ℚ -ℚ x) (mul-zero (z q)) ∙ sub-self zero_ℚ
 
@@ -105,7 +107,8 @@ IsNonsingular-exchanged a b p q d one leaves enters direction pivot = record {
 
 -- ---- the rates
 
-module _ (a : Matrix) (b : Basics) (counted : length b ≡ size a) (rate : ℕ → ℕ → ℚ) (are : AreRates a b rate) (p q : ℕ) (leaves : IsBasic a b p) (enters : IsNonbasic a b q) (pivot : rate p q ≢ zero_ℚ) where
+module _ (a : Matrix) (b : Basics) (counted : length b ≡ size a) (rate : ℕ → ℕ → ℚ) (are : AreRates a b rate) (p q : ℕ) (leaves : IsBasic a b p)
+    (enters : IsNonbasic a b q) (pivot : rate p q ≢ zero_ℚ) where
   before : (k : ℕ) → IsNonbasic a (exchanged b p q) k → k ≢ p → IsNonbasic a b k × (k ≢ q)
   before = was_nonbasic a b counted p q leaves enters
 
@@ -119,10 +122,14 @@ module _ (a : Matrix) (b : Basics) (counted : length b ≡ size a) (rate : ℕ �
   }
 
   -- and those of the other nonbasics
-  pub other_direction : (j : ℕ) → IsNonbasic a (exchanged b p q) j → j ≢ p → IsDirectionOf a (exchanged b p q) j (λ i. rate i j -ℚ (rate p j /ℚ rate p q) *ℚ rate i q)
+  pub other_direction : (j : ℕ) → IsNonbasic a (exchanged b p q) j → j ≢ p →
+      IsDirectionOf a (exchanged b p q) j (λ i. rate i j -ℚ (rate p j /ℚ rate p q) *ℚ rate i q)
   other_direction j out other = record {
-    keeps = KeepsEquations-sub a (λ i. rate i j) (λ i. factor *ℚ rate i q) (are j old.0).keeps (KeepsEquations-scale a factor (λ i. rate i q) (are q enters).keeps);
-    own = ap (λ x. x -ℚ factor *ℚ rate j q) (are j old.0).own ∙ ap (λ x. one_ℚ -ℚ factor *ℚ x) ((are q enters).others j old.0 old.1) ∙ ap (λ x. one_ℚ -ℚ x) (mul-zero factor) ∙ sub-zero one_ℚ;
+    keeps =
+        KeepsEquations-sub a (λ i. rate i j) (λ i. factor *ℚ rate i q) (are j old.0).keeps (KeepsEquations-scale a factor (λ i. rate i q) (are q enters).keeps);
+    own =
+        ap (λ x. x -ℚ factor *ℚ rate j q) (are j old.0).own ∙ ap (λ x. one_ℚ -ℚ factor *ℚ x) ((are q enters).others j old.0 old.1)
+        ∙ ap (λ x. one_ℚ -ℚ x) (mul-zero factor) ∙ sub-zero one_ℚ;
     others = λ k nonbasic differs. at k nonbasic differs (eqb_tells k p);
   }
     where
@@ -132,8 +139,10 @@ module _ (a : Matrix) (b : Basics) (counted : length b ≡ size a) (rate : ℕ �
       old : IsNonbasic a b j × (j ≢ q)
       old = before j out other
 
-      at : (k : ℕ) → IsNonbasic a (exchanged b p q) k → k ≢ j → (((eqb k p ≡ true) × (k ≡ p)) ⊎ ((eqb k p ≡ false) × (k ≢ p))) → rate k j -ℚ factor *ℚ rate k q ≡ zero_ℚ
-      at k nonbasic differs (inl same) = ap (λ i. rate i j -ℚ factor *ℚ rate i q) same.1 ∙ ap (λ x. rate p j -ℚ x) (div-mul_cancel (rate p j) (rate p q) pivot) ∙ sub-self (rate p j)
+      at : (k : ℕ) → IsNonbasic a (exchanged b p q) k → k ≢ j → (((eqb k p ≡ true) × (k ≡ p)) ⊎ ((eqb k p ≡ false) × (k ≢ p))) →
+          rate k j -ℚ factor *ℚ rate k q ≡ zero_ℚ
+      at k nonbasic differs (inl same) =
+          ap (λ i. rate i j -ℚ factor *ℚ rate i q) same.1 ∙ ap (λ x. rate p j -ℚ x) (div-mul_cancel (rate p j) (rate p q) pivot) ∙ sub-self (rate p j)
       at k nonbasic differs (inr apart) =
           let was = before k nonbasic apart.1 in
           ap (λ x. x -ℚ factor *ℚ rate k q) ((are j old.0).others k was.0 differs) ∙ ap (λ x. zero_ℚ -ℚ factor *ℚ x) ((are q enters).others k was.0 was.1)

@@ -27,8 +27,11 @@ module _ (a : Matrix) where
       sum_to-append a.rows a.cols (λ k. y (suc k) *ℚ x (suc k))
       ∙ add_comm (sum_to a.rows (λ i. y (suc i) *ℚ x (suc i))) (sum_to a.cols (λ j. y (suc (a.rows + j)) *ℚ x (suc (a.rows + j))))
       ∙ ap₂ ◌+ℚ◌ (sum_to-same a.cols _ _ (λ j _. ap (λ k. y k *ℚ x k) (omega arith))) (sym (rows_value y x keeps))
-      ∙ sym (sum_to-add a.cols (λ j. y (a.rows + suc j) *ℚ x (a.rows + suc j)) (λ j. sum_to a.rows (λ i. y (suc i) *ℚ entry a (suc i) (suc j)) *ℚ x (a.rows + suc j)))
-      ∙ sum_to-same a.cols _ _ (λ j _. by_ring3 (y (a.rows + suc j)) (sum_to a.rows (λ i. y (suc i) *ℚ entry a (suc i) (suc j))) (x (a.rows + suc j)) (λ y s x. y ⊗ x ⊕ s ⊗ x ≐ (y ⊕ s) ⊗ x) refl)
+      ∙ sym (sum_to-add a.cols (λ j. y (a.rows + suc j) *ℚ x (a.rows + suc j))
+      (λ j. sum_to a.rows (λ i. y (suc i) *ℚ entry a (suc i) (suc j)) *ℚ x (a.rows + suc j)))
+      ∙ sum_to-same a.cols _ _
+      (λ j _. by_ring3 (y (a.rows + suc j)) (sum_to a.rows (λ i. y (suc i) *ℚ entry a (suc i) (suc j))) (x (a.rows + suc j))
+      (λ y s x. y ⊗ x ⊕ s ⊗ x ≐ (y ⊕ s) ⊗ x) refl)
 
   -- ---- units
 
@@ -62,10 +65,12 @@ module _ (a : Matrix) where
   functional_at_unit y j is = functional_by_columns y (unit a j) (KeepsEquations-unit j is) ∙ sum_of_unit (column_value a y) j is
 
   -- functionals that agree on the vectors that keep the equations count each column the same, and the other way round
-  pub same_columns : (y w : Vector) → ((x : Vector) → KeepsEquations a x → functional a y x ≡ functional a w x) → (j : ℕ) → IsColumn a j → column_value a y j ≡ column_value a w j
+  pub same_columns : (y w : Vector) → ((x : Vector) → KeepsEquations a x → functional a y x ≡ functional a w x) → (j : ℕ) → IsColumn a j →
+      column_value a y j ≡ column_value a w j
   same_columns y w agree j is = sym (functional_at_unit y j is) ∙ agree (unit a j) (KeepsEquations-unit j is) ∙ functional_at_unit w j is
 
-  pub same_functionals : (y w : Vector) → ((j : ℕ) → IsColumn a j → column_value a y j ≡ column_value a w j) → (x : Vector) → KeepsEquations a x → functional a y x ≡ functional a w x
+  pub same_functionals : (y w : Vector) → ((j : ℕ) → IsColumn a j → column_value a y j ≡ column_value a w j) → (x : Vector) → KeepsEquations a x →
+      functional a y x ≡ functional a w x
   same_functionals y w same x keeps =
       functional_by_columns y x keeps
       ∙ sum_to-same a.cols _ _ (λ j below. ap (λ s. s *ℚ x (a.rows + suc j)) (same (suc j) (omega arith, omega (arith, below))))
@@ -79,9 +84,11 @@ module _ (a : Matrix) where
   combined_by_columns o None x keeps row free = keeps o row
   combined_by_columns o (Some d) x keeps row free =
       ap₂ (λ u v. u +ℚ d.theta *ℚ v) (keeps o row) (keeps d.row (free d refl))
-      ∙ ap (λ s. sum_to a.cols (λ j. entry a o (suc j) *ℚ x (a.rows + suc j)) +ℚ s) (sym (sum_to-mul_left a.cols d.theta (λ j. entry a d.row (suc j) *ℚ x (a.rows + suc j))))
+      ∙ ap (λ s. sum_to a.cols (λ j. entry a o (suc j) *ℚ x (a.rows + suc j)) +ℚ s)
+      (sym (sum_to-mul_left a.cols d.theta (λ j. entry a d.row (suc j) *ℚ x (a.rows + suc j))))
       ∙ sym (sum_to-add a.cols (λ j. entry a o (suc j) *ℚ x (a.rows + suc j)) (λ j. d.theta *ℚ (entry a d.row (suc j) *ℚ x (a.rows + suc j))))
-      ∙ sum_to-same a.cols _ _ (λ j _. by_ring4 (entry a o (suc j)) d.theta (entry a d.row (suc j)) (x (a.rows + suc j)) (λ a t h x. a ⊗ x ⊕ t ⊗ (h ⊗ x) ≐ (a ⊕ t ⊗ h) ⊗ x) refl)
+      ∙ sum_to-same a.cols _ _
+      (λ j _. by_ring4 (entry a o (suc j)) d.theta (entry a d.row (suc j)) (x (a.rows + suc j)) (λ a t h x. a ⊗ x ⊕ t ⊗ (h ⊗ x) ≐ (a ⊕ t ⊗ h) ⊗ x) refl)
 
 pub change_row : (p : LinearProgram) (c : Option Change) → ChangeIsFree p c → (d : Change) → c ≡ Some d → IsRow p.matrix d.row
 change_row p None free d e = absurd (let P : None ≡ Some d → ⊥ = λ e. cc in P e)

@@ -5,7 +5,8 @@ use Rattle.lp_definitions.specs.LinearProgram.{numbers_from}
 use Rattle.lp_laws.proofs.Opening.{numbers_from-append}
 
 -- one mark more
-pub marked_more : (rows k : ℕ) (marks : List Bool) → marks ≡ map (λ n. leb n rows) (numbers_from 1 k) → marks ++ (ltb k rows ∷ []) ≡ map (λ n. leb n rows) (numbers_from 1 (k + 1))
+pub marked_more : (rows k : ℕ) (marks : List Bool) → marks ≡ map (λ n. leb n rows) (numbers_from 1 k) →
+    marks ++ (ltb k rows ∷ []) ≡ map (λ n. leb n rows) (numbers_from 1 (k + 1))
 marked_more rows k marks so_far =
     let row : ℕ → Bool = λ n. leb n rows in
     let same : ltb k rows ≡ leb (1 + k) rows = grind arith in

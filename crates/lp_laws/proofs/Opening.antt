@@ -27,7 +27,8 @@ pub numbers_from-append : (first m n : ℕ) → numbers_from first (m + n) ≡ n
 numbers_from-append first zero n = ap₂ numbers_from (omega arith) (omega arith)
 numbers_from-append first (suc m) n =
     let more : suc m + n ≡ suc (m + n) = omega arith in
-    ap (numbers_from first) more ∙ ap (λ xs. first ∷ xs) (numbers_from-append (suc first) m n ∙ ap (λ k. numbers_from (suc first) m ++ numbers_from k n) (omega arith))
+    ap (numbers_from first) more
+    ∙ ap (λ xs. first ∷ xs) (numbers_from-append (suc first) m n ∙ ap (λ k. numbers_from (suc first) m ++ numbers_from k n) (omega arith))
 
 -- ---- the marks of the rows
 
@@ -89,7 +90,9 @@ IsNonsingular-row_basics a = record { counted = length-row_basics a; m_basics = 
         at : (low : Bool) → nat_le k a.rows ≡ low → z k ≡ zero_ℚ
         at true low =
             keeps k (is.0, grind arith)
-            ∙ sum_to-zero a.cols _ (λ j below. ap (λ x. entry a k (suc j) *ℚ x) (out (a.rows + suc j) (nonbasic_column a (suc j) (omega arith, omega (arith, below)))) ∙ mul-zero (entry a k (suc j)))
+            ∙ sum_to-zero a.cols _
+            (λ j below. ap (λ x. entry a k (suc j) *ℚ x) (out (a.rows + suc j) (nonbasic_column a (suc j) (omega arith, omega (arith, below))))
+            ∙ mul-zero (entry a k (suc j)))
         at false high = out k (is, is_in-row_basics a k is ∙ high)
 
 pub AreRates-opening : (a : Matrix) → AreRates a (row_basics a) (opening_rate a)

@@ -22,22 +22,28 @@ use Rattle.lp_laws.proofs.Combination.{by_nonbasics}
 use Rattle.lp_laws.proofs.Duality.{best_by_prices}
 use Rattle.lp_laws.proofs.Statuses.{status_of_nonbasic}
 
-module _ (p : LinearProgram) (lawful : IsLinearProgram p) (b : Basics) (one : IsNonsingular p.matrix b) (rate : ℕ → ℕ → ℚ) (are : AreRates p.matrix b rate) where
+module _ (p : LinearProgram) (lawful : IsLinearProgram p) (b : Basics) (one : IsNonsingular p.matrix b) (rate : ℕ → ℕ → ℚ)
+    (are : AreRates p.matrix b rate) where
   -- the objective of a vector that keeps the equations is the sum of the objective's rates, each times the value of its nonbasic
-  pub objective_by_nonbasics : (x : Vector) → KeepsEquations p.matrix x → objective_value p x ≡ sum_to (size p.matrix) (λ k. weight b x (suc k) *ℚ objective_rate p rate (suc k))
+  pub objective_by_nonbasics : (x : Vector) → KeepsEquations p.matrix x →
+      objective_value p x ≡ sum_to (size p.matrix) (λ k. weight b x (suc k) *ℚ objective_rate p rate (suc k))
   objective_by_nonbasics x keeps = at p.change (change_row p p.change lawful.change_free)
     where
       row : (i : ℕ) → IsRow p.matrix i → x i ≡ combination p.matrix b rate x i
       row i is = by_nonbasics p.matrix b rate are one x keeps i (is.0, omega (arith, is.1))
 
       at : (c : Option Change) → ((d : Change) → c ≡ Some d → IsRow p.matrix d.row)
-          → with_change_row c x (x p.objective) ≡ sum_to (size p.matrix) (λ k. weight b x (suc k) *ℚ with_change_row c (λ i. rate i (suc k)) (rate p.objective (suc k)))
+          → with_change_row c x (x p.objective) ≡ sum_to (size p.matrix)
+          (λ k. weight b x (suc k) *ℚ with_change_row c (λ i. rate i (suc k)) (rate p.objective (suc k)))
       at None free = row p.objective lawful.objective_row
       at (Some c) free =
           ap₂ (λ u v. u +ℚ c.theta *ℚ v) (row p.objective lawful.objective_row) (row c.row (free c refl))
-          ∙ ap (λ s. combination p.matrix b rate x p.objective +ℚ s) (sym (sum_to-mul_left (size p.matrix) c.theta (λ k. weight b x (suc k) *ℚ rate c.row (suc k))))
+          ∙ ap (λ s. combination p.matrix b rate x p.objective +ℚ s)
+          (sym (sum_to-mul_left (size p.matrix) c.theta (λ k. weight b x (suc k) *ℚ rate c.row (suc k))))
           ∙ sym (sum_to-add (size p.matrix) (λ k. weight b x (suc k) *ℚ rate p.objective (suc k)) (λ k. c.theta *ℚ (weight b x (suc k) *ℚ rate c.row (suc k))))
-          ∙ sum_to-same (size p.matrix) _ _ (λ k _. by_ring4 (weight b x (suc k)) (rate p.objective (suc k)) c.theta (rate c.row (suc k)) (λ w o t h. w ⊗ o ⊕ t ⊗ (w ⊗ h) ≐ w ⊗ (o ⊕ t ⊗ h)) refl)
+          ∙ sum_to-same (size p.matrix) _ _
+          (λ k _. by_ring4 (weight b x (suc k)) (rate p.objective (suc k)) c.theta (rate c.row (suc k))
+          (λ w o t h. w ⊗ o ⊕ t ⊗ (w ⊗ h) ≐ w ⊗ (o ⊕ t ⊗ h)) refl)
 
   -- so the prices value such a vector at its objective
   pub objective_by_rates : (x : Vector) → KeepsEquations p.matrix x → functional p.matrix (price_at p b rate) x ≡ objective_value p x
@@ -68,7 +74,8 @@ at_upper_by_sign Ul low high v r out stands right negative = stands
 at_upper_by_sign Fr low high v r out stands right negative = absurd (lt_not_le negative (le_of_eq (sym right)))
 
 -- a nonbasic that is fixed stands at both of its limits
-at_fixed : (st : Status) (low high : Option ℚ) (u v : ℚ) → is_basic st ≡ false → IsAllowed st low high → StandsAt st low high v → low ≡ Some u → high ≡ Some u → (low ≡ Some v) × (high ≡ Some v)
+at_fixed : (st : Status) (low high : Option ℚ) (u v : ℚ) → is_basic st ≡ false → IsAllowed st low high → StandsAt st low high v → low ≡ Some u → high ≡ Some u →
+    (low ≡ Some v) × (high ≡ Some v)
 at_fixed Bs low high u v out allowed stands at_low at_high = absurd (clash out)
 at_fixed Ll low high u v out allowed stands at_low at_high = (stands, at_high ∙ sym at_low ∙ stands)
 at_fixed Ul low high u v out allowed stands at_low at_high = (at_low ∙ sym at_high ∙ stands, stands)
@@ -78,7 +85,8 @@ pub for_min-zero : (s : Sense) → for_min s zero_ℚ ≡ zero_ℚ
 for_min-zero Min = refl
 for_min-zero Max = by_ring1 zero_ℚ (λ z. opposite (number (pos 0)) ≐ number (pos 0)) refl
 
-module _ (p : LinearProgram) (lawful : IsLinearProgram p) (s : List Status) (basis : IsBasis p s) (one : IsNonsingular p.matrix (basics_of s)) (rate : ℕ → ℕ → ℚ) (are : AreRates p.matrix (basics_of s) rate) where
+module _ (p : LinearProgram) (lawful : IsLinearProgram p) (s : List Status) (basis : IsBasis p s) (one : IsNonsingular p.matrix (basics_of s))
+    (rate : ℕ → ℕ → ℚ) (are : AreRates p.matrix (basics_of s) rate) where
   pub prices_prove : (z y : Vector) → IsPointOf p s z → ((k : ℕ) → IsVariable p.matrix k → y k ≡ price_at p (basics_of s) rate k)
       → ((k : ℕ) → IsVariable p.matrix k → IsFixed p k ⊎ IsRightAt (status_of s k) (for_min p.sense (objective_rate p rate k))) → IsDualCertificate p z y
   prices_prove z y point prices right = record { reduced = reduced; at_lower = at_lower; at_upper = at_upper }
@@ -107,28 +115,38 @@ module _ (p : LinearProgram) (lawful : IsLinearProgram p) (s : List Status) (bas
       at_lower : (k : ℕ) → IsVariable p.matrix k → zero_ℚ <ℚ for_min p.sense (y k) → lower_of p k ≡ Some (z k)
       at_lower k is positive = at (is_in (basics_of s) k) refl (right k is)
         where
-          at : (mark : Bool) → is_in (basics_of s) k ≡ mark → IsFixed p k ⊎ IsRightAt (status_of s k) (for_min p.sense (objective_rate p rate k)) → lower_of p k ≡ Some (z k)
+          at : (mark : Bool) → is_in (basics_of s) k ≡ mark → IsFixed p k ⊎ IsRightAt (status_of s k) (for_min p.sense (objective_rate p rate k)) →
+              lower_of p k ≡ Some (z k)
           at true mark _ = absurd (lt_irrefl (subst (λ v. zero_ℚ <ℚ v) (of_basic k is mark) positive))
-          at false mark (inl fixed) = (at_fixed (status_of s k) (lower_of p k) (upper_of p k) fixed.0 (z k) (out_of k is mark) (basis.allowed k is) (point.placed k is) fixed.1 fixed.2).0
+          at false mark (inl fixed) =
+              (at_fixed (status_of s k) (lower_of p k) (upper_of p k) fixed.0 (z k) (out_of k is mark) (basis.allowed k is)
+              (point.placed k is) fixed.1 fixed.2).0
           at false mark (inr signed) =
-              at_lower_by_sign (status_of s k) (lower_of p k) (upper_of p k) (z k) (for_min p.sense (objective_rate p rate k)) (out_of k is mark) (point.placed k is) signed
+              at_lower_by_sign (status_of s k) (lower_of p k) (upper_of p k) (z k) (for_min p.sense (objective_rate p rate k)) (out_of k is mark)
+              (point.placed k is) signed
               (subst (λ v. zero_ℚ <ℚ v) (of_nonbasic k is mark) positive)
 
       at_upper : (k : ℕ) → IsVariable p.matrix k → for_min p.sense (y k) <ℚ zero_ℚ → upper_of p k ≡ Some (z k)
       at_upper k is negative = at (is_in (basics_of s) k) refl (right k is)
         where
-          at : (mark : Bool) → is_in (basics_of s) k ≡ mark → IsFixed p k ⊎ IsRightAt (status_of s k) (for_min p.sense (objective_rate p rate k)) → upper_of p k ≡ Some (z k)
+          at : (mark : Bool) → is_in (basics_of s) k ≡ mark → IsFixed p k ⊎ IsRightAt (status_of s k) (for_min p.sense (objective_rate p rate k)) →
+              upper_of p k ≡ Some (z k)
           at true mark _ = absurd (lt_irrefl (subst (λ v. v <ℚ zero_ℚ) (of_basic k is mark) negative))
-          at false mark (inl fixed) = (at_fixed (status_of s k) (lower_of p k) (upper_of p k) fixed.0 (z k) (out_of k is mark) (basis.allowed k is) (point.placed k is) fixed.1 fixed.2).1
+          at false mark (inl fixed) =
+              (at_fixed (status_of s k) (lower_of p k) (upper_of p k) fixed.0 (z k) (out_of k is mark) (basis.allowed k is)
+              (point.placed k is) fixed.1 fixed.2).1
           at false mark (inr signed) =
-              at_upper_by_sign (status_of s k) (lower_of p k) (upper_of p k) (z k) (for_min p.sense (objective_rate p rate k)) (out_of k is mark) (point.placed k is) signed
+              at_upper_by_sign (status_of s k) (lower_of p k) (upper_of p k) (z k) (for_min p.sense (objective_rate p rate k)) (out_of k is mark)
+              (point.placed k is) signed
               (subst (λ v. v <ℚ zero_ℚ) (of_nonbasic k is mark) negative)
 
 -- the point of an optimal basis is best, and its prices prove it
-pub prices_prove_optimal : (p : LinearProgram) → IsLinearProgram p → (s : List Status) → (optimal : IsOptimalBasis p s) → IsDualCertificate p optimal.tableau.point (price_at p (basics_of s) optimal.tableau.rate)
+pub prices_prove_optimal : (p : LinearProgram) → IsLinearProgram p → (s : List Status) → (optimal : IsOptimalBasis p s) →
+    IsDualCertificate p optimal.tableau.point (price_at p (basics_of s) optimal.tableau.rate)
 prices_prove_optimal p lawful s optimal =
     prices_prove p lawful s optimal.is_basis optimal.nonsingular optimal.tableau.rate optimal.is_tableau.are_rates
     optimal.tableau.point (price_at p (basics_of s) optimal.tableau.rate) optimal.is_tableau.is_point (λ k is. refl) optimal.right
 
 pub best_by_basis : (p : LinearProgram) → IsLinearProgram p → (s : List Status) → (optimal : IsOptimalBasis p s) → IsBest p optimal.tableau.point
-best_by_basis p lawful s optimal = best_by_prices p lawful optimal.tableau.point (price_at p (basics_of s) optimal.tableau.rate) optimal.feasible (prices_prove_optimal p lawful s optimal)
+best_by_basis p lawful s optimal =
+    best_by_prices p lawful optimal.tableau.point (price_at p (basics_of s) optimal.tableau.rate) optimal.feasible (prices_prove_optimal p lawful s optimal)

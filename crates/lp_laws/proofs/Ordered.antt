@@ -20,21 +20,27 @@ numbers_sum : (test : ℕ → Bool) (f : ℕ → ℚ) (start : ℚ) (first n : �
     → sum_from start (map f (filter test (numbers_from first n))) ≡ start +ℚ sum_to n (λ k. cond (test (first + k)) (f (first + k)) zero_ℚ)
 unfolding sum_to
 numbers_sum test f start first zero = sym (add-zero start)
-numbers_sum test f start first (suc n) = by_test (test first) (numbers_sum test f (start +ℚ f first) (suc first) n) (numbers_sum test f start (suc first) n) ∙ ap (λ s. start +ℚ s) (sym split)
+numbers_sum test f start first (suc n) =
+    by_test (test first) (numbers_sum test f (start +ℚ f first) (suc first) n) (numbers_sum test f start (suc first) n) ∙ ap (λ s. start +ℚ s) (sym split)
   where
-    split : sum_to (suc n) (λ k. cond (test (first + k)) (f (first + k)) zero_ℚ) ≡ cond (test first) (f first) zero_ℚ +ℚ sum_to n (λ k. cond (test (suc first + k)) (f (suc first + k)) zero_ℚ)
+    split : sum_to (suc n) (λ k. cond (test (first + k)) (f (first + k)) zero_ℚ) ≡ cond (test first) (f first) zero_ℚ +ℚ sum_to n
+        (λ k. cond (test (suc first + k)) (f (suc first + k)) zero_ℚ)
     split =
         sum_to-first n (λ k. cond (test (first + k)) (f (first + k)) zero_ℚ)
         ∙ ap₂ ◌+ℚ◌ (ap (λ i. cond (test i) (f i) zero_ℚ) (omega arith)) (sum_to-same n _ _ (λ k _. ap (λ i. cond (test i) (f i) zero_ℚ) (omega arith)))
 
     by_test : (passes : Bool)
-        → sum_from (start +ℚ f first) (map f (filter test (numbers_from (suc first) n))) ≡ start +ℚ f first +ℚ sum_to n (λ k. cond (test (suc first + k)) (f (suc first + k)) zero_ℚ)
+        → sum_from (start +ℚ f first) (map f (filter test (numbers_from (suc first) n))) ≡ start +ℚ f first +ℚ sum_to n
+        (λ k. cond (test (suc first + k)) (f (suc first + k)) zero_ℚ)
         → sum_from start (map f (filter test (numbers_from (suc first) n))) ≡ start +ℚ sum_to n (λ k. cond (test (suc first + k)) (f (suc first + k)) zero_ℚ)
-        → sum_from start (map f (cond passes (first ∷ filter test (numbers_from (suc first) n)) (filter test (numbers_from (suc first) n)))) ≡ start +ℚ (cond passes (f first) zero_ℚ +ℚ sum_to n (λ k. cond (test (suc first + k)) (f (suc first + k)) zero_ℚ))
+        → sum_from start (map f (cond passes (first ∷ filter test (numbers_from (suc first) n)) (filter test (numbers_from (suc first) n)))) ≡ start +ℚ
+        (cond passes (f first) zero_ℚ +ℚ sum_to n (λ k. cond (test (suc first + k)) (f (suc first + k)) zero_ℚ))
     by_test true with_it without_it = with_it ∙ add_assoc start (f first) (sum_to n (λ k. cond (test (suc first + k)) (f (suc first + k)) zero_ℚ))
-    by_test false with_it without_it = without_it ∙ ap (λ s. start +ℚ s) (sym (zero-add (sum_to n (λ k. cond (test (suc first + k)) (f (suc first + k)) zero_ℚ))))
+    by_test false with_it without_it =
+        without_it ∙ ap (λ s. start +ℚ s) (sym (zero-add (sum_to n (λ k. cond (test (suc first + k)) (f (suc first + k)) zero_ℚ))))
 
-pub sum_of_tested : (a : Matrix) (test : ℕ → Bool) (f : ℕ → ℚ) (start : ℚ) → sum_from start (map f (filter test (variables a))) ≡ start +ℚ sum_to (size a) (λ k. cond (test (suc k)) (f (suc k)) zero_ℚ)
+pub sum_of_tested : (a : Matrix) (test : ℕ → Bool) (f : ℕ → ℚ) (start : ℚ) →
+    sum_from start (map f (filter test (variables a))) ≡ start +ℚ sum_to (size a) (λ k. cond (test (suc k)) (f (suc k)) zero_ℚ)
 sum_of_tested a test f start =
     numbers_sum test f start 1 (size a)
     ∙ ap (λ s. start +ℚ s) (sum_to-same (size a) _ _ (λ k _. ap (λ i. cond (test i) (f i) zero_ℚ) (omega arith)))
@@ -52,7 +58,8 @@ sum_of_numbers f start n = from f start 1 n ∙ ap (λ s. start +ℚ s) (sum_to-
         ∙ ap (λ s. start +ℚ s) (sym (sum_to-first n (λ k. f (first + k)) ∙ ap₂ ◌+ℚ◌ (ap f (omega arith)) (sum_to-same n _ _ (λ k _. ap f (omega arith)))))
 
 -- the rates of i, each times the value of its nonbasic, added in ascending order
-pub combination_in_order : (a : Matrix) (b : Basics) (rate : ℕ → ℕ → ℚ) (v : Vector) (i : ℕ) → sum_from zero_ℚ (map (λ j. rate i j *ℚ v j) (filter (λ k. not (is_in b k)) (variables a))) ≡ combination a b rate v i
+pub combination_in_order : (a : Matrix) (b : Basics) (rate : ℕ → ℕ → ℚ) (v : Vector) (i : ℕ) →
+    sum_from zero_ℚ (map (λ j. rate i j *ℚ v j) (filter (λ k. not (is_in b k)) (variables a))) ≡ combination a b rate v i
 combination_in_order a b rate v i =
     sum_of_tested a (λ k. not (is_in b k)) (λ j. rate i j *ℚ v j) zero_ℚ
     ∙ zero-add (sum_to (size a) (λ k. cond (not (is_in b (suc k))) (rate i (suc k) *ℚ v (suc k)) zero_ℚ))
@@ -67,7 +74,8 @@ combination_in_order a b rate v i =
 -- a functional that vanishes on the vectors that keep the equations vanishes on the direction of q: what it has at q and at the
 -- basics other than p is the opposite of what it has at p
 pub carried_back : (a : Matrix) (w : Basics) (rate : ℕ → ℕ → ℚ) (p q : ℕ) (y : Vector) → AreRates a w rate → IsBasic a w p → IsNonbasic a w q
-    → ((x : Vector) → KeepsEquations a x → functional a y x ≡ zero_ℚ) → sum_from (y q) (map (λ i. y i *ℚ rate i q) (other_basics a w p)) ≡ neg_ℚ (y p *ℚ rate p q)
+    → ((x : Vector) → KeepsEquations a x → functional a y x ≡ zero_ℚ)
+    → sum_from (y q) (map (λ i. y i *ℚ rate i q) (other_basics a w p)) ≡ neg_ℚ (y p *ℚ rate p q)
 carried_back a w rate p q y are leaves enters vanishes =
     sum_of_tested a (λ k. is_in w k && not (nat_eq k p)) (λ i. y i *ℚ rate i q) (y q)
     ∙ opposite_of (y q) others (y p *ℚ rate p q) (sym parts ∙ vanishes (λ i. rate i q) (are q enters).keeps)
@@ -91,7 +99,8 @@ carried_back a w rate p q y are leaves enters vanishes =
     apart e = clash (sym leaves.1 ∙ ap (is_in w) e ∙ enters.1)
 
     term : (k : ℕ) → IsVariable a k → Dec (k ≡ q) → Dec (k ≡ p) → (mark : Bool) → is_in w k ≡ mark
-        → y k *ℚ rate k q ≡ cond (nat_eq k q) (y q) zero_ℚ +ℚ cond (nat_eq k p) (y p *ℚ rate p q) zero_ℚ +ℚ cond (is_in w k && not (nat_eq k p)) (y k *ℚ rate k q) zero_ℚ
+        → y k *ℚ rate k q ≡ cond (nat_eq k q) (y q) zero_ℚ +ℚ cond (nat_eq k p) (y p *ℚ rate p q) zero_ℚ +ℚ cond (is_in w k && not (nat_eq k p))
+        (y k *ℚ rate k q) zero_ℚ
     term k is (yes at_q) _ mark in_w =
         let here : nat_eq k q ≡ true = grind (arith, at_q) in
         let not_p : nat_eq k p ≡ false = grind (arith, at_q, apart) in
@@ -110,11 +119,14 @@ carried_back a w rate p q y are leaves enters vanishes =
     term k is (no not_q) (no not_p) false in_w =
         let away : nat_eq k q ≡ false = grind (arith, not_q) in
         let off : nat_eq k p ≡ false = grind (arith, not_p) in
-        rw (away, off, in_w) (ap (λ x. y k *ℚ x) ((are q enters).others k (is, in_w) not_q) ∙ mul-zero (y k) ∙ sym (ap (λ s. s +ℚ zero_ℚ) (zero-add zero_ℚ) ∙ zero-add zero_ℚ))
+        rw (away, off, in_w)
+        (ap (λ x. y k *ℚ x) ((are q enters).others k (is, in_w) not_q) ∙ mul-zero (y k) ∙ sym (ap (λ s. s +ℚ zero_ℚ) (zero-add zero_ℚ) ∙ zero-add zero_ℚ))
 
     parts : functional a y (λ i. rate i q) ≡ y q +ℚ y p *ℚ rate p q +ℚ others
     parts =
-        sum_to-same (size a) _ _ (λ k below. term (suc k) (omega arith, omega (arith, below)) (ℕ_discrete (suc k) q) (ℕ_discrete (suc k) p) (is_in w (suc k)) refl)
-        ∙ sum_to-add (size a) (λ k. cond (nat_eq (suc k) q) (y q) zero_ℚ +ℚ cond (nat_eq (suc k) p) (y p *ℚ rate p q) zero_ℚ) (λ k. cond (is_in w (suc k) && not (nat_eq (suc k) p)) (y (suc k) *ℚ rate (suc k) q) zero_ℚ)
+        sum_to-same (size a) _ _
+        (λ k below. term (suc k) (omega arith, omega (arith, below)) (ℕ_discrete (suc k) q) (ℕ_discrete (suc k) p) (is_in w (suc k)) refl)
+        ∙ sum_to-add (size a) (λ k. cond (nat_eq (suc k) q) (y q) zero_ℚ +ℚ cond (nat_eq (suc k) p) (y p *ℚ rate p q) zero_ℚ)
+        (λ k. cond (is_in w (suc k) && not (nat_eq (suc k) p)) (y (suc k) *ℚ rate (suc k) q) zero_ℚ)
         ∙ ap (λ s. s +ℚ others) (sum_to-add (size a) (λ k. cond (nat_eq (suc k) q) (y q) zero_ℚ) (λ k. cond (nat_eq (suc k) p) (y p *ℚ rate p q) zero_ℚ)
         ∙ ap₂ ◌+ℚ◌ (sum_at_only q (y q) enters.0) (sum_at_only p (y p *ℚ rate p q) leaves.0))

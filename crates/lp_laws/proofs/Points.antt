@@ -19,7 +19,8 @@ use Rattle.lp_laws.proofs.Combination.{combination_keeps, combination_at}
 use Rattle.lp_laws.proofs.Statuses.{nonbasic_by_status, status_of_nonbasic, changed_own, changed_other}
 
 -- a status that its limits allow stands where the place is
-stands_at_place : (st : Status) (low high : Option ℚ) (v : ℚ) → IsAllowed st low high → (is_basic st ≡ false → v ≡ place_of st low high) → StandsAt st low high v
+stands_at_place : (st : Status) (low high : Option ℚ) (v : ℚ) → IsAllowed st low high → (is_basic st ≡ false → v ≡ place_of st low high) →
+    StandsAt st low high v
 stands_at_place Bs low high v allowed is = tt
 stands_at_place Ll (Some l) high v allowed is = ap Some (sym (is refl))
 stands_at_place Ll None high v allowed is = let P : IsSome (let n : Option ℚ = None in n) → ⊥ = λ e. cc in absurd (P allowed)
@@ -43,7 +44,8 @@ module _ (p : LinearProgram) (s : List Status) (basis : IsBasis p s) where
   pub IsPointOf-combination : (rate : ℕ → ℕ → ℚ) → AreRates p.matrix (basics_of s) rate → IsPointOf p s (combination p.matrix (basics_of s) rate (standing p s))
   IsPointOf-combination rate are = record {
     keeps = combination_keeps p.matrix (basics_of s) rate are (standing p s);
-    placed = λ k is. stands_at_place (status_of s k) (lower_of p k) (upper_of p k) (combination p.matrix (basics_of s) rate (standing p s) k) (basis.allowed k is)
+    placed =
+        λ k is. stands_at_place (status_of s k) (lower_of p k) (upper_of p k) (combination p.matrix (basics_of s) rate (standing p s) k) (basis.allowed k is)
         (λ out. combination_at p.matrix (basics_of s) rate are (standing p s) k (nonbasic_by_status p s basis k is (λ e. clash (ap is_basic (sym e) ∙ out))));
   }
 
@@ -51,12 +53,14 @@ module _ (p : LinearProgram) (s : List Status) (basis : IsBasis p s) where
   pub point_is_combination : (rate : ℕ → ℕ → ℚ) → AreRates p.matrix (basics_of s) rate → IsNonsingular p.matrix (basics_of s) → (z : Vector) → IsPointOf p s z
       → (k : ℕ) → IsVariable p.matrix k → z k ≡ combination p.matrix (basics_of s) rate (standing p s) k
   point_is_combination rate are one z point =
-      same_from_nonbasics p.matrix (basics_of s) z (combination p.matrix (basics_of s) rate (standing p s)) one point.keeps (combination_keeps p.matrix (basics_of s) rate are (standing p s))
+      same_from_nonbasics p.matrix (basics_of s) z (combination p.matrix (basics_of s) rate (standing p s)) one point.keeps
+      (combination_keeps p.matrix (basics_of s) rate are (standing p s))
       (λ k out. placed_at z point k out ∙ sym (combination_at p.matrix (basics_of s) rate are (standing p s) k out))
 
   -- ---- a step along a direction
 
-  module _ (z : Vector) (point : IsPointOf p s z) (q : ℕ) (is_q : IsVariable p.matrix q) (d : Vector) (direction : IsDirectionOf p.matrix (basics_of s) q d) (t : ℚ) where
+  module _ (z : Vector) (point : IsPointOf p s z) (q : ℕ) (is_q : IsVariable p.matrix q) (d : Vector) (direction : IsDirectionOf p.matrix (basics_of s) q d)
+      (t : ℚ) where
     -- a variable that is nonbasic, and not the one that moves, stays where it stands
     stays : (k : ℕ) → IsVariable p.matrix k → k ≢ q → StandsAt (status_of s k) (lower_of p k) (upper_of p k) (along z t d k)
     stays k is other = at (status_of s k) refl (point.placed k is)
@@ -73,7 +77,8 @@ module _ (p : LinearProgram) (s : List Status) (basis : IsBasis p s) where
         at Fr e stands = same (ap is_basic e) ∙ stands
 
     -- q takes the place of r, which comes to stand at a limit
-    pub IsPointOf-replaced : (r : ℕ) (to : Status) → IsVariable p.matrix r → StandsAt to (lower_of p r) (upper_of p r) (along z t d r) → IsPointOf p (with_status (with_status s q Bs) r to) (along z t d)
+    pub IsPointOf-replaced : (r : ℕ) (to : Status) → IsVariable p.matrix r → StandsAt to (lower_of p r) (upper_of p r) (along z t d r) →
+        IsPointOf p (with_status (with_status s q Bs) r to) (along z t d)
     IsPointOf-replaced r to is_r stands = record {
       keeps = KeepsEquations-along p.matrix z t d point.keeps direction.keeps;
       placed = λ k is. at k is (eqb_tells k r) (eqb_tells k q);
@@ -85,14 +90,17 @@ module _ (p : LinearProgram) (s : List Status) (basis : IsBasis p s) where
         length_entered : length (with_status s q Bs) ≡ size p.matrix
         length_entered = rw length-set basis.counted
 
-        at : (k : ℕ) → IsVariable p.matrix k → (((eqb k r ≡ true) × (k ≡ r)) ⊎ ((eqb k r ≡ false) × (k ≢ r))) → (((eqb k q ≡ true) × (k ≡ q)) ⊎ ((eqb k q ≡ false) × (k ≢ q)))
+        at : (k : ℕ) → IsVariable p.matrix k → (((eqb k r ≡ true) × (k ≡ r)) ⊎ ((eqb k r ≡ false) × (k ≢ r)))
+            → (((eqb k q ≡ true) × (k ≡ q)) ⊎ ((eqb k q ≡ false) × (k ≢ q)))
             → StandsAt (status_of (with_status (with_status s q Bs) r to) k) (lower_of p k) (upper_of p k) (along z t d k)
         at k is (inl same) _ =
             subst (λ i. StandsAt (status_of (with_status (with_status s q Bs) r to) i) (lower_of p i) (upper_of p i) (along z t d i)) (sym same.1)
-            (subst (λ st. StandsAt st (lower_of p r) (upper_of p r) (along z t d r)) (sym (changed_own p s basis r to (with_status s q Bs) length_entered is_r)) stands)
+            (subst (λ st. StandsAt st (lower_of p r) (upper_of p r) (along z t d r))
+            (sym (changed_own p s basis r to (with_status s q Bs) length_entered is_r)) stands)
         at k is (inr apart) (inl same) =
             subst (λ st. StandsAt st (lower_of p k) (upper_of p k) (along z t d k))
-            (sym (changed_other p s basis r k to (with_status s q Bs) is_r is apart.1 ∙ ap (status_of (with_status s q Bs)) same.1 ∙ changed_own p s basis q Bs s basis.counted is_q)) tt
+            (sym (changed_other p s basis r k to (with_status s q Bs) is_r is apart.1 ∙ ap (status_of (with_status s q Bs)) same.1
+            ∙ changed_own p s basis q Bs s basis.counted is_q)) tt
         at k is (inr apart) (inr far) =
             subst (λ st. StandsAt st (lower_of p k) (upper_of p k) (along z t d k))
             (sym (changed_other p s basis r k to (with_status s q Bs) is_r is apart.1 ∙ changed_other p s basis q k Bs s is_q is far.1)) (stays k is far.1)
@@ -104,8 +112,11 @@ module _ (p : LinearProgram) (s : List Status) (basis : IsBasis p s) where
       placed = λ k is. at k is (eqb_tells k q);
     }
       where
-        at : (k : ℕ) → IsVariable p.matrix k → (((eqb k q ≡ true) × (k ≡ q)) ⊎ ((eqb k q ≡ false) × (k ≢ q))) → StandsAt (status_of (with_status s q to) k) (lower_of p k) (upper_of p k) (along z t d k)
+        at : (k : ℕ) → IsVariable p.matrix k → (((eqb k q ≡ true) × (k ≡ q)) ⊎ ((eqb k q ≡ false) × (k ≢ q))) →
+            StandsAt (status_of (with_status s q to) k) (lower_of p k) (upper_of p k) (along z t d k)
         at k is (inl same) =
             subst (λ i. StandsAt (status_of (with_status s q to) i) (lower_of p i) (upper_of p i) (along z t d i)) (sym same.1)
             (subst (λ st. StandsAt st (lower_of p q) (upper_of p q) (along z t d q)) (sym (changed_own p s basis q to s basis.counted is_q)) stands)
-        at k is (inr apart) = subst (λ st. StandsAt st (lower_of p k) (upper_of p k) (along z t d k)) (sym (changed_other p s basis q k to s is_q is apart.1)) (stays k is apart.1)
+        at k is (inr apart) =
+            subst (λ st. StandsAt st (lower_of p k) (upper_of p k) (along z t d k)) (sym (changed_other p s basis q k to s is_q is apart.1))
+            (stays k is apart.1)

@@ -41,10 +41,12 @@ module _ (p : LinearProgram) (w z : Vector) (r : ℕ) (is_r : IsVariable p.matri
       at _ (inl negative) = ap (λ o. w k *ℚ unwrap_or o zero_ℚ) (limit_of_negative p w k negative ∙ at_lower k is other negative)
       at (inr none) (inr some) =
           let nothing : w k ≡ zero_ℚ = le_antisymm none some in
-          ap (λ x. x *ℚ unwrap_or (limit_against p w k) zero_ℚ) nothing ∙ zero-mul (unwrap_or (limit_against p w k) zero_ℚ) ∙ sym (zero-mul (z k)) ∙ ap (λ x. x *ℚ z k) (sym nothing)
+          ap (λ x. x *ℚ unwrap_or (limit_against p w k) zero_ℚ) nothing ∙ zero-mul (unwrap_or (limit_against p w k) zero_ℚ) ∙ sym (zero-mul (z k))
+          ∙ ap (λ x. x *ℚ z k) (sym nothing)
 
   -- so the sum of the limits is below that of the values, which is 0, if it is below at r
-  negative_sum : w r *ℚ unwrap_or (limit_against p w r) zero_ℚ <ℚ w r *ℚ z r → sum_to (size p.matrix) (λ k. w (suc k) *ℚ unwrap_or (limit_against p w (suc k)) zero_ℚ) <ℚ zero_ℚ
+  negative_sum : w r *ℚ unwrap_or (limit_against p w r) zero_ℚ <ℚ w r *ℚ z r →
+      sum_to (size p.matrix) (λ k. w (suc k) *ℚ unwrap_or (limit_against p w (suc k)) zero_ℚ) <ℚ zero_ℚ
   negative_sum below = at r refl
     where
       at : (n : ℕ) → n ≡ r → sum_to (size p.matrix) (λ k. w (suc k) *ℚ unwrap_or (limit_against p w (suc k)) zero_ℚ) <ℚ zero_ℚ
@@ -56,16 +58,21 @@ module _ (p : LinearProgram) (w z : Vector) (r : ℕ) (is_r : IsVariable p.matri
           let rest : sum_to (size p.matrix) (without n limits) ≡ sum_to (size p.matrix) (without n values) =
           sum_to-same (size p.matrix) (without n limits) (without n values) (λ k less. elsewhere n is k less (ℕ_discrete k n)) in
           let total : w r *ℚ z r +ℚ sum_to (size p.matrix) (without n values) ≡ zero_ℚ =
-          ap (λ i. w i *ℚ z i +ℚ sum_to (size p.matrix) (without n values)) (sym is) ∙ sym (sum_to-without (size p.matrix) n values within) ∙ vanishes_by_columns p.matrix w vanishes z keeps in
+          ap (λ i. w i *ℚ z i +ℚ sum_to (size p.matrix) (without n values)) (sym is) ∙ sym (sum_to-without (size p.matrix) n values within)
+          ∙ vanishes_by_columns p.matrix w vanishes z keeps in
           let here : sum_to (size p.matrix) limits ≡ w r *ℚ unwrap_or (limit_against p w r) zero_ℚ +ℚ sum_to (size p.matrix) (without n values) =
-          sum_to-without (size p.matrix) n limits within ∙ ap (λ s. limits n +ℚ s) rest ∙ ap (λ i. w i *ℚ unwrap_or (limit_against p w i) zero_ℚ +ℚ sum_to (size p.matrix) (without n values)) is in
+          sum_to-without (size p.matrix) n limits within ∙ ap (λ s. limits n +ℚ s) rest
+          ∙ ap (λ i. w i *ℚ unwrap_or (limit_against p w i) zero_ℚ +ℚ sum_to (size p.matrix) (without n values)) is in
           subst (λ s. s <ℚ zero_ℚ) (sym here)
           (subst (λ s. w r *ℚ unwrap_or (limit_against p w r) zero_ℚ +ℚ sum_to (size p.matrix) (without n values) <ℚ s) total
-          (lt_by_one below (by_ring3 (w r *ℚ unwrap_or (limit_against p w r) zero_ℚ) (w r *ℚ z r) (sum_to (size p.matrix) (without n values)) (λ l v s. v ⊕ s ≐ l ⊕ s ⊕ (v ⊖ l)) refl)))
+          (lt_by_one below
+          (by_ring3 (w r *ℚ unwrap_or (limit_against p w r) zero_ℚ) (w r *ℚ z r) (sum_to (size p.matrix) (without n values))
+          (λ l v s. v ⊕ s ≐ l ⊕ s ⊕ (v ⊖ l)) refl)))
         where
           elsewhere : (n : ℕ) → suc n ≡ r → (k : ℕ) → k < size p.matrix → Dec (k ≡ n)
               → without n (λ k. w (suc k) *ℚ unwrap_or (limit_against p w (suc k)) zero_ℚ) k ≡ without n (λ k. w (suc k) *ℚ z (suc k)) k
-          elsewhere n is k less (yes same) = without_same n k (λ k. w (suc k) *ℚ unwrap_or (limit_against p w (suc k)) zero_ℚ) same ∙ sym (without_same n k (λ k. w (suc k) *ℚ z (suc k)) same)
+          elsewhere n is k less (yes same) =
+              without_same n k (λ k. w (suc k) *ℚ unwrap_or (limit_against p w (suc k)) zero_ℚ) same ∙ sym (without_same n k (λ k. w (suc k) *ℚ z (suc k)) same)
           elsewhere n is k less (no other) =
               without_other n k (λ k. w (suc k) *ℚ unwrap_or (limit_against p w (suc k)) zero_ℚ) other
               ∙ met_is (suc k) (omega arith, omega (arith, less)) (λ e. other (omega (arith, e, is)))
@@ -77,7 +84,8 @@ module _ (p : LinearProgram) (w z : Vector) (r : ℕ) (is_r : IsVariable p.matri
     vanishes = vanishes;
     meets_upper = λ k is sign. at_r_or_else k is sign (ℕ_discrete k r);
     meets_lower = λ k is sign. not_r k is sign (ℕ_discrete k r);
-    negative = negative_sum (subst (λ o. w r *ℚ unwrap_or o zero_ℚ <ℚ w r *ℚ z r) (sym (limit_of_positive p w r positive ∙ limit)) (mul-lt-mul_left positive above));
+    negative =
+        negative_sum (subst (λ o. w r *ℚ unwrap_or o zero_ℚ <ℚ w r *ℚ z r) (sym (limit_of_positive p w r positive ∙ limit)) (mul-lt-mul_left positive above));
   }
     where
       at_r_or_else : (k : ℕ) → IsVariable p.matrix k → zero_ℚ <ℚ w k → Dec (k ≡ r) → IsSome (upper_of p k)

@@ -116,7 +116,8 @@ module _ (p : LinearProgram) (s : List Status) (basis : IsBasis p s) where
   pub changed_own : (k : ℕ) (st : Status) (ss : List Status) → length ss ≡ size p.matrix → IsVariable p.matrix k → status_of (with_status ss k st) k ≡ st
   changed_own k st ss counted is = get_or-set_same ss (k - 1) st Bs (rw counted (omega (arith, is.0, is.1)))
 
-  pub changed_other : (k i : ℕ) (st : Status) (ss : List Status) → IsVariable p.matrix k → IsVariable p.matrix i → i ≢ k → status_of (with_status ss k st) i ≡ status_of ss i
+  pub changed_other : (k i : ℕ) (st : Status) (ss : List Status) → IsVariable p.matrix k → IsVariable p.matrix i → i ≢ k →
+      status_of (with_status ss k st) i ≡ status_of ss i
   changed_other k i st ss is other apart = get_or-set_other ss (k - 1) (i - 1) st Bs (λ e. apart (omega (arith, e, is.0, other.0)))
 
   -- the variable r goes to a limit that it has, and q takes its place
@@ -147,24 +148,29 @@ module _ (p : LinearProgram) (s : List Status) (basis : IsBasis p s) where
           → (((eqb i q ≡ true) × (i ≡ q)) ⊎ ((eqb i q ≡ false) × (i ≢ q))) → status_of (with_status (with_status s q Bs) r to) i ≡ Bs
       free_at i row free (inl same) _ = absurd (has_limit to (lower_of p r) (upper_of p r) other limited allowed (subst (HasNoLimits p) same.1 free))
       free_at i row free (inr apart) (inl same) =
-          changed_other r i to (with_status s q Bs) is_r (row.0, omega (arith, row.1)) apart.1 ∙ ap (status_of (with_status s q Bs)) same.1 ∙ changed_own q Bs s basis.counted is_q
+          changed_other r i to (with_status s q Bs) is_r (row.0, omega (arith, row.1)) apart.1 ∙ ap (status_of (with_status s q Bs)) same.1
+          ∙ changed_own q Bs s basis.counted is_q
       free_at i row free (inr apart) (inr far) =
           let is : IsVariable p.matrix i = (row.0, omega (arith, row.1)) in
           changed_other r i to (with_status s q Bs) is_r is apart.1 ∙ changed_other q i Bs s is_q is far.1 ∙ basis.free_rows i row free
 
       allowed_at : (k : ℕ) → IsVariable p.matrix k → (((eqb k r ≡ true) × (k ≡ r)) ⊎ ((eqb k r ≡ false) × (k ≢ r)))
-          → (((eqb k q ≡ true) × (k ≡ q)) ⊎ ((eqb k q ≡ false) × (k ≢ q))) → IsAllowed (status_of (with_status (with_status s q Bs) r to) k) (lower_of p k) (upper_of p k)
+          → (((eqb k q ≡ true) × (k ≡ q)) ⊎ ((eqb k q ≡ false) × (k ≢ q)))
+          → IsAllowed (status_of (with_status (with_status s q Bs) r to) k) (lower_of p k) (upper_of p k)
       allowed_at k is (inl same) _ =
           subst (λ i. IsAllowed (status_of (with_status (with_status s q Bs) r to) i) (lower_of p i) (upper_of p i)) (sym same.1)
           (subst (λ st. IsAllowed st (lower_of p r) (upper_of p r)) (sym (changed_own r to (with_status s q Bs) length_entered is_r)) allowed)
       allowed_at k is (inr apart) (inl same) =
           subst (λ st. IsAllowed st (lower_of p k) (upper_of p k))
-          (sym (changed_other r k to (with_status s q Bs) is_r is apart.1 ∙ ap (status_of (with_status s q Bs)) same.1 ∙ changed_own q Bs s basis.counted is_q)) tt
+          (sym (changed_other r k to (with_status s q Bs) is_r is apart.1 ∙ ap (status_of (with_status s q Bs)) same.1
+          ∙ changed_own q Bs s basis.counted is_q)) tt
       allowed_at k is (inr apart) (inr far) =
-          subst (λ st. IsAllowed st (lower_of p k) (upper_of p k)) (sym (changed_other r k to (with_status s q Bs) is_r is apart.1 ∙ changed_other q k Bs s is_q is far.1)) (basis.allowed k is)
+          subst (λ st. IsAllowed st (lower_of p k) (upper_of p k))
+          (sym (changed_other r k to (with_status s q Bs) is_r is apart.1 ∙ changed_other q k Bs s is_q is far.1)) (basis.allowed k is)
 
   -- a nonbasic goes to another limit that it has
-  pub IsBasis-flipped : (q : ℕ) (to : Status) → IsVariable p.matrix q → status_of s q ≢ Bs → to ≢ Bs → to ≢ Fr → IsAllowed to (lower_of p q) (upper_of p q) → IsBasis p (with_status s q to)
+  pub IsBasis-flipped : (q : ℕ) (to : Status) → IsVariable p.matrix q → status_of s q ≢ Bs → to ≢ Bs → to ≢ Fr → IsAllowed to (lower_of p q) (upper_of p q) →
+      IsBasis p (with_status s q to)
   IsBasis-flipped q to is_q was other limited allowed = record {
     counted = rw length-set basis.counted;
     m_basics = sym (marked-basics_of (with_status s q to)) ∙ ap (count_by (λ m. m)) (basics_of-flipped s q to was other) ∙ marked-basics_of s ∙ basis.m_basics;
@@ -172,11 +178,13 @@ module _ (p : LinearProgram) (s : List Status) (basis : IsBasis p s) where
     allowed = λ k is. allowed_at k is (eqb_tells k q);
   }
     where
-      free_at : (i : ℕ) → IsRow p.matrix i → HasNoLimits p i → (((eqb i q ≡ true) × (i ≡ q)) ⊎ ((eqb i q ≡ false) × (i ≢ q))) → status_of (with_status s q to) i ≡ Bs
+      free_at : (i : ℕ) → IsRow p.matrix i → HasNoLimits p i → (((eqb i q ≡ true) × (i ≡ q)) ⊎ ((eqb i q ≡ false) × (i ≢ q))) →
+          status_of (with_status s q to) i ≡ Bs
       free_at i row free (inl same) = absurd (has_limit to (lower_of p q) (upper_of p q) other limited allowed (subst (HasNoLimits p) same.1 free))
       free_at i row free (inr apart) = changed_other q i to s is_q (row.0, omega (arith, row.1)) apart.1 ∙ basis.free_rows i row free
 
-      allowed_at : (k : ℕ) → IsVariable p.matrix k → (((eqb k q ≡ true) × (k ≡ q)) ⊎ ((eqb k q ≡ false) × (k ≢ q))) → IsAllowed (status_of (with_status s q to) k) (lower_of p k) (upper_of p k)
+      allowed_at : (k : ℕ) → IsVariable p.matrix k → (((eqb k q ≡ true) × (k ≡ q)) ⊎ ((eqb k q ≡ false) × (k ≢ q))) →
+          IsAllowed (status_of (with_status s q to) k) (lower_of p k) (upper_of p k)
       allowed_at k is (inl same) =
           subst (λ i. IsAllowed (status_of (with_status s q to) i) (lower_of p i) (upper_of p i)) (sym same.1)
           (subst (λ st. IsAllowed st (lower_of p q) (upper_of p q)) (sym (changed_own q to s basis.counted is_q)) allowed)

@@ -23,11 +23,14 @@ one_place Ul low high u v out first second = ap (λ o. unwrap_or o zero_ℚ) (sy
 one_place Fr low high u v out first second = first ∙ sym second
 
 -- two vectors that keep the equations are the same if they are at the nonbasics
-pub same_from_nonbasics : (a : Matrix) (b : Basics) (d e : Vector) → IsNonsingular a b → KeepsEquations a d → KeepsEquations a e → ((k : ℕ) → IsNonbasic a b k → d k ≡ e k) → (k : ℕ) → IsVariable a k → d k ≡ e k
+pub same_from_nonbasics : (a : Matrix) (b : Basics) (d e : Vector) → IsNonsingular a b → KeepsEquations a d → KeepsEquations a e →
+    ((k : ℕ) → IsNonbasic a b k → d k ≡ e k) → (k : ℕ) → IsVariable a k → d k ≡ e k
 same_from_nonbasics a b d e one first second agree k is =
-    same_from_difference (d k) (e k) (one.only_zero (λ i. d i -ℚ e i) (KeepsEquations-sub a d e first second) (λ i out. ap (λ x. x -ℚ e i) (agree i out) ∙ sub-self (e i)) k is)
+    same_from_difference (d k) (e k)
+    (one.only_zero (λ i. d i -ℚ e i) (KeepsEquations-sub a d e first second) (λ i out. ap (λ x. x -ℚ e i) (agree i out) ∙ sub-self (e i)) k is)
 
-pub one_direction : (a : Matrix) (b : Basics) (j : ℕ) (d e : Vector) → IsNonsingular a b → IsDirectionOf a b j d → IsDirectionOf a b j e → (k : ℕ) → IsVariable a k → d k ≡ e k
+pub one_direction : (a : Matrix) (b : Basics) (j : ℕ) (d e : Vector) → IsNonsingular a b → IsDirectionOf a b j d → IsDirectionOf a b j e → (k : ℕ) →
+    IsVariable a k → d k ≡ e k
 one_direction a b j d e one first second = same_from_nonbasics a b d e one first.keeps second.keeps agree
   where
     at : (k : ℕ) → IsNonbasic a b k → (((eqb k j ≡ true) × (k ≡ j)) ⊎ ((eqb k j ≡ false) × (k ≢ j))) → d k ≡ e k
@@ -38,13 +41,16 @@ one_direction a b j d e one first second = same_from_nonbasics a b d e one first
     agree k out = at k out (eqb_tells k j)
 
 -- so its rates are one table
-pub one_table : (a : Matrix) (b : Basics) (rate other : ℕ → ℕ → ℚ) → IsNonsingular a b → AreRates a b rate → AreRates a b other → (i j : ℕ) → IsVariable a i → IsNonbasic a b j → rate i j ≡ other i j
+pub one_table : (a : Matrix) (b : Basics) (rate other : ℕ → ℕ → ℚ) → IsNonsingular a b → AreRates a b rate → AreRates a b other → (i j : ℕ) → IsVariable a i →
+    IsNonbasic a b j → rate i j ≡ other i j
 one_table a b rate other one first second i j is out = one_direction a b j (λ k. rate k j) (λ k. other k j) one (first j out) (second j out) i is
 
-pub one_point : (p : LinearProgram) (s : List Status) (z w : Vector) → length s ≡ size p.matrix → IsNonsingular p.matrix (basics_of s) → IsPointOf p s z → IsPointOf p s w → (k : ℕ) → IsVariable p.matrix k → z k ≡ w k
+pub one_point : (p : LinearProgram) (s : List Status) (z w : Vector) → length s ≡ size p.matrix → IsNonsingular p.matrix (basics_of s) → IsPointOf p s z →
+    IsPointOf p s w → (k : ℕ) → IsVariable p.matrix k → z k ≡ w k
 one_point p s z w counted one first second = same_from_nonbasics p.matrix (basics_of s) z w one first.keeps second.keeps agree
   where
     agree : (k : ℕ) → IsNonbasic p.matrix (basics_of s) k → z k ≡ w k
     agree k out =
         let within : k ≤ length s = omega (arith, counted, out.0.1) in
-        one_place (status_of s k) (lower_of p k) (upper_of p k) (z k) (w k) (sym (is_in-basics_of s k out.0.0 within) ∙ out.1) (first.placed k out.0) (second.placed k out.0)
+        one_place (status_of s k) (lower_of p k) (upper_of p k) (z k) (w k) (sym (is_in-basics_of s k out.0.0 within) ∙ out.1) (first.placed k out.0)
+        (second.placed k out.0)

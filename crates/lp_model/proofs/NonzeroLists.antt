@@ -166,16 +166,21 @@ module _ (before now : List ℚ) (listed : List ℕ) (i : ℕ) (below : i < leng
   pub item_within : IsCleared before now (drop i listed) → (1 ≤ item) × (item ≤ length before)
   item_within h = listed_within before now item (drop (i + 1) listed) (at_item h)
 
-  pub item_cleared : (v : ℚ) → v ≡ zero_ℚ → length now ≡ length before → IsCleared before now (drop i listed) → IsCleared before (slice_set now (item - 1) v) (drop (i + 1) listed)
-  item_cleared v is same h = subst (λ x. IsCleared before (slice_set now (item - 1) x) (drop (i + 1) listed)) (sym is) (one_cleared before now item (drop (i + 1) listed) same (at_item h))
+  pub item_cleared : (v : ℚ) → v ≡ zero_ℚ → length now ≡ length before → IsCleared before now (drop i listed) →
+      IsCleared before (slice_set now (item - 1) v) (drop (i + 1) listed)
+  item_cleared v is same h =
+      subst (λ x. IsCleared before (slice_set now (item - 1) x) (drop (i + 1) listed)) (sym is)
+      (one_cleared before now item (drop (i + 1) listed) same (at_item h))
 
 -- the whole list is gone through
-pub cleared_to_end : (before now : List ℚ) (listed : List ℕ) (i : ℕ) → length listed ≤ i → IsCleared before now (drop i listed) → (k : ℕ) → 1 ≤ k → value_at now k ≡ zero_ℚ
+pub cleared_to_end : (before now : List ℚ) (listed : List ℕ) (i : ℕ) → length listed ≤ i → IsCleared before now (drop i listed) → (k : ℕ) → 1 ≤ k →
+    value_at now k ≡ zero_ℚ
 cleared_to_end before now listed i past h = all_cleared before now (subst (IsCleared before now) (drop_all i listed past) h)
 
 -- nothing has no number
 pub nothing_nonzero : (xs : List ℚ) (ks : List ℕ) → xs ≡ [] → ks ≡ [] → AreNonzeroFrom xs 1 ks
-nothing_nonzero xs ks no_number no_variable = subst (λ ys. AreNonzeroFrom ys 1 ks) (sym no_number) (subst (AreNonzeroFrom [] 1) (sym no_variable) (zeros_none 0))
+nothing_nonzero xs ks no_number no_variable =
+    subst (λ ys. AreNonzeroFrom ys 1 ks) (sym no_number) (subst (AreNonzeroFrom [] 1) (sym no_variable) (zeros_none 0))
 
 -- what is kept of all variables, with one variable more
 module _ (p : ℕ → Bool) (front old : List ℕ) (n k : ℕ) (is_next : k ≡ n + 1) (so_far : old ≡ front ++ filter p (numbers_from 1 n)) where
@@ -196,7 +201,8 @@ module _ (p : ℕ → Bool) (front old : List ℕ) (n k : ℕ) (is_next : k ≡ 
       ∙ ap (λ b. front ++ (filter p (numbers_from 1 n) ++ cond b (k ∷ []) [])) (sym e) ∙ ap (λ xs. front ++ xs) (sym one_more)
 
 -- each candidate is a variable
-pub candidates_within : (xs : List ℚ) (n : ℕ) (ks : List ℕ) → 1 ≤ n → CoverNonzeroFrom xs n ks → (k : ℕ) (d : ℕ) → k < length ks → (1 ≤ slice_index_or ks k d) × (slice_index_or ks k d ≤ length xs)
+pub candidates_within : (xs : List ℚ) (n : ℕ) (ks : List ℕ) → 1 ≤ n → CoverNonzeroFrom xs n ks → (k : ℕ) (d : ℕ) → k < length ks →
+    (1 ≤ slice_index_or ks k d) × (slice_index_or ks k d ≤ length xs)
 candidates_within xs n [] low (no_more_listed zeros) k d below = absurd (omega (arith, below))
 candidates_within xs n (j ∷ ks) low (next_listed h rest) zero d below = (omega (arith, low, h.from), h.within)
 candidates_within xs n (j ∷ ks) low (next_listed h rest) (suc k) d below = candidates_within xs (suc j) ks (omega arith) rest k d (omega (arith, below))

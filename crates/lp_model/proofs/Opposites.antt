@@ -15,4 +15,5 @@ opposite_below x = by_side (lt_or_le zero_ℚ x)
   where
     by_side : (zero_ℚ <ℚ x) ⊎ (x ≤ℚ zero_ℚ) → lt_ℚ (neg_ℚ x) zero_ℚ ≡ lt_ℚ zero_ℚ x
     by_side (inl above) = test_from_lt (neg_ℚ x) zero_ℚ (subst (λ (z : ℚ). neg_ℚ x <ℚ z) opposite_zero (neg-lt-neg above)) ∙ sym (test_from_lt zero_ℚ x above)
-    by_side (inr below) = lt_fails_from_le (neg_ℚ x) zero_ℚ (subst (λ (z : ℚ). z ≤ℚ neg_ℚ x) opposite_zero (neg-le-neg below)) ∙ sym (lt_fails_from_le zero_ℚ x below)
+    by_side (inr below) =
+        lt_fails_from_le (neg_ℚ x) zero_ℚ (subst (λ (z : ℚ). z ≤ℚ neg_ℚ x) opposite_zero (neg-le-neg below)) ∙ sym (lt_fails_from_le zero_ℚ x below)

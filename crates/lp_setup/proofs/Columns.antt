@@ -54,7 +54,8 @@ module _ (rows : List (Row ℕ)) (es : List (Entry ℕ)) where
           ∙ ap (λ front. front ++ value ∷ []) are.before
           ∙ ap (λ v. column_values (take place rows) es ++ v ∷ []) (row_has value has)
           ∙ sym (fold-append (λ before (row : Row ℕ). before ++ row_value es before row.parts ∷ []) [] (take place rows) (row ∷ []))
-          ∙ ap (λ front. column_values front es) (ap (λ (r : Row ℕ). take place rows ++ r ∷ []) (sym (get_or_from_slice_get rows place row row is_row)) ∙ sym (take_more rows place row within));
+          ∙ ap (λ front. column_values front es)
+          (ap (λ (r : Row ℕ). take place rows ++ r ∷ []) (sym (get_or_from_slice_get rows place row row is_row)) ∙ sym (take_more rows place row within));
       after = λ k past below. get_or-set_other values place k value None (apart k past) ∙ are.after k (omega (arith, past)) below;
     }
       where
@@ -64,7 +65,8 @@ module _ (rows : List (Row ℕ)) (es : List (Entry ℕ)) where
     -- what the row at the place makes is made
     sum_there : IsRowValueMade values row.parts place → IsSumMade rows es place
     sum_there made other there =
-        subst (λ (r : Row ℕ). verdict_of (combination_steps (take place rows) es r.parts) ≡ Checked) (same_Some row other (sym is_row ∙ there)) (by row.parts made)
+        subst (λ (r : Row ℕ). verdict_of (combination_steps (take place rows) es r.parts) ≡ Checked) (same_Some row other (sym is_row ∙ there))
+        (by row.parts made)
       where
         by : (parts : Option (List (Entry ℕ))) → IsRowValueMade values parts place → verdict_of (combination_steps (take place rows) es parts) ≡ Checked
         by None made = refl
@@ -81,7 +83,8 @@ module _ (rows : List (Row ℕ)) (es : List (Entry ℕ)) where
     pub overflow_at : (number : ℕ) (stop : Stop) → IsRowValueOverflow values row.parts place number stop → IsColumnOverflow rows es number stop
     overflow_at number stop over = by row.parts refl stop over
       where
-        by : (parts : Option (List (Entry ℕ))) → row.parts ≡ parts → (stop : Stop) → IsRowValueOverflow values parts place number stop → IsColumnOverflow rows es number stop
+        by : (parts : Option (List (Entry ℕ))) → row.parts ≡ parts → (stop : Stop) → IsRowValueOverflow values parts place number stop →
+            IsColumnOverflow rows es number stop
         by None is stop over = absurd over
         by (Some parts) is NoMemory over = tt
         by (Some parts) is (Overflow e) over = record {
@@ -98,7 +101,9 @@ module _ (rows : List (Row ℕ)) (es : List (Entry ℕ)) where
   values_begun values is = record {
     counted = ap length is ∙ length-by_number (value_on es) (length rows);
     before = refl;
-    after = λ k from below. ap (λ vs. get_or vs k None) is ∙ get_or-map-range_with_len (λ place. value_on es (place + 1)) 0 (length rows) k k None below (zero-add k);
+    after =
+        λ k from below. ap (λ vs. get_or vs k None) is
+        ∙ get_or-map-range_with_len (λ place. value_on es (place + 1)) 0 (length rows) k k None below (zero-add k);
   }
 
   -- at last they are those of the column
@@ -117,14 +122,18 @@ parts_there rows place row are is_row = by row.parts refl
 -- ---- numbers on combinations
 
 -- the numbers on one row more
-pub numbers_step : (rows : List (Row ℕ)) (values : List (Option ℚ)) (place : ℕ) (row : Row ℕ) (value : Option ℚ) → slice_get rows place ≡ Some row → place < length values → value ≡ get_or values place value
+pub numbers_step : (rows : List (Row ℕ)) (values : List (Option ℚ)) (place : ℕ) (row : Row ℕ) (value : Option ℚ) → slice_get rows place ≡ Some row
+    → place < length values → value ≡ get_or values place value
     → filter_map (λ (r : ℕ × Row ℕ). on_combination r.0 (value_in values r.0) r.1.parts) (take (place + 1) (enumerate_from 1 rows))
-    ≡ filter_map (λ (r : ℕ × Row ℕ). on_combination r.0 (value_in values r.0) r.1.parts) (take place (enumerate_from 1 rows)) ++ cons_option (on_combination (place + 1) value row.parts) []
+    ≡ filter_map (λ (r : ℕ × Row ℕ). on_combination r.0 (value_in values r.0) r.1.parts) (take place (enumerate_from 1 rows)) ++ cons_option
+    (on_combination (place + 1) value row.parts) []
 numbers_step rows values place row value is_row below is_value =
     ap (filter_map number_of) (take_more (enumerate_from 1 rows) place (0, row) within)
     ∙ filter_map-append number_of (take place (enumerate_from 1 rows)) (get_or (enumerate_from 1 rows) place (0, row) ∷ [])
-    ∙ ap (λ r. filter_map number_of (take place (enumerate_from 1 rows)) ++ cons_option (number_of r) []) (numbered-at rows 1 place row (0, row) is_row ∙ ap (λ n. (n, row)) (omega arith))
-    ∙ ap (λ has. filter_map number_of (take place (enumerate_from 1 rows)) ++ cons_option (on_combination (place + 1) has row.parts) []) (ap (λ n. slice_index_or values n None) at ∙ get_or_default values place None value below ∙ sym is_value)
+    ∙ ap (λ r. filter_map number_of (take place (enumerate_from 1 rows)) ++ cons_option (number_of r) [])
+    (numbered-at rows 1 place row (0, row) is_row ∙ ap (λ n. (n, row)) (omega arith))
+    ∙ ap (λ has. filter_map number_of (take place (enumerate_from 1 rows)) ++ cons_option (on_combination (place + 1) has row.parts) [])
+    (ap (λ n. slice_index_or values n None) at ∙ get_or_default values place None value below ∙ sym is_value)
   where
     number_of : ℕ × Row ℕ → Option Coefficient
     number_of r = on_combination r.0 (value_in values r.0) r.1.parts
@@ -136,21 +145,26 @@ numbers_step rows values place row value is_row below is_value =
     at = omega arith
 
 -- the number on a row is there or not
-pub with_number : (before after : List Coefficient) (o : Option Coefficient) (number : Coefficient) → o ≡ Some number → after ≡ before ++ number ∷ [] → after ≡ before ++ cons_option o []
+pub with_number : (before after : List Coefficient) (o : Option Coefficient) (number : Coefficient) → o ≡ Some number → after ≡ before ++ number ∷ [] →
+    after ≡ before ++ cons_option o []
 with_number before after o number is pushed = pushed ∙ ap (λ o. before ++ cons_option o []) (sym is)
 
 -- ---- columns
 
 -- what all columns before make, and the next
-pub columns_step : (rows : List (Row ℕ)) (columns : List (Group (Entry ℕ))) (place : ℕ) (column : Group (Entry ℕ)) → slice_get columns place ≡ Some column → AreSumsMade rows column.items (length rows)
+pub columns_step : (rows : List (Row ℕ)) (columns : List (Group (Entry ℕ))) (place : ℕ) (column : Group (Entry ℕ)) → slice_get columns place ≡ Some column
+    → AreSumsMade rows column.items (length rows)
     → AreColumnsMade rows columns place → AreColumnsMade rows columns (place + 1)
 columns_step rows columns place column is_column made before k below other there = by (ℕ_discrete place k)
   where
     by : Dec (place ≡ k) → AreSumsMade rows other.items (length rows)
-    by (yes same) = subst (λ (c : Group (Entry ℕ)). AreSumsMade rows c.items (length rows)) (same_Some column other (sym is_column ∙ ap (slice_get columns) same ∙ there)) made
+    by (yes same) =
+        subst (λ (c : Group (Entry ℕ)). AreSumsMade rows c.items (length rows))
+        (same_Some column other (sym is_column ∙ ap (slice_get columns) same ∙ there)) made
     by (no apart) = before k (omega (arith, below, apart)) other there
 
-pub overflow_of_column : (rows : List (Row ℕ)) (columns : List (Group (Entry ℕ))) (place : ℕ) (column : Group (Entry ℕ)) (number : ℕ) (stop : Stop) → slice_get columns place ≡ Some column → number ≡ length rows + (place + 1)
+pub overflow_of_column : (rows : List (Row ℕ)) (columns : List (Group (Entry ℕ))) (place : ℕ) (column : Group (Entry ℕ)) (number : ℕ) (stop : Stop)
+    → slice_get columns place ≡ Some column → number ≡ length rows + (place + 1)
     → IsColumnOverflow rows column.items number stop → IsMatrixOverflow rows columns stop
 overflow_of_column rows columns place column number NoMemory is_column is over = tt
 overflow_of_column rows columns place column number (Overflow e) is_column is over = record {
@@ -161,7 +175,8 @@ overflow_of_column rows columns place column number (Overflow e) is_column is ov
 }
 
 -- where no row is a combination, nothing is made
-pub plain_made : (rows : List (Row ℕ)) (columns : List (Group (Entry ℕ))) → list_any (λ (row : Row ℕ). is_some row.parts) rows ≡ false → AreColumnsMade rows columns (length columns)
+pub plain_made : (rows : List (Row ℕ)) (columns : List (Group (Entry ℕ))) → list_any (λ (row : Row ℕ). is_some row.parts) rows ≡ false →
+    AreColumnsMade rows columns (length columns)
 plain_made rows columns plain place below column is_column k within row is_row = by row.parts (plain_at rows k plain is_row)
   where
     by : (parts : Option (List (Entry ℕ))) → is_some parts ≡ false → verdict_of (combination_steps (take k rows) column.items parts) ≡ Checked
@@ -177,7 +192,9 @@ plain_made rows columns plain place below column is_column k within row is_row =
     left true b none = none
     left false b none = refl
 
-    plain_at : (rows : List (Row ℕ)) (k : ℕ) → list_any (λ (row : Row ℕ). is_some row.parts) rows ≡ false → slice_get rows k ≡ Some row → is_some row.parts ≡ false
+    plain_at : (rows : List (Row ℕ)) (k : ℕ) → list_any (λ (row : Row ℕ). is_some row.parts) rows ≡ false → slice_get rows k ≡ Some row →
+        is_some row.parts ≡ false
     plain_at [] k plain is = absurd (cc is)
-    plain_at (x ∷ rows) zero plain is = ap (λ (r : Row ℕ). is_some r.parts) (sym (same_Some x row is)) ∙ left (is_some x.parts) (list_any (λ (row : Row ℕ). is_some row.parts) rows) plain
+    plain_at (x ∷ rows) zero plain is =
+        ap (λ (r : Row ℕ). is_some r.parts) (sym (same_Some x row is)) ∙ left (is_some x.parts) (list_any (λ (row : Row ℕ). is_some row.parts) rows) plain
     plain_at (x ∷ rows) (suc k) plain is = plain_at rows k (right (is_some x.parts) (list_any (λ (row : Row ℕ). is_some row.parts) rows) plain) is

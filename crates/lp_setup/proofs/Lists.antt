@@ -14,7 +14,8 @@ use Rattle.lp_setup.specs.Parts.{by_number, limits_of_rows}
 
 -- ---- numbered lists
 
-enumerated : {X Y : Type 0} (f : ℕ → Y) (first : ℕ) (xs : List X) → map (λ (entry : ℕ × X). f entry.0) (enumerate_from (first + 1) xs) ≡ map (λ place. f (place + 1)) (range_with_len first (length xs))
+enumerated : {X Y : Type 0} (f : ℕ → Y) (first : ℕ) (xs : List X) →
+    map (λ (entry : ℕ × X). f entry.0) (enumerate_from (first + 1) xs) ≡ map (λ place. f (place + 1)) (range_with_len first (length xs))
 enumerated f first [] = refl
 enumerated f first (x ∷ xs) = ap (λ ys. f (first + 1) ∷ ys) (enumerated f (first + 1) xs)
 
@@ -25,7 +26,8 @@ pub map-by_number : {X Y : Type 0} (g : X → Y) (f : ℕ → X) (count : ℕ) �
 map-by_number g f count = map-map g (λ place. f (place + 1)) (range_with_len 0 count)
 
 -- the right-hand sides, from the values of a set
-pub sides_by_number : (items : List (Entry ℕ)) (rows : ℕ) → map (λ (value : Option ℚ). unwrap_or value zero_ℚ) (by_number (value_on items) rows) ≡ by_number (side_on items) rows
+pub sides_by_number : (items : List (Entry ℕ)) (rows : ℕ) →
+    map (λ (value : Option ℚ). unwrap_or value zero_ℚ) (by_number (value_on items) rows) ≡ by_number (side_on items) rows
 sides_by_number items rows = map-by_number (λ (value : Option ℚ). unwrap_or value zero_ℚ) (value_on items) rows
 
 pub length-by_number : {X : Type 0} (f : ℕ → X) (count : ℕ) → length (by_number f count) ≡ count
@@ -46,7 +48,8 @@ pub record Holds {X : Type 0} (f : ℕ → X) (count : ℕ) (d : X) (xs : List X
   pub each : (k : ℕ) → k < count → get_or xs k d ≡ f (k + 1)
 
 -- one place is written, and g differs from f there alone
-pub holds-set : {X : Type 0} (f g : ℕ → X) (count place : ℕ) (d y : X) (xs : List X) → Holds f count d xs → place < count → g (place + 1) ≡ y → ((k : ℕ) → k ≢ place → g (k + 1) ≡ f (k + 1))
+pub holds-set : {X : Type 0} (f g : ℕ → X) (count place : ℕ) (d y : X) (xs : List X) → Holds f count d xs → place < count → g (place + 1) ≡ y
+    → ((k : ℕ) → k ≢ place → g (k + 1) ≡ f (k + 1))
     → Holds g count d (set xs place y)
 holds-set f g count place d y xs h below here others = record {
   counted = length-set xs place y ∙ h.counted;
@@ -67,21 +70,26 @@ holds-all f count d xs h = fill_by_all (λ place. f (place + 1)) xs count d h.co
 -- one more element
 pub grown : {X : Type 0} (all items : List X) (i : ℕ) (x : X) → items ≡ take i all → slice_get all i ≡ Some x → items ++ x ∷ [] ≡ take (i + 1) all
 grown all items i x so_far next =
-    ap (λ xs. xs ++ x ∷ []) so_far ∙ ap (λ y. take i all ++ y ∷ []) (sym (get_or_from_slice_get all i x x next)) ∙ sym (take_more all i x (slice_get_within all i x next))
+    ap (λ xs. xs ++ x ∷ []) so_far ∙ ap (λ y. take i all ++ y ∷ []) (sym (get_or_from_slice_get all i x x next))
+    ∙ sym (take_more all i x (slice_get_within all i x next))
 
 -- ---- the limits of rows
 
 module _ (f : ℕ → ℚ) (g : ℕ → Option ℚ) where
   rows_from : (first : ℕ) (rows : List (Row ℕ))
-      → limits_of_rows rows (map (λ place. f (place + 1)) (range_with_len first (length rows))) (map (λ place. g (place + 1)) (range_with_len first (length rows)))
+      → limits_of_rows rows (map (λ place. f (place + 1)) (range_with_len first (length rows)))
+      (map (λ place. g (place + 1)) (range_with_len first (length rows)))
       ≡ map (λ (entry : ℕ × Row ℕ). row_limits entry.1.kind (f entry.0) (g entry.0)) (enumerate_from (first + 1) rows)
   rows_from first [] = refl
   rows_from first (row ∷ rows) = ap (λ ls. row_limits row.kind (f (first + 1)) (g (first + 1)) ∷ ls) (rows_from (first + 1) rows)
 
-  pub limits-numbered : (rows : List (Row ℕ)) → limits_of_rows rows (by_number f (length rows)) (by_number g (length rows)) ≡ map (λ (entry : ℕ × Row ℕ). row_limits entry.1.kind (f entry.0) (g entry.0)) (enumerate_from 1 rows)
+  pub limits-numbered : (rows : List (Row ℕ)) →
+      limits_of_rows rows (by_number f (length rows)) (by_number g (length rows)) ≡ map (λ (entry : ℕ × Row ℕ). row_limits entry.1.kind (f entry.0) (g entry.0))
+      (enumerate_from 1 rows)
   limits-numbered rows = rows_from 0 rows
 
-pub limits_at : (rows : List (Row ℕ)) (sides : List ℚ) (ranges : List (Option ℚ)) (i : ℕ) (row : Row ℕ) (side : ℚ) (range : Option ℚ) → slice_get rows i ≡ Some row → slice_get sides i ≡ Some side → slice_get ranges i ≡ Some range
+pub limits_at : (rows : List (Row ℕ)) (sides : List ℚ) (ranges : List (Option ℚ)) (i : ℕ) (row : Row ℕ) (side : ℚ) (range : Option ℚ)
+    → slice_get rows i ≡ Some row → slice_get sides i ≡ Some side → slice_get ranges i ≡ Some range
     → slice_get (limits_of_rows rows sides ranges) i ≡ Some (row_limits row.kind side range)
 limits_at [] sides ranges i row side range a b c = absurd (cc a)
 limits_at (x ∷ rows) [] ranges i row side range a b c = absurd (cc b)
@@ -93,7 +101,8 @@ limits_at (x ∷ rows) (y ∷ sides) (z ∷ ranges) zero row side range a b c =
     λ i. Some (row_limits (is_row i).kind (is_side i) (is_range i))
 limits_at (x ∷ rows) (y ∷ sides) (z ∷ ranges) (suc i) row side range a b c = limits_at rows sides ranges i row side range a b c
 
-pub length-limits : (rows : List (Row ℕ)) (sides : List ℚ) (ranges : List (Option ℚ)) → length sides ≡ length rows → length ranges ≡ length rows → length (limits_of_rows rows sides ranges) ≡ length rows
+pub length-limits : (rows : List (Row ℕ)) (sides : List ℚ) (ranges : List (Option ℚ)) → length sides ≡ length rows → length ranges ≡ length rows →
+    length (limits_of_rows rows sides ranges) ≡ length rows
 length-limits [] sides ranges b c = refl
 length-limits (x ∷ rows) [] ranges b c = absurd (omega (arith, b))
 length-limits (x ∷ rows) (y ∷ sides) [] b c = absurd (omega (arith, c))

@@ -20,7 +20,8 @@ use Rattle.lp_setup.proofs.Lists.{length-by_number}
 
 module _ (rows : List (Row ℕ)) (sides : List ℚ) (ranges : List (Option ℚ)) where
   -- the row that stands at a place
-  pub row_made : (place : ℕ) (row : Row ℕ) (side : ℚ) (range : Option ℚ) → slice_get rows place ≡ Some row → slice_get sides place ≡ Some side → slice_get ranges place ≡ Some range →
+  pub row_made : (place : ℕ) (row : Row ℕ) (side : ℚ) (range : Option ℚ) → slice_get rows place ≡ Some row → slice_get sides place ≡ Some side →
+      slice_get ranges place ≡ Some range →
       verdict_of (range_steps row.kind side range) ≡ Checked → IsRowMade rows sides ranges place
   row_made place row side range is_row is_side is_range made other other_side other_range there there_side there_range =
       subst (λ (r : Row ℕ). verdict_of (range_steps r.kind other_side other_range) ≡ Checked) (same_Some row other (sym is_row ∙ there))
@@ -43,9 +44,11 @@ at_number f count place below =
     slice_get-get_or (by_number f count) place (f (place + 1)) (omega (arith, below, length-by_number f count))
     ∙ ap Some (get_or-map-range_with_len (λ k. f (k + 1)) 0 count place place (f (place + 1)) below (zero-add place))
 
-module _ (problem : Problem ℕ) (choice : Choice) (rhs ranges : List (Entry ℕ)) (is_rhs : rhs ≡ rhs_items problem.rhs choice.rhs) (is_ranges : ranges ≡ set_items problem.ranges choice.options.range) where
+module _ (problem : Problem ℕ) (choice : Choice) (rhs ranges : List (Entry ℕ)) (is_rhs : rhs ≡ rhs_items problem.rhs choice.rhs)
+    (is_ranges : ranges ≡ set_items problem.ranges choice.options.range) where
   -- a selection is made where the range sums of all rows are, and what all columns make on combinations
-  pub selection_made : AreRowsMade problem.rows (by_number (side_on rhs) (length problem.rows)) (by_number (value_on ranges) (length problem.rows)) (length problem.rows) →
+  pub selection_made : AreRowsMade problem.rows (by_number (side_on rhs) (length problem.rows)) (by_number (value_on ranges) (length problem.rows))
+      (length problem.rows) →
       AreColumnsMade problem.rows problem.columns (length problem.columns) → is_made problem choice ≡ true
   selection_made made columns_made = made_by_parts problem choice
       (λ place row is_row.
@@ -55,4 +58,5 @@ module _ (problem : Problem ℕ) (choice : Choice) (rhs ranges : List (Entry ℕ
       (made place below row (side_on rhs (place + 1)) (value_on ranges (place + 1)) is_row
       (at_number (side_on rhs) (length problem.rows) place below) (at_number (value_on ranges) (length problem.rows) place below))))
       (λ column_place column is_column place row is_row.
-      columns_made column_place (slice_get_within problem.columns column_place column is_column) column is_column place (slice_get_within problem.rows place row is_row) row is_row)
+      columns_made column_place (slice_get_within problem.columns column_place column is_column) column is_column place
+      (slice_get_within problem.rows place row is_row) row is_row)

@@ -26,34 +26,49 @@ use Rattle.lp_setup.proofs.Lists.{map-enumerate, limits-numbered, at-by_number}
 
 module _ (problem : Problem ℕ) (objective : ℕ) (rhs ranges : List (Entry ℕ)) (bounds : List (Bound ℕ)) (sense : Sense) where
   -- the limits that are made of the rows and of the columns are those of the program
-  pub limits_made : limits_of_rows problem.rows (by_number (side_on rhs) (length problem.rows)) (by_number (value_on ranges) (length problem.rows)) ++ by_number (column_limits bounds) (length problem.columns)
+  pub limits_made : limits_of_rows problem.rows (by_number (side_on rhs) (length problem.rows)) (by_number (value_on ranges) (length problem.rows)) ++ by_number
+      (column_limits bounds) (length problem.columns)
       ≡ limits_with problem objective rhs ranges bounds sense
   limits_made =
       ap (λ limits. limits ++ by_number (column_limits bounds) (length problem.columns)) (limits-numbered (side_on rhs) (value_on ranges) problem.rows)
-      ∙ ap (λ limits. map (λ (entry : ℕ × Row ℕ). row_limits entry.1.kind (side_on rhs entry.0) (value_on ranges entry.0)) (enumerate_from 1 problem.rows) ++ limits) (sym (map-enumerate (column_limits bounds) problem.columns))
+      ∙ ap (λ limits. map (λ (entry : ℕ × Row ℕ). row_limits entry.1.kind (side_on rhs entry.0) (value_on ranges entry.0))
+      (enumerate_from 1 problem.rows) ++ limits) (sym (map-enumerate (column_limits bounds) problem.columns))
 
   pub sides_made : by_number (side_on rhs) (length problem.rows) ≡ map (λ (entry : ℕ × Row ℕ). side_on rhs entry.0) (enumerate_from 1 problem.rows)
   sides_made = sym (map-enumerate (side_on rhs) problem.rows)
 
   -- the program of these lists
   abbrev pub made : ℕ → ℕ → List (List Coefficient) → List (Option ℚ) → List (Option ℚ) → List ℚ → LinearProgram
-  made rows cols columns lower upper sides = record { matrix = record { rows = rows; cols = cols; columns = columns }; lower = lower; upper = upper; rhs = sides; objective = objective; change = None; sense = sense }
+  made rows cols columns lower upper sides =
+      record { matrix = record { rows = rows; cols = cols; columns = columns }; lower = lower; upper = upper; rhs = sides; objective = objective; change = None; sense = sense }
 
   -- it is the program of the problem, where the lists are made of what is read of it
-  pub program_made : (read_rows : List (Row ℕ)) (read_columns : List (Group (Entry ℕ))) (rows cols : ℕ) (columns : List (List Coefficient)) (limits : List Limits) (lower upper : List (Option ℚ)) (sides read_sides : List ℚ)
-      → read_rows ≡ problem.rows → read_columns ≡ problem.columns → rows ≡ length problem.rows → cols ≡ length problem.columns → columns ≡ map (coefficients read_rows) read_columns
-      → limits ≡ limits_of_rows problem.rows read_sides (by_number (value_on ranges) (length problem.rows)) ++ by_number (column_limits bounds) (length problem.columns) → read_sides ≡ sides
-      → lower ≡ map (λ (pair : Limits). pair.lower) limits → upper ≡ map (λ (pair : Limits). pair.upper) limits → sides ≡ by_number (side_on rhs) (length read_rows)
+  pub program_made : (read_rows : List (Row ℕ)) (read_columns : List (Group (Entry ℕ))) (rows cols : ℕ) (columns : List (List Coefficient))
+      (limits : List Limits) (lower upper : List (Option ℚ)) (sides read_sides : List ℚ)
+      → read_rows ≡ problem.rows → read_columns ≡ problem.columns → rows ≡ length problem.rows → cols ≡ length problem.columns
+      → columns ≡ map (coefficients read_rows) read_columns
+      → limits ≡ limits_of_rows problem.rows read_sides (by_number (value_on ranges) (length problem.rows)) ++ by_number (column_limits bounds)
+      (length problem.columns) → read_sides ≡ sides
+      → lower ≡ map (λ (pair : Limits). pair.lower) limits → upper ≡ map (λ (pair : Limits). pair.upper) limits
+      → sides ≡ by_number (side_on rhs) (length read_rows)
       → made rows cols columns lower upper sides ≡ program_with problem objective rhs ranges bounds sense
   program_made read_rows read_columns rows cols columns limits lower upper sides read_sides read_is read_columns_is is_rows is_cols columns_read limits_read sides_read is_lower is_upper sides_so_far =
       let is_columns : columns ≡ map (coefficients problem.rows) problem.columns = columns_read ∙ (λ i. map (coefficients (read_is i)) (read_columns_is i)) in
-      let is_sides : sides ≡ by_number (side_on rhs) (length problem.rows) = sides_so_far ∙ ap (λ (rs : List (Row ℕ)). by_number (side_on rhs) (length rs)) read_is in
-      let is_limits : limits ≡ limits_of_rows problem.rows sides (by_number (value_on ranges) (length problem.rows)) ++ by_number (column_limits bounds) (length problem.columns) =
-      limits_read ∙ ap (λ xs. limits_of_rows problem.rows xs (by_number (value_on ranges) (length problem.rows)) ++ by_number (column_limits bounds) (length problem.columns)) sides_read in
+      let is_sides : sides ≡ by_number (side_on rhs) (length problem.rows) =
+      sides_so_far ∙ ap (λ (rs : List (Row ℕ)). by_number (side_on rhs) (length rs)) read_is in
+      let is_limits : limits ≡ limits_of_rows problem.rows sides (by_number (value_on ranges) (length problem.rows)) ++ by_number (column_limits bounds)
+      (length problem.columns) =
+      limits_read ∙ ap
+      (λ xs. limits_of_rows problem.rows xs (by_number (value_on ranges) (length problem.rows)) ++ by_number (column_limits bounds)
+      (length problem.columns)) sides_read in
       let all : limits ≡ limits_with problem objective rhs ranges bounds sense =
-      is_limits ∙ ap (λ xs. limits_of_rows problem.rows xs (by_number (value_on ranges) (length problem.rows)) ++ by_number (column_limits bounds) (length problem.columns)) is_sides ∙ limits_made in
-      let low : lower ≡ map (λ (pair : Limits). pair.lower) (limits_with problem objective rhs ranges bounds sense) = is_lower ∙ ap (map (λ (pair : Limits). pair.lower)) all in
-      let high : upper ≡ map (λ (pair : Limits). pair.upper) (limits_with problem objective rhs ranges bounds sense) = is_upper ∙ ap (map (λ (pair : Limits). pair.upper)) all in
+      is_limits ∙ ap
+      (λ xs. limits_of_rows problem.rows xs (by_number (value_on ranges) (length problem.rows)) ++ by_number (column_limits bounds)
+      (length problem.columns)) is_sides ∙ limits_made in
+      let low : lower ≡ map (λ (pair : Limits). pair.lower) (limits_with problem objective rhs ranges bounds sense) =
+      is_lower ∙ ap (map (λ (pair : Limits). pair.lower)) all in
+      let high : upper ≡ map (λ (pair : Limits). pair.upper) (limits_with problem objective rhs ranges bounds sense) =
+      is_upper ∙ ap (map (λ (pair : Limits). pair.upper)) all in
       let side : sides ≡ map (λ (entry : ℕ × Row ℕ). side_on rhs entry.0) (enumerate_from 1 problem.rows) = is_sides ∙ sides_made in
       λ i. record {
         matrix = record { rows = is_rows i; cols = is_cols i; columns = is_columns i };
@@ -65,9 +80,11 @@ module _ (problem : Problem ℕ) (objective : ℕ) (rhs ranges : List (Entry ℕ
         sense = sense;
       }
 
-module _ (problem : Problem ℕ) (choice : Choice) (rhs ranges : List (Entry ℕ)) (is_rhs : rhs ≡ rhs_items problem.rhs choice.rhs) (is_ranges : ranges ≡ set_items problem.ranges choice.options.range) where
+module _ (problem : Problem ℕ) (choice : Choice) (rhs ranges : List (Entry ℕ)) (is_rhs : rhs ≡ rhs_items problem.rhs choice.rhs)
+    (is_ranges : ranges ≡ set_items problem.ranges choice.options.range) where
   -- the program of the chosen items is what the choice selects
-  pub program_selected : (number : ℕ) (bounds : List (Bound ℕ)) (lp : LinearProgram) → bounds ≡ set_items problem.bounds choice.options.bound → objective_of problem.rows choice.objective ≡ Some number
+  pub program_selected : (number : ℕ) (bounds : List (Bound ℕ)) (lp : LinearProgram) → bounds ≡ set_items problem.bounds choice.options.bound
+      → objective_of problem.rows choice.objective ≡ Some number
       → selection_fault problem choice ≡ None → lp ≡ program_with problem number rhs ranges bounds choice.options.sense → selected problem choice ≡ Ok lp
   unfolding selected
   program_selected number bounds lp is_bounds is_number faultless is_lp =
@@ -76,7 +93,9 @@ module _ (problem : Problem ℕ) (choice : Choice) (rhs ranges : List (Entry ℕ
       ap (λ fault. unless fault (program_of_choice problem choice)) faultless ∙ ap Ok (sym (is_lp ∙ same))
 
   -- a row's range sum is refused
-  pub refusal_of_row : (e : Evidence) → IsRowRefusal problem.rows (by_number (side_on rhs) (length problem.rows)) (by_number (value_on ranges) (length problem.rows)) e → IsRangeRefusal problem choice e
+  pub refusal_of_row : (e : Evidence) →
+      IsRowRefusal problem.rows (by_number (side_on rhs) (length problem.rows)) (by_number (value_on ranges) (length problem.rows)) e →
+      IsRangeRefusal problem choice e
   refusal_of_row e h =
       let is_side : h.side ≡ side_on (rhs_items problem.rhs choice.rhs) (h.place + 1) =
       at-by_number (side_on rhs) (length problem.rows) h.place h.side h.is_side ∙ ap (λ items. side_on items (h.place + 1)) is_rhs in
@@ -124,7 +143,9 @@ refusal_of_column problem e h = record {
 }
 
 -- the evidence of a stop is that of an operation of the selection
-pub refusal_of_program : (problem : Problem ℕ) (choice : Choice) (rhs ranges : List (Entry ℕ)) → rhs ≡ rhs_items problem.rhs choice.rhs → ranges ≡ set_items problem.ranges choice.options.range → (e : Evidence)
-    → IsProgramOverflow problem (by_number (side_on rhs) (length problem.rows)) (by_number (value_on ranges) (length problem.rows)) (Overflow e) → IsSelectionRefusal problem choice e
+pub refusal_of_program : (problem : Problem ℕ) (choice : Choice) (rhs ranges : List (Entry ℕ)) → rhs ≡ rhs_items problem.rhs choice.rhs
+    → ranges ≡ set_items problem.ranges choice.options.range → (e : Evidence)
+    → IsProgramOverflow problem (by_number (side_on rhs) (length problem.rows)) (by_number (value_on ranges) (length problem.rows)) (Overflow e)
+    → IsSelectionRefusal problem choice e
 refusal_of_program problem choice rhs ranges is_rhs is_ranges e (inl row) = inl (refusal_of_row problem choice rhs ranges is_rhs is_ranges e row)
 refusal_of_program problem choice rhs ranges is_rhs is_ranges e (inr column) = inr (refusal_of_column problem e column)

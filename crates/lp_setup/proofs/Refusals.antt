@@ -19,7 +19,8 @@ use Rattle.selection_definitions.proofs.Making.{make_first}
 use Rattle.lp_setup.specs.Parts.{IsSumRefusal, IsRangeSumRefusal}
 
 -- A refused sum of the right-hand side and the magnitude of a range, by the operation that the range asks for.
-pub range_refused : (kind : RowKind) (side : ℚ) (range : Option ℚ) (value size : ℚ) (op : Op) (r : Result Limits Refused) → range ≡ Some value → size ≡ magnitude value → range_operation kind value ≡ Some op
+pub range_refused : (kind : RowKind) (side : ℚ) (range : Option ℚ) (value size : ℚ) (op : Op) (r : Result Limits Refused) → range ≡ Some value
+    → size ≡ magnitude value → range_operation kind value ≡ Some op
     → IfErr r (IsSumRefusal op side size) → IfErr r (IsRangeSumRefusal kind side range)
 range_refused kind side range value size op r has is_size is_op h =
     IfErr-weaker r (IsSumRefusal op side size) (IsRangeSumRefusal kind side range)
@@ -32,7 +33,8 @@ range_refused kind side range value size op r has is_size is_op h =
     }) h
 
 -- A sum that is made is that of the range.
-pub range_made : (kind : RowKind) (side : ℚ) (range : Option ℚ) (value size : ℚ) (op : Op) (r : Result Limits Refused) → range ≡ Some value → size ≡ magnitude value → range_operation kind value ≡ Some op
+pub range_made : (kind : RowKind) (side : ℚ) (range : Option ℚ) (value size : ℚ) (op : Op) (r : Result Limits Refused) → range ≡ Some value
+    → size ≡ magnitude value → range_operation kind value ≡ Some op
     → IfOk r (λ _. refuses op side size ≡ false) → IfOk r (λ _. verdict_of (range_steps kind side range) ≡ Checked)
 range_made kind side range value size op r has is_size is_op h =
     IfOk-weaker r (λ _. refuses op side size ≡ false) (λ _. verdict_of (range_steps kind side range) ≡ Checked)

@@ -25,12 +25,14 @@ value_on-other xs x row apart =
     ap (option_map v) (find-append p xs (x ∷ []) ∙ ap (option_or (find p xs)) alone ∙ or_none (find p xs))
 
 -- the element in the middle of a list
-middle : {X : Type 0} (P : X → Type 0) (f : Entry ℕ → X) (xs : List (Entry ℕ)) (x : Entry ℕ) (ys : List (Entry ℕ)) → AllByRecursion P (map f (xs ++ x ∷ ys)) → P (f x)
+middle : {X : Type 0} (P : X → Type 0) (f : Entry ℕ → X) (xs : List (Entry ℕ)) (x : Entry ℕ) (ys : List (Entry ℕ)) → AllByRecursion P (map f (xs ++ x ∷ ys)) →
+    P (f x)
 middle P f [] x ys each = each.0
 middle P f (z ∷ xs) x ys each = middle P f xs x ys each.1
 
 -- of items on distinct rows, none before is on the row of the next
-none_before : (xs : List (Entry ℕ)) (x : Entry ℕ) (ys : List (Entry ℕ)) → IsDistinct nat_eq (map (λ (item : Entry ℕ). item.row) (xs ++ x ∷ ys)) → find (λ (item : Entry ℕ). nat_eq item.row x.row) xs ≡ None
+none_before : (xs : List (Entry ℕ)) (x : Entry ℕ) (ys : List (Entry ℕ)) → IsDistinct nat_eq (map (λ (item : Entry ℕ). item.row) (xs ++ x ∷ ys)) →
+    find (λ (item : Entry ℕ). nat_eq item.row x.row) xs ≡ None
 unfolding IsDistinct
 none_before [] x ys distinct = refl
 none_before (z ∷ xs) x ys distinct =
@@ -40,7 +42,8 @@ none_before (z ∷ xs) x ys distinct =
 nat_eq-same : (n : ℕ) → nat_eq n n ≡ true
 nat_eq-same n = grind arith
 
-value_on-same : (xs : List (Entry ℕ)) (x : Entry ℕ) (ys : List (Entry ℕ)) → IsDistinct nat_eq (map (λ (item : Entry ℕ). item.row) (xs ++ x ∷ ys)) → value_on (xs ++ x ∷ []) x.row ≡ Some x.value.value
+value_on-same : (xs : List (Entry ℕ)) (x : Entry ℕ) (ys : List (Entry ℕ)) → IsDistinct nat_eq (map (λ (item : Entry ℕ). item.row) (xs ++ x ∷ ys)) →
+    value_on (xs ++ x ∷ []) x.row ≡ Some x.value.value
 value_on-same xs x ys distinct =
     let p : Entry ℕ → Bool = λ item. nat_eq item.row x.row in
     let v : Entry ℕ → ℚ = λ item. item.value.value in
@@ -59,7 +62,8 @@ module _ (items : List (Entry ℕ)) (i : ℕ) (x : Entry ℕ) (below : i < lengt
   pub value_here : IsDistinct nat_eq (map (λ (item : Entry ℕ). item.row) items) → value_on (take (i + 1) items) x.row ≡ Some x.value.value
   value_here distinct =
       ap (λ xs. value_on xs x.row) (next_taken items i x below is)
-      ∙ value_on-same (take i items) x (drop (i + 1) items) (subst (λ xs. IsDistinct nat_eq (map (λ (item : Entry ℕ). item.row) xs)) (split_at items i x below is) distinct)
+      ∙ value_on-same (take i items) x (drop (i + 1) items)
+      (subst (λ xs. IsDistinct nat_eq (map (λ (item : Entry ℕ). item.row) xs)) (split_at items i x below is) distinct)
 
   pub value_elsewhere : (row : ℕ) → nat_eq x.row row ≡ false → value_on (take (i + 1) items) row ≡ value_on (take i items) row
   value_elsewhere row apart = ap (λ xs. value_on xs row) (next_taken items i x below is) ∙ value_on-other (take i items) x row apart
@@ -71,7 +75,8 @@ pub applied : Limits → Bound ℕ → Limits
 applied limits bound = bounded bound.kind (option_map (λ value. value.value) bound.value) limits
 
 module _ (bounds : List (Bound ℕ)) (i : ℕ) (b : Bound ℕ) (below : i < length bounds) (is : b ≡ get_or bounds i b) where
-  pub limits_here : column_limits (take (i + 1) bounds) b.column ≡ bounded b.kind (option_map (λ value. value.value) b.value) (column_limits (take i bounds) b.column)
+  pub limits_here : column_limits (take (i + 1) bounds) b.column ≡ bounded b.kind (option_map (λ value. value.value) b.value)
+      (column_limits (take i bounds) b.column)
   unfolding applied
   limits_here =
       let p : Bound ℕ → Bool = λ bound. nat_eq bound.column b.column in
@@ -99,7 +104,8 @@ unlike a b apart = by (eqb_tells a b)
     by (inr differ) = differ.0
 
 -- the value of the next item is written at its row
-pub value_step : (items : List (Entry ℕ)) (rows i place : ℕ) (x : Entry ℕ) (v : ℚ) (values : List (Option ℚ)) → AreEntries rows items → i < length items → x ≡ get_or items i x → place ≡ x.row - 1 → v ≡ x.value.value
+pub value_step : (items : List (Entry ℕ)) (rows i place : ℕ) (x : Entry ℕ) (v : ℚ) (values : List (Option ℚ)) → AreEntries rows items → i < length items
+    → x ≡ get_or items i x → place ≡ x.row - 1 → v ≡ x.value.value
     → Holds (value_on (take i items)) rows None values → Holds (value_on (take (i + 1) items)) rows None (set values place (Some v))
 value_step items rows i place x v values are below is is_place is_value h =
     let at : IsNumberOf rows x.row = subst (λ (entry : Entry ℕ). IsNumberOf rows entry.row) (sym is) (are.on_rows i x below) in
@@ -111,7 +117,8 @@ value_step items rows i place x v values are below is is_place is_value h =
     (λ k apart. let differ : x.row ≢ k + 1 = omega (arith, apart) in value_elsewhere items i x below is (k + 1) (unlike x.row (k + 1) differ))
 
 -- the next bound is applied to the limits of its column
-pub bound_step : (bounds : List (Bound ℕ)) (columns i place : ℕ) (b : Bound ℕ) (before after : Limits) (limits : List Limits) → AreBounds columns bounds → i < length bounds → b ≡ get_or bounds i b → place ≡ b.column - 1
+pub bound_step : (bounds : List (Bound ℕ)) (columns i place : ℕ) (b : Bound ℕ) (before after : Limits) (limits : List Limits) → AreBounds columns bounds
+    → i < length bounds → b ≡ get_or bounds i b → place ≡ b.column - 1
     → before ≡ get_or limits place before → after ≡ bounded b.kind (option_map (λ value. value.value) b.value) before
     → Holds (column_limits (take i bounds)) columns unbounded limits → Holds (column_limits (take (i + 1) bounds)) columns unbounded (set limits place after)
 bound_step bounds columns i place b before after limits are below is is_place is_before is_after h =
@@ -122,6 +129,7 @@ bound_step bounds columns i place b before after limits are below is is_place is
     let stood : before ≡ column_limits (take i bounds) b.column =
     is_before ∙ get_or_default limits place before unbounded inside ∙ h.each place within ∙ ap (column_limits (take i bounds)) number in
     let here : column_limits (take (i + 1) bounds) (place + 1) ≡ after =
-    ap (column_limits (take (i + 1) bounds)) number ∙ limits_here bounds i b below is ∙ ap (bounded b.kind (option_map (λ value. value.value) b.value)) (sym stood) ∙ sym is_after in
+    ap (column_limits (take (i + 1) bounds)) number ∙ limits_here bounds i b below is
+    ∙ ap (bounded b.kind (option_map (λ value. value.value) b.value)) (sym stood) ∙ sym is_after in
     holds-set (column_limits (take i bounds)) (column_limits (take (i + 1) bounds)) columns place unbounded after limits h within here
     (λ k apart. let differ : b.column ≢ k + 1 = omega (arith, apart) in limits_elsewhere bounds i b below is (k + 1) (unlike b.column (k + 1) differ))

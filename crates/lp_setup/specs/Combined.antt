@@ -61,7 +61,8 @@ IsRefusedWith total (Some product) refused = IsRefusedAt total product refused
 pub record IsRefusedPart (products : List Product) (refused : RefusedPart) : Type 0 where
   pub product : Product
   pub is_product : slice_get products refused.term ≡ Some product
-  pub refuses : IsSumRefusal Mul product.left product.right refused.refused ⊎ IsSumRefusal Add (sum_of zero_ℚ (take refused.term products)) (product_of product) refused.refused
+  pub refuses : IsSumRefusal Mul product.left product.right refused.refused ⊎ IsSumRefusal Add (sum_of zero_ℚ (take refused.term products))
+      (product_of product) refused.refused
 
 -- What a column has on the row at a place, from its values by row: on a plain row the value there, and on a combination the sum of its
 -- parts, which stand on rows before it.

@@ -21,7 +21,8 @@ unread : (known : Option (List ℕ)) → ReadsPrefix known known
 unread known = ([], omega arith, Consumes-nil known)
 
 -- of a job whose listing is the end of a stop alone
-pub stopped_accounted : (asked : Option Request) (job_old job_new : SourceState) {old new : SinkState} (punch : SinkState) (stop : EarlyStop) (ended : RunStatus) →
+pub stopped_accounted : (asked : Option Request) (job_old job_new : SourceState) {old new : SinkState} (punch : SinkState) (stop : EarlyStop)
+    (ended : RunStatus) →
     IsWhy asked (Rose job_old.faults job_new.faults) (ReadsJob job_old.left job_new.left) stop → (job_old.faults < job_new.faults → stop ≡ ReadFault) →
     ReadsPrefix job_old.left job_new.left → EndsWith old new stop ended → IsAccounted asked (devices job_old old punch) (devices job_new new punch) ended
 stopped_accounted asked job_old job_new punch stop ended why read prefix ends = record {
@@ -46,20 +47,26 @@ same_accounted request {before} {after} ended is accounted = subst (λ (o : Opti
 module _ {print_old print_new punch_old punch_new : SinkState} (ended : RunStatus) (size : ℕ) where
   -- of a job that is made, from that of its source, which doesn't fail
   pub source_accounted : (source_old source_new : SureSource) →
-      IsAccounted (Some request.Read) (devices (sure_source_state source_old) print_old punch_old) (devices (sure_source_state source_new) print_new punch_new) ended →
+      IsAccounted (Some request.Read) (devices (sure_source_state source_old) print_old punch_old)
+      (devices (sure_source_state source_new) print_new punch_new) ended →
       IsAccounted (Some (request.Make size)) (devices (untold_source 0) print_old punch_old) (devices (untold_source 0) print_new punch_new) ended
   source_accounted source_old source_new accounted = record {
-    cause = likewise (Some request.Read) (Some (request.Make size)) _ _ _ _ (λ none. absurd (cc)) (λ read failed. absurd (omega (arith, failed))) (λ here. tt) _ _ _ ended accounted.cause;
+    cause =
+        likewise (Some request.Read) (Some (request.Make size)) _ _ _ _ (λ none. absurd (cc)) (λ read failed. absurd (omega (arith, failed)))
+        (λ here. tt) _ _ _ ended accounted.cause;
     reported = accounted.reported;
     still = accounted.still;
     no_further = unread None;
   }
 
   -- of a job that is made, whatever source isn't read
-  pub made_accounted : (job : SourceState) → IsAccounted (Some (request.Make size)) (devices (untold_source 0) print_old punch_old) (devices (untold_source 0) print_new punch_new) ended →
+  pub made_accounted : (job : SourceState) →
+      IsAccounted (Some (request.Make size)) (devices (untold_source 0) print_old punch_old) (devices (untold_source 0) print_new punch_new) ended →
       IsAccounted (Some (request.Make size)) (devices job print_old punch_old) (devices job print_new punch_new) ended
   made_accounted job accounted = record {
-    cause = likewise (Some (request.Make size)) (Some (request.Make size)) _ _ _ _ (λ none. none) (λ read failed. absurd (cc)) (λ here. tt) _ _ _ ended accounted.cause;
+    cause =
+        likewise (Some (request.Make size)) (Some (request.Make size)) _ _ _ _ (λ none. none) (λ read failed. absurd (cc))
+        (λ here. tt) _ _ _ ended accounted.cause;
     reported = reported_unread _ _ _ job.faults job.faults refl accounted.reported;
     still = accounted.still;
     no_further = unread job.left;

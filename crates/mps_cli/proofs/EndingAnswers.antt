@@ -55,23 +55,30 @@ code_is Memory = refl
 -- ---- the answer
 
 module _ (S : Solving) (job : Job) (failures : Failures) (stop : EarlyStop) (may_end : MayEnd S job failures [] [] [] (stop_view stop)) where
-  cut : (status : ℕ) (prefix back : List ℕ) → prefix ++ back ≡ ending_text (stop_view stop) → IsCutShort S job failures (record { status = status; printed = prefix; punched = [] })
+  cut : (status : ℕ) (prefix back : List ℕ) → prefix ++ back ≡ ending_text (stop_view stop) →
+      IsCutShort S job failures (record { status = status; printed = prefix; punched = [] })
   cut status prefix back e = in_end (stop_view stop) prefix may_end (back, e) refl (gains_nothing stop)
 
   module _ (old new punch : Option (List ℕ)) (status : RunStatus) where
     -- the end is printed
-    ended : status ≡ status_at stop → Appends old new (ending_text (stop_view stop)) → IsAnswered S job failures (code_of status) (Appends old new) (Appends punch punch)
-    ended is text = (ending_text (stop_view stop), [], text, keeps punch, whole (stop_view stop) may_end (ap code_of is ∙ code_is stop) refl (gains_nothing stop))
+    ended : status ≡ status_at stop → Appends old new (ending_text (stop_view stop)) →
+        IsAnswered S job failures (code_of status) (Appends old new) (Appends punch punch)
+    ended is text =
+        (ending_text (stop_view stop), [], text, keeps punch, whole (stop_view stop) may_end (ap code_of is ∙ code_is stop) refl (gains_nothing stop))
 
     -- the print fails, or runs out of memory
-    ended_early : (cause : WriteStop) → status ≡ cut_status cause → (cause ≡ Failed → failures.print) → (cause ≡ NoMemory → failures.memory) → AppendsPrefix old new (ending_text (stop_view stop)) →
+    ended_early : (cause : WriteStop) → status ≡ cut_status cause → (cause ≡ Failed → failures.print) → (cause ≡ NoMemory → failures.memory) →
+        AppendsPrefix old new (ending_text (stop_view stop)) →
         IsAnswered S job failures (code_of status) (Appends old new) (Appends punch punch)
-    ended_early Failed is failed wanted prefix = (prefix.0, [], prefix.2, keeps punch, print_fails (failed refl) (ap code_of is) (cut (code_of status) prefix.0 prefix.1.0 prefix.1.1))
-    ended_early NoMemory is failed wanted prefix = (prefix.0, [], prefix.2, keeps punch, print_wants_memory (wanted refl) (ap code_of is) (cut (code_of status) prefix.0 prefix.1.0 prefix.1.1))
+    ended_early Failed is failed wanted prefix =
+        (prefix.0, [], prefix.2, keeps punch, print_fails (failed refl) (ap code_of is) (cut (code_of status) prefix.0 prefix.1.0 prefix.1.1))
+    ended_early NoMemory is failed wanted prefix =
+        (prefix.0, [], prefix.2, keeps punch, print_wants_memory (wanted refl) (ap code_of is) (cut (code_of status) prefix.0 prefix.1.0 prefix.1.1))
 
   pub ending_answer : {old new : SinkState} (punch : Option (List ℕ)) (status : RunStatus) →
       (Rose old.faults new.faults → failures.print) → (Rose old.refusals new.refusals → failures.memory) → EndsWith old new stop status →
       IsAnswered S job failures (code_of status) (Appends old.written new.written) (Appends punch punch)
   ending_answer {old} {new} punch status failed wanted (printed is writes) = ended old.written new.written punch status is writes.bytes
   ending_answer {old} {new} punch status failed wanted (cut_off cause is writes) =
-      ended_early old.written new.written punch status cause is (λ e. failed (writes.cause.failed (ap (λ s. Err s) e))) (λ e. wanted (writes.cause.no_memory (ap (λ s. Err s) e))) writes.bytes
+      ended_early old.written new.written punch status cause is (λ e. failed (writes.cause.failed (ap (λ s. Err s) e)))
+      (λ e. wanted (writes.cause.no_memory (ap (λ s. Err s) e))) writes.bytes

@@ -11,7 +11,8 @@ use Rattle.job_program.specs.Stops.{stop_view, ReportsEarlyStop, ArePrepared, Ha
 
 -- ---- a job may end with what stops it
 
-module _ (S : Solving) (job : Job) (bytes : List ℕ) (failures : Failures) (is_read : Type 0) (has : bytes_of job ≡ Some bytes) (read : failures.read → job ≡ Read bytes) where
+module _ (S : Solving) (job : Job) (bytes : List ℕ) (failures : Failures) (is_read : Type 0) (has : bytes_of job ≡ Some bytes)
+    (read : failures.read → job ≡ Read bytes) where
   reported : (stop : EarlyStop) → ReportsEarlyStop (Some bytes) stop → HasStopCause failures.read is_read stop → MayEnd S job failures [] [] [] (stop_view stop)
   reported Words tells cause = absurd tells
   reported ReadFault tells cause = read_fails bytes (read cause) cause
@@ -19,10 +20,12 @@ module _ (S : Solving) (job : Job) (bytes : List ℕ) (failures : Failures) (is_
   reported (Control fault) tells cause = by_itself bytes has (control_fault fault tells.0 tells.1)
   reported Memory tells cause = memory_at_start
 
-  pub may_stop : {known : Option (List ℕ)} (stop : EarlyStop) → known ≡ Some bytes → ReportsEarlyStop known stop → HasStopCause failures.read is_read stop → MayEnd S job failures [] [] [] (stop_view stop)
+  pub may_stop : {known : Option (List ℕ)} (stop : EarlyStop) → known ≡ Some bytes → ReportsEarlyStop known stop → HasStopCause failures.read is_read stop →
+      MayEnd S job failures [] [] [] (stop_view stop)
   may_stop stop is tells cause = reported stop (subst (λ (k : Option (List ℕ)). ReportsEarlyStop k stop) is tells) cause
 
-pub prepared_of : (bytes : List ℕ) {known : Option (List ℕ)} (prepared : Prepared) → known ≡ Some bytes → ArePrepared known prepared → ArePrepared (Some bytes) prepared
+pub prepared_of : (bytes : List ℕ) {known : Option (List ℕ)} (prepared : Prepared) → known ≡ Some bytes → ArePrepared known prepared →
+    ArePrepared (Some bytes) prepared
 prepared_of bytes prepared is are = subst (λ (k : Option (List ℕ)). ArePrepared k prepared) is are
 
 -- the program is that of the job
@@ -32,8 +35,10 @@ program_of (Some job) prepared are = are.1
 
 -- ---- what is an answer where some things have failed is one where others have failed too
 
-module _ (S : Solving) (job : Job) (some others : Failures) (read : some.read → others.read) (print : some.print → others.print) (punch : some.punch → others.punch) (memory : some.memory → others.memory) where
-  ends : (reports : List Report) (cards deck : List (List ℕ)) (ending : Ending) → MayEnd S job some reports cards deck ending → MayEnd S job others reports cards deck ending
+module _ (S : Solving) (job : Job) (some others : Failures) (read : some.read → others.read) (print : some.print → others.print)
+    (punch : some.punch → others.punch) (memory : some.memory → others.memory) where
+  ends : (reports : List Report) (cards deck : List (List ℕ)) (ending : Ending) → MayEnd S job some reports cards deck ending →
+      MayEnd S job others reports cards deck ending
   ends _ _ _ _ (words_refused is) = words_refused is
   ends _ _ _ _ (read_fails bytes is failed) = read_fails bytes is (read failed)
   ends _ _ _ _ (by_itself bytes is runs) = by_itself bytes is runs
@@ -43,13 +48,17 @@ module _ (S : Solving) (job : Job) (some others : Failures) (read : some.read �
   ends _ _ _ _ (punch_fails bytes program state deck failed is so_far punching) = punch_fails bytes program state deck (punch failed) is so_far punching
 
   cut_short : (answer : Answer) → IsCutShort S job some answer → IsCutShort S job others answer
-  cut_short answer (in_report bytes program state outcome part is so_far step prefix printed punched) = in_report bytes program state outcome part is so_far step prefix printed punched
-  cut_short answer (in_end {reports} {cards} {deck} ending part may_end prefix printed punched) = in_end ending part (ends reports cards deck ending may_end) prefix printed punched
+  cut_short answer (in_report bytes program state outcome part is so_far step prefix printed punched) =
+      in_report bytes program state outcome part is so_far step prefix printed punched
+  cut_short answer (in_end {reports} {cards} {deck} ending part may_end prefix printed punched) =
+      in_end ending part (ends reports cards deck ending may_end) prefix printed punched
 
   answers : (answer : Answer) → IsAnswer S job some answer → IsAnswer S job others answer
-  answers answer (whole {reports} {cards} {deck} ending may_end status printed punched) = whole ending (ends reports cards deck ending may_end) status printed punched
+  answers answer (whole {reports} {cards} {deck} ending may_end status printed punched) =
+      whole ending (ends reports cards deck ending may_end) status printed punched
   answers answer (print_fails failed status cut) = print_fails (print failed) status (cut_short answer cut)
   answers answer (print_wants_memory wanted status cut) = print_wants_memory (memory wanted) status (cut_short answer cut)
 
-  pub answered_too : (status : ℕ) (PrintGains PunchGains : List ℕ → Type 0) → IsAnswered S job some status PrintGains PunchGains → IsAnswered S job others status PrintGains PunchGains
+  pub answered_too : (status : ℕ) (PrintGains PunchGains : List ℕ → Type 0) → IsAnswered S job some status PrintGains PunchGains →
+      IsAnswered S job others status PrintGains PunchGains
   answered_too status PrintGains PunchGains is = (is.0, is.1, is.2, is.3, answers (record { status = status; printed = is.0; punched = is.1 }) is.4)

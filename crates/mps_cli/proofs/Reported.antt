@@ -24,12 +24,14 @@ module _ (punch : SinkState) where
   counted read print = counts read print punch
 
   module _ {old new : SinkState} where
-    pub reported_stop : (read_before read_now : ℕ) (stop : EarlyStop) (ended : RunStatus) → (read_before < read_now → stop ≡ ReadFault) → EndsWith old new stop ended →
+    pub reported_stop : (read_before read_now : ℕ) (stop : EarlyStop) (ended : RunStatus) → (read_before < read_now → stop ≡ ReadFault) →
+        EndsWith old new stop ended →
         IsReported (counted read_before old) (counted read_now new) (code_of ended)
     reported_stop read_before read_now stop ended read (printed is w) =
         reported_other read_before read_now old new punch punch (code_of ended) w.cause (λ more. ap code_of (is ∙ ap status_at (read more)))
         (λ more. none_more punch.faults punch.faults refl more) (λ more. none_more punch.refusals punch.refusals refl more)
-    reported_stop read_before read_now stop ended read (cut_off cause is w) = reported_print read_before read_now old new punch punch cause (code_of ended) (ap code_of is) w.cause
+    reported_stop read_before read_now stop ended read (cut_off cause is w) =
+        reported_print read_before read_now old new punch punch cause (code_of ended) (ap code_of is) w.cause
 
     still_print : (stop : EarlyStop) (ended : RunStatus) → EndsWith old new stop ended → IsStill old new
     still_print stop ended (printed is w) = stands_still (Ok tt) (left w)

@@ -34,7 +34,8 @@ runs_are_functions : IsFunction linear_programming
 runs_are_functions = is_function linear_programming knows_linear_programming answers_once
 
 -- an answer whose numbers fit is a true one
-pub true_answer : {job : Job} {failures : Failures} {status : ℕ} {PrintGains PunchGains : List ℕ → Type 0} → IsAnswered linear_programming_of_128_bits job failures status PrintGains PunchGains →
+pub true_answer : {job : Job} {failures : Failures} {status : ℕ} {PrintGains PunchGains : List ℕ → Type 0} →
+    IsAnswered linear_programming_of_128_bits job failures status PrintGains PunchGains →
     IsTrueAnswer linear_programming job failures status PrintGains PunchGains
 true_answer {job} {failures} {status} {PrintGains} {PunchGains} fitting =
     let is : IsAnswered linear_programming job failures status PrintGains PunchGains = also_answered job failures status PrintGains PunchGains fitting in
@@ -48,7 +49,8 @@ true_answer {job} {failures} {status} {PrintGains} {PunchGains} fitting =
     }
 
 -- a true answer is that of the job's own run, or the run was broken off, or cut off
-pub once_answer : {job : Job} {failures : Failures} {status : ℕ} {PrintGains PunchGains : List ℕ → Type 0} → IsTrueAnswer linear_programming job failures status PrintGains PunchGains →
+pub once_answer : {job : Job} {failures : Failures} {status : ℕ} {PrintGains PunchGains : List ℕ → Type 0} →
+    IsTrueAnswer linear_programming job failures status PrintGains PunchGains →
     IsAnsweredOnce linear_programming job failures status PrintGains PunchGains
 once_answer {job} {failures} {status} {PrintGains} {PunchGains} is =
     answered_once linear_programming runs_are_functions own_runs job failures status PrintGains PunchGains
@@ -78,39 +80,50 @@ module _ (asked : Option Request) (reported : Option (List ℕ)) (status : RunSt
   module _ {old new : SinkState} (read_failed punch_failed : Type 0) (punch : Option (List ℕ)) where
     -- the words are refused
     words_answer : asked ≡ None → EndsWith old new Words status → (job : Job) → IsAsked asked reported job →
-        IsAnswered linear_programming_of_128_bits job (record { read = read_failed; print = Rose old.faults new.faults; punch = punch_failed; memory = Rose old.refusals new.refusals })
+        IsAnswered linear_programming_of_128_bits job
+        (record { read = read_failed; print = Rose old.faults new.faults; punch = punch_failed; memory = Rose old.refusals new.refusals })
         (code_of status) (Appends old.written new.written) (Appends punch punch)
     words_answer none ends =
-        by_words _ asked reported none (ending_answer linear_programming_of_128_bits WithoutBytes _ Words (words_refused refl) punch status (λ e. e) (λ e. e) ends)
+        by_words _ asked reported none
+        (ending_answer linear_programming_of_128_bits WithoutBytes _ Words (words_refused refl) punch status (λ e. e) (λ e. e) ends)
 
     -- memory runs out while the words are read
     memory_answer : EndsWith old new Memory status → (job : Job) → IsAsked asked reported job →
-        IsAnswered linear_programming_of_128_bits job (record { read = read_failed; print = Rose old.faults new.faults; punch = punch_failed; memory = Rose old.refusals new.refusals })
+        IsAnswered linear_programming_of_128_bits job
+        (record { read = read_failed; print = Rose old.faults new.faults; punch = punch_failed; memory = Rose old.refusals new.refusals })
         (code_of status) (Appends old.written new.written) (Appends punch punch)
     memory_answer ends job is = ending_answer linear_programming_of_128_bits job _ Memory memory_at_start punch status (λ e. e) (λ e. e) ends
 
     -- the words ask for nothing
-    pub stopped_answer : (stop : WordsStop) → (stop ≡ stops.Refused → asked ≡ None) → EndsWith old new (stop_of_words stop) status → (job : Job) → IsAsked asked reported job →
-        IsAnswered linear_programming_of_128_bits job (record { read = read_failed; print = Rose old.faults new.faults; punch = punch_failed; memory = Rose old.refusals new.refusals })
+    pub stopped_answer : (stop : WordsStop) → (stop ≡ stops.Refused → asked ≡ None) → EndsWith old new (stop_of_words stop) status → (job : Job) →
+        IsAsked asked reported job →
+        IsAnswered linear_programming_of_128_bits job
+        (record { read = read_failed; print = Rose old.faults new.faults; punch = punch_failed; memory = Rose old.refusals new.refusals })
         (code_of status) (Appends old.written new.written) (Appends punch punch)
     stopped_answer stops.Refused are_refused ends = words_answer (are_refused refl) ends
     stopped_answer stops.NoMemory are_refused ends = memory_answer ends
 
   -- the job is read
   pub read_answer : (failures : Failures) (PrintGains PunchGains : List ℕ → Type 0) → asked ≡ Some request.Read →
-      ((given : Job) (bytes : List ℕ) → IsGiven reported failures.read given bytes → IsAnswered linear_programming_of_128_bits given failures (code_of status) PrintGains PunchGains) →
+      ((given : Job) (bytes : List ℕ) → IsGiven reported failures.read given bytes →
+      IsAnswered linear_programming_of_128_bits given failures (code_of status) PrintGains PunchGains) →
       (job : Job) → IsAsked asked reported job → IsAnswered linear_programming_of_128_bits job failures (code_of status) PrintGains PunchGains
   read_answer failures PrintGains PunchGains read answers =
       by_source _ asked reported read (λ bytes known. answers (Read bytes) bytes (record { has_bytes = refl; is_reported = known; is_read = λ failed. refl }))
 
   -- the job is made
-  pub made_answer : (none_failed : Type 0) → (none_failed → ⊥) → (read_failed print_failed punch_failed memory_wanted : Type 0) (PrintGains PunchGains : List ℕ → Type 0) (size : ℕ) → asked ≡ Some (request.Make size) →
-      IsAnswered linear_programming_of_128_bits (Made (made_job size)) (record { read = none_failed; print = print_failed; punch = punch_failed; memory = memory_wanted }) (code_of status) PrintGains PunchGains →
+  pub made_answer : (none_failed : Type 0) → (none_failed → ⊥) →
+      (read_failed print_failed punch_failed memory_wanted : Type 0) (PrintGains PunchGains : List ℕ → Type 0) (size : ℕ) → asked ≡ Some (request.Make size) →
+      IsAnswered linear_programming_of_128_bits (Made (made_job size))
+      (record { read = none_failed; print = print_failed; punch = punch_failed; memory = memory_wanted }) (code_of status) PrintGains PunchGains →
       (job : Job) → IsAsked asked reported job →
-      IsAnswered linear_programming_of_128_bits job (record { read = read_failed; print = print_failed; punch = punch_failed; memory = memory_wanted }) (code_of status) PrintGains PunchGains
+      IsAnswered linear_programming_of_128_bits job (record { read = read_failed; print = print_failed; punch = punch_failed; memory = memory_wanted })
+      (code_of status) PrintGains PunchGains
   made_answer none_failed none read_failed print_failed punch_failed memory_wanted PrintGains PunchGains size made answer =
       by_size _ asked reported size made
-      (answered_too linear_programming_of_128_bits (Made (made_job size)) (record { read = none_failed; print = print_failed; punch = punch_failed; memory = memory_wanted }) _ (λ e. absurd (none e)) (λ e. e) (λ e. e) (λ e. e) (code_of status) PrintGains PunchGains answer)
+      (answered_too linear_programming_of_128_bits (Made (made_job size))
+      (record { read = none_failed; print = print_failed; punch = punch_failed; memory = memory_wanted }) _ (λ e. absurd (none e)) (λ e. e) (λ e. e)
+      (λ e. e) (code_of status) PrintGains PunchGains answer)
 
   -- a job that is asked for as a request is
   pub same_answer : (failures : Failures) (PrintGains PunchGains : List ℕ → Type 0) (request : Request) → asked ≡ Some request →

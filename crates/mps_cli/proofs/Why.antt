@@ -32,21 +32,24 @@ module _ (asked : Option Request) (read_failed is_read : Type 0) where
   IsWhy (Control fault) = IsAtHand asked is_read
   IsWhy Memory = Unit {0}
 
-  printed_cause : (print_failed punch_failed : Type 0) (GainsPrefixOf : List ℕ → Type 0) (stop : EarlyStop) → IsWhy stop → HasCause asked read_failed is_read print_failed punch_failed GainsPrefixOf (status_at stop)
+  printed_cause : (print_failed punch_failed : Type 0) (GainsPrefixOf : List ℕ → Type 0) (stop : EarlyStop) → IsWhy stop →
+      HasCause asked read_failed is_read print_failed punch_failed GainsPrefixOf (status_at stop)
   printed_cause print_failed punch_failed GainsPrefixOf Words is = is
   printed_cause print_failed punch_failed GainsPrefixOf ReadFault is = is
   printed_cause print_failed punch_failed GainsPrefixOf (Card fault) is = is
   printed_cause print_failed punch_failed GainsPrefixOf (Control fault) is = is
   printed_cause print_failed punch_failed GainsPrefixOf Memory is = tt
 
-  after : (GainsPrefixOf : List ℕ → Type 0) (stop : EarlyStop) → IsWhy stop → GainsPrefixOf (ending_text (stop_view stop)) → IsPrintedAfter asked read_failed is_read GainsPrefixOf
+  after : (GainsPrefixOf : List ℕ → Type 0) (stop : EarlyStop) → IsWhy stop → GainsPrefixOf (ending_text (stop_view stop)) →
+      IsPrintedAfter asked read_failed is_read GainsPrefixOf
   after GainsPrefixOf Words is prefix = refused_words is prefix
   after GainsPrefixOf ReadFault is prefix = a_read_fault is.0 is.1 prefix
   after GainsPrefixOf (Card fault) is prefix = at_hand is
   after GainsPrefixOf (Control fault) is prefix = at_hand is
   after GainsPrefixOf Memory is prefix = no_memory prefix
 
-  cut_cause : (print_failed punch_failed : Type 0) (GainsPrefixOf : List ℕ → Type 0) (stop : EarlyStop) → IsWhy stop → (cause : WriteStop) → (cause ≡ Failed → print_failed) → GainsPrefixOf (ending_text (stop_view stop)) →
+  cut_cause : (print_failed punch_failed : Type 0) (GainsPrefixOf : List ℕ → Type 0) (stop : EarlyStop) → IsWhy stop → (cause : WriteStop) →
+      (cause ≡ Failed → print_failed) → GainsPrefixOf (ending_text (stop_view stop)) →
       HasCause asked read_failed is_read print_failed punch_failed GainsPrefixOf (cut_status cause)
   cut_cause print_failed punch_failed GainsPrefixOf stop is Failed failed prefix = (failed refl, after GainsPrefixOf stop is prefix)
   cut_cause print_failed punch_failed GainsPrefixOf stop is NoMemory failed prefix = tt
@@ -55,13 +58,15 @@ module _ (asked : Option Request) (read_failed is_read : Type 0) where
   pub ending_cause : (punch_failed : Type 0) {old new : SinkState} (stop : EarlyStop) (ended : RunStatus) → IsWhy stop → EndsWith old new stop ended →
       HasCause asked read_failed is_read (Rose old.faults new.faults) punch_failed (AppendsPrefix old.written new.written) ended
   ending_cause punch_failed {old} {new} stop ended is (printed same writes) =
-      subst (HasCause asked read_failed is_read (Rose old.faults new.faults) punch_failed (AppendsPrefix old.written new.written)) (sym same) (printed_cause _ _ _ stop is)
+      subst (HasCause asked read_failed is_read (Rose old.faults new.faults) punch_failed (AppendsPrefix old.written new.written)) (sym same)
+      (printed_cause _ _ _ stop is)
   ending_cause punch_failed {old} {new} stop ended is (cut_off cause same writes) =
       subst (HasCause asked read_failed is_read (Rose old.faults new.faults) punch_failed (AppendsPrefix old.written new.written)) (sym same)
       (cut_cause _ _ _ stop is cause (λ e. writes.cause.failed (ap (λ s. Err s) e)) writes.bytes)
 
   -- of a job whose program has run
-  pub run_cause : (print_failed punch_failed : Type 0) (GainsPrefixOf : List ℕ → Type 0) (ended : RunStatus) → IsAtHand asked is_read → IsStatusOfRun ended → (ended ≡ status.PrintFault → print_failed) → (ended ≡ status.PunchFault → punch_failed) →
+  pub run_cause : (print_failed punch_failed : Type 0) (GainsPrefixOf : List ℕ → Type 0) (ended : RunStatus) → IsAtHand asked is_read → IsStatusOfRun ended →
+      (ended ≡ status.PrintFault → print_failed) → (ended ≡ status.PunchFault → punch_failed) →
       HasCause asked read_failed is_read print_failed punch_failed GainsPrefixOf ended
   run_cause print_failed punch_failed GainsPrefixOf status.Done is own failed stopped = is
   run_cause print_failed punch_failed GainsPrefixOf status.Infeasible is own failed stopped = is
@@ -90,14 +95,16 @@ why read_failed is_read Memory cause = tt
 -- ---- the cause of one job is that of another, which ends likewise
 
 module _ (asked other : Option Request) (read_failed is_read other_failed other_read : Type 0) (none : asked ≡ None → other ≡ None)
-    (read : asked ≡ Some request.Read → read_failed → (other ≡ Some request.Read) × other_failed) (hand : IsAtHand asked is_read → IsAtHand other other_read) (print_failed punch_failed : Type 0) (GainsPrefixOf : List ℕ → Type 0) where
+    (read : asked ≡ Some request.Read → read_failed → (other ≡ Some request.Read) × other_failed) (hand : IsAtHand asked is_read → IsAtHand other other_read)
+    (print_failed punch_failed : Type 0) (GainsPrefixOf : List ℕ → Type 0) where
   printed_likewise : IsPrintedAfter asked read_failed is_read GainsPrefixOf → IsPrintedAfter other other_failed other_read GainsPrefixOf
   printed_likewise (at_hand is) = at_hand (hand is)
   printed_likewise (refused_words is prefix) = refused_words (none is) prefix
   printed_likewise (a_read_fault is failed prefix) = let p = read is failed in a_read_fault p.0 p.1 prefix
   printed_likewise (no_memory prefix) = no_memory prefix
 
-  pub likewise : (ended : RunStatus) → HasCause asked read_failed is_read print_failed punch_failed GainsPrefixOf ended → HasCause other other_failed other_read print_failed punch_failed GainsPrefixOf ended
+  pub likewise : (ended : RunStatus) → HasCause asked read_failed is_read print_failed punch_failed GainsPrefixOf ended →
+      HasCause other other_failed other_read print_failed punch_failed GainsPrefixOf ended
   likewise status.Done is = hand is
   likewise status.Infeasible is = hand is
   likewise status.Unbounded is = hand is
@@ -115,14 +122,16 @@ module _ (asked other : Option Request) (read_failed is_read other_failed other_
   likewise status.Memory is = tt
 
 -- why the words ask for nothing
-pub why_words : (asked : Option Request) (read_failed is_read : Type 0) (stop : WordsStop) → (stop ≡ words.Refused → asked ≡ None) → IsWhy asked read_failed is_read (stop_of_words stop)
+pub why_words : (asked : Option Request) (read_failed is_read : Type 0) (stop : WordsStop) → (stop ≡ words.Refused → asked ≡ None) →
+    IsWhy asked read_failed is_read (stop_of_words stop)
 why_words asked read_failed is_read words.Refused are_refused = are_refused refl
 why_words asked read_failed is_read words.NoMemory are_refused = tt
 
 -- ---- where something may be punched
 
 -- the punch of a job that is asked for as a request is
-pub same_punch : {asked : Option Request} (request : Request) (reported : Option (List ℕ)) (is_read is_same : Type 0) (ended : RunStatus) → asked ≡ Some request →
+pub same_punch : {asked : Option Request} (request : Request) (reported : Option (List ℕ)) (is_read is_same : Type 0) (ended : RunStatus) →
+    asked ≡ Some request →
     IsPunched (Some request) reported is_read is_same ended → IsPunched asked reported is_read is_same ended
 same_punch request reported is_read is_same ended is punched = subst (λ (o : Option Request). IsPunched o reported is_read is_same ended) (sym is) punched
 
@@ -137,7 +146,8 @@ source_punch size source reported source_read is_read is_same ended tells (nothi
 source_punch size source reported source_read is_read is_same ended tells (in_run program here known own) =
     in_run program tt (subst (λ (o : Option (List ℕ)). IfSome o (λ bytes. IsProgramOf bytes program)) tells known) own
 
-pub made_punch : (reported other : Option (List ℕ)) (is_read other_read is_same : Type 0) (ended : RunStatus) (size : ℕ) {wanted : Request} → wanted ≡ request.Make size →
+pub made_punch : (reported other : Option (List ℕ)) (is_read other_read is_same : Type 0) (ended : RunStatus) (size : ℕ) {wanted : Request} →
+    wanted ≡ request.Make size →
     IsPunched (Some (request.Make size)) reported is_read is_same ended → IsPunched (Some wanted) other other_read is_same ended
 made_punch reported other is_read other_read is_same ended size is punched =
     same_punch (request.Make size) other other_read is_same ended (ap (λ (r : Request). Some r) is) (moved punched)

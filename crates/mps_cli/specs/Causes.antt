@@ -25,7 +25,8 @@ IsAtHand (Some (request.Make size)) is_read = Unit {0}
 pub data IsPrintedAfter (asked : Option Request) (read_failed is_read : Type 0) (GainsPrefixOf : List ℕ → Type 0) : Type 0 where
   at_hand : IsAtHand asked is_read → IsPrintedAfter asked read_failed is_read GainsPrefixOf
   refused_words : asked ≡ None → GainsPrefixOf (ending_text WordsRefused) → IsPrintedAfter asked read_failed is_read GainsPrefixOf
-  a_read_fault : asked ≡ Some request.Read → read_failed → GainsPrefixOf (ending_text endings.ReadFault) → IsPrintedAfter asked read_failed is_read GainsPrefixOf
+  a_read_fault : asked ≡ Some request.Read → read_failed → GainsPrefixOf (ending_text endings.ReadFault) →
+      IsPrintedAfter asked read_failed is_read GainsPrefixOf
   no_memory : GainsPrefixOf (ending_text endings.Memory) → IsPrintedAfter asked read_failed is_read GainsPrefixOf
 
 -- The words may be refused. A job that they ask to read is read, and a read may fail; whatever else ends a job comes when the whole job

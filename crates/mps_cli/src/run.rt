@@ -67,7 +67,8 @@ fn made_source(alloc: Global, size: u32) -> Result<SureSource, NoMemory>
 fn run_made<P: Sink, U: Sink>(alloc: Global, size: u32, print: &mut P, punch: &mut U) -> RunStatus
     requires least { 1 ≤ size }
     requires most { size ≤ max_size }
-    ensures answer { let before = devices (untold_source 0) (P.taken print.old) (U.taken punch.old) in
+    ensures answer { let before = devices (untold_source 0)
+        (P.taken print.old) (U.taken punch.old) in
         let after = devices (untold_source 0) (P.taken print.new) (U.taken punch.new) in
         IsAnswered linear_programming_of_128_bits (Made (made_job size)) (failures before after)
         (code_of result) (PrintGains before after) (PunchGains before after) }

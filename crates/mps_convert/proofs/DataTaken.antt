@@ -24,26 +24,34 @@ module _ (seen : Problem Name) (style : Style) (card : List ℕ) where
   read section = reading_of (form_on style section false card) card
 
   -- a data card that has its form, in a section that has data cards, has the fault of its section
-  pub fault_in_section : (section : Section) (reading : Reading) → is_section Header section ≡ false → form_fault style section false card ≡ None → reading ≡ reading_of (form_on style section false card) card
+  pub fault_in_section : (section : Section) (reading : Reading) → is_section Header section ≡ false → form_fault style section false card ≡ None
+      → reading ≡ reading_of (form_on style section false card) card
       → section_fault seen section reading ≡ data_card_fault seen style (Some section) card
   unfolding read
   fault_in_section section reading standing formed is = ap (section_fault seen section) is ∙ by section standing formed
     where
-      by : (section : Section) → is_section Header section ≡ false → form_fault style section false card ≡ None → section_fault seen section (read section) ≡ data_card_fault seen style (Some section) card
+      by : (section : Section) → is_section Header section ≡ false → form_fault style section false card ≡ None →
+          section_fault seen section (read section) ≡ data_card_fault seen style (Some section) card
       by Header e formed = absurd (cc e)
-      by Rows e formed = sym (ap (λ o. option_or o (option_or (section_fault seen Rows (read Rows)) None)) formed ∙ or_none (section_fault seen Rows (read Rows)))
-      by Columns e formed = sym (ap (λ o. option_or o (option_or (section_fault seen Columns (read Columns)) None)) formed ∙ or_none (section_fault seen Columns (read Columns)))
+      by Rows e formed =
+          sym (ap (λ o. option_or o (option_or (section_fault seen Rows (read Rows)) None)) formed ∙ or_none (section_fault seen Rows (read Rows)))
+      by Columns e formed =
+          sym (ap (λ o. option_or o (option_or (section_fault seen Columns (read Columns)) None)) formed ∙ or_none (section_fault seen Columns (read Columns)))
       by Rhs e formed = sym (ap (λ o. option_or o (option_or (section_fault seen Rhs (read Rhs)) None)) formed ∙ or_none (section_fault seen Rhs (read Rhs)))
-      by Ranges e formed = sym (ap (λ o. option_or o (option_or (section_fault seen Ranges (read Ranges)) None)) formed ∙ or_none (section_fault seen Ranges (read Ranges)))
-      by Bounds e formed = sym (ap (λ o. option_or o (option_or (section_fault seen Bounds (read Bounds)) None)) formed ∙ or_none (section_fault seen Bounds (read Bounds)))
+      by Ranges e formed =
+          sym (ap (λ o. option_or o (option_or (section_fault seen Ranges (read Ranges)) None)) formed ∙ or_none (section_fault seen Ranges (read Ranges)))
+      by Bounds e formed =
+          sym (ap (λ o. option_or o (option_or (section_fault seen Bounds (read Bounds)) None)) formed ∙ or_none (section_fault seen Bounds (read Bounds)))
       by Endata e formed = sym (ap (λ o. option_or o (Some SectionOrder)) formed)
 
   -- a data card that hasn't its form has that fault
-  pub fault_of_form : (section : Section) (kind : DeckFaultKind) → is_section Header section ≡ false → form_fault style section false card ≡ Some kind → data_card_fault seen style (Some section) card ≡ Some kind
+  pub fault_of_form : (section : Section) (kind : DeckFaultKind) → is_section Header section ≡ false → form_fault style section false card ≡ Some kind →
+      data_card_fault seen style (Some section) card ≡ Some kind
   unfolding read
   fault_of_form section kind standing unformed = by section standing unformed
     where
-      by : (section : Section) → is_section Header section ≡ false → form_fault style section false card ≡ Some kind → data_card_fault seen style (Some section) card ≡ Some kind
+      by : (section : Section) → is_section Header section ≡ false → form_fault style section false card ≡ Some kind →
+          data_card_fault seen style (Some section) card ≡ Some kind
       by Header e unformed = absurd (cc e)
       by Rows e unformed = ap (λ o. option_or o (option_or (section_fault seen Rows (read Rows)) None)) unformed
       by Columns e unformed = ap (λ o. option_or o (option_or (section_fault seen Columns (read Columns)) None)) unformed
@@ -63,7 +71,8 @@ module _ (seen : Problem Name) (style : Style) (card : List ℕ) where
   out_of_order Endata e = absurd (cc e)
 
 -- the entries with those of an accepted card are no more than the limit allows
-pub few_left : (seen : Problem Name) (card : Reading) → columns_fault seen card ≡ None → entry_count seen ≤ MAX_ENTRIES → entry_count seen + length (entries_of card) ≤ MAX_ENTRIES
+pub few_left : (seen : Problem Name) (card : Reading) → columns_fault seen card ≡ None → entry_count seen ≤ MAX_ENTRIES →
+    entry_count seen + length (entries_of card) ≤ MAX_ENTRIES
 few_left seen card fine few =
     pairs-few seen Columns (items_of card.name1 seen.columns) (entry_count seen) (pairs_of card) refl few
     (passes (

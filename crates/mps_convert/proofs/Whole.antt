@@ -50,30 +50,37 @@ unfolding described
 named_as name cards problem is = ap (λ (p : Problem Name). record p { name = name }) is
 
 -- what a draft shows after the cards of a deck without a fault, under a name, is a problem
-pub is_problem : (deck : List Card) (own : Name) (problem : Problem Name) → IsName own → ArePrintableCards deck → fault_by card_fault deck ≡ None → problem ≡ described [] (live deck)
+pub is_problem : (deck : List Card) (own : Name) (problem : Problem Name) → IsName own → ArePrintableCards deck → fault_by card_fault deck ≡ None
+    → problem ≡ described [] (live deck)
     → IsProblem (numbered (record problem { name = own }))
 is_problem deck own problem named printable fine is =
-    subst (λ (p : Problem Name). IsProblem (numbered p)) (sym (named_as own (live deck) problem is)) (described-problem own (live deck) named (printable_live deck printable) (cards_fine deck None fine))
+    subst (λ (p : Problem Name). IsProblem (numbered p)) (sym (named_as own (live deck) problem is))
+    (described-problem own (live deck) named (printable_live deck printable) (cards_fine deck None fine))
 
 -- and the deck converts to it
 pub converts : (deck : List Card) (name : Option Name) (own : Name) (viewed : Problem Name) (problem : Problem ℕ) → fault_by card_fault deck ≡ None
-    → viewed ≡ described [] (live deck) → own ≡ unwrap_or name (deck_name (live deck)) → problem ≡ numbered (record viewed { name = own }) → conversion deck name ≡ Ok problem
+    → viewed ≡ described [] (live deck) → own ≡ unwrap_or name (deck_name (live deck)) → problem ≡ numbered (record viewed { name = own })
+    → conversion deck name ≡ Ok problem
 converts deck name own viewed problem fine is own_is problem_is =
     whole deck name fine
-    ∙ ap (λ (p : Problem ℕ). Ok p) (ap (λ n. numbered (described n (live deck))) (sym own_is) ∙ ap numbered (sym (named_as own (live deck) viewed is)) ∙ sym problem_is)
+    ∙ ap (λ (p : Problem ℕ). Ok p)
+    (ap (λ n. numbered (described n (live deck))) (sym own_is) ∙ ap numbered (sym (named_as own (live deck) viewed is)) ∙ sym problem_is)
 
 -- after no card
-pub nothing_read : (state : State) → state.section ≡ None → state.style ≡ FixedFields → state.problem ≡ record { name = []; rows = []; columns = []; rhs = []; ranges = []; bounds = [] } → state ≡ state_of []
+pub nothing_read : (state : State) → state.section ≡ None → state.style ≡ FixedFields →
+    state.problem ≡ record { name = []; rows = []; columns = []; rhs = []; ranges = []; bounds = [] } → state ≡ state_of []
 unfolding described
 nothing_read state section style problem = λ i. record { section = section i; style = style i; problem = problem i }
 
 -- ---- the first card
 
-module _ (first number : ℕ) (cards : List (List ℕ)) (card : List ℕ) (from_one : 1 ≤ first) (from : first ≤ number) (at : slice_get cards (number - 1) ≡ Some card)
+module _ (first number : ℕ) (cards : List (List ℕ)) (card : List ℕ) (from_one : 1 ≤ first) (from : first ≤ number)
+    (at : slice_get cards (number - 1) ≡ Some card)
     (none : live (cards_up_to first number cards) ≡ []) where
   up_to : live (cards_up_to first (number + 1) cards) ≡ cond (not (is_skipped card)) (record { number = number; bytes = card } ∷ []) []
   up_to =
-      ap live (cards_more first number cards card from_one from at) ∙ live-append (cards_up_to first number cards) (record { number = number; bytes = card } ∷ [])
+      ap live (cards_more first number cards card from_one from at)
+      ∙ live-append (cards_up_to first number cards) (record { number = number; bytes = card } ∷ [])
       ∙ ap (λ cs. cs ++ cond (not (is_skipped card)) (record { number = number; bytes = card } ∷ []) []) none
 
   -- one more skipped card

@@ -50,7 +50,8 @@ fn take_column(
         (viewed card.now) ≡ None) }
     ensures step { OnOk result (columns.new ≡ in_set card.now.name1
         (λ items. items ++ entries_of (viewed card.now)) columns.old) }
-    ensures stop { IfErr result (ReportsDeckFault (columns_fault (columns_alone rows.now columns.old)
+    ensures stop { IfErr result
+        (ReportsDeckFault (columns_fault (columns_alone rows.now columns.old)
         (viewed card.now))) }
 {
     let _ = columns.len();

@@ -9,7 +9,8 @@ module _ {X : Type 0} (p : X → Bool) where
   position_or_len-none [] e = refl
   position_or_len-none (x ∷ xs) e = by (p x) e (position_or_len-none xs)
     where
-      by : (b : Bool) → (b || list_any p xs) ≡ false → (list_any p xs ≡ false → position_or_len p xs ≡ length xs) → cond (not b) (1 + position_or_len p xs) 0 ≡ suc (length xs)
+      by : (b : Bool) → (b || list_any p xs) ≡ false → (list_any p xs ≡ false → position_or_len p xs ≡ length xs) →
+          cond (not b) (1 + position_or_len p xs) 0 ≡ suc (length xs)
       by true e rest = cc e
       by false e rest = rw (rest e) (omega arith)
 
@@ -18,7 +19,8 @@ module _ {X : Type 0} (p : X → Bool) where
   position_or_len-some [] e = cc e
   position_or_len-some (x ∷ xs) e = by (p x) e (position_or_len-some xs)
     where
-      by : (b : Bool) → (b || list_any p xs) ≡ true → (list_any p xs ≡ true → position_or_len p xs < length xs) → cond (not b) (1 + position_or_len p xs) 0 < suc (length xs)
+      by : (b : Bool) → (b || list_any p xs) ≡ true → (list_any p xs ≡ true → position_or_len p xs < length xs) →
+          cond (not b) (1 + position_or_len p xs) 0 < suc (length xs)
       by true e rest = omega arith
       by false e rest = let bound : position_or_len p xs < length xs = rest e in omega arith
 

@@ -47,7 +47,8 @@ at_end m n below = by (nat_eq m n) (nat_lt m n) refl refl
     by false false e f = grind (arith, nat_tests, e, f, below)
 
 module _ {X : Type 0} (name : Name) where
-  pub front : (count : ℕ) (es : List (Name × List X)) → count ≤ length es → has_group (take count (map group_at es)) name ≡ nat_lt (position_or_len (same name) (keys_of es)) count
+  pub front : (count : ℕ) (es : List (Name × List X)) → count ≤ length es →
+      has_group (take count (map group_at es)) name ≡ nat_lt (position_or_len (same name) (keys_of es)) count
   front zero es below = sym (none_below_zero (position_or_len (same name) (keys_of es)))
   front (suc count) [] below = absurd (omega arith)
   front (suc count) (e ∷ es) below = let inner : count ≤ length es = omega arith in by (same name e.0) (front count es inner)
@@ -84,19 +85,26 @@ module _ {X : Type 0} where
 
 -- the fault of a card's column, by the place of its name among the columns
 pub place_tells : (name : Name) (es : List (Name × List (Entry Name)))
-    → first_fault ((nat_lt (position_or_len (same name) (keys_of es) + 1) (length es) ⟹ ColumnSplit) ∷ (nat_eq (position_or_len (same name) (keys_of es)) (length es) && nat_le MAX_COLUMNS (length es) ⟹ TooManyColumns) ∷ [])
+    → first_fault
+    ((nat_lt (position_or_len (same name) (keys_of es) + 1) (length es) ⟹ ColumnSplit) ∷
+    (nat_eq (position_or_len (same name) (keys_of es)) (length es) && nat_le MAX_COLUMNS (length es) ⟹ TooManyColumns) ∷ [])
     ≡ column_fault (map group_at es) name None
 place_tells name es =
     let split : nat_lt (position_or_len (same name) (keys_of es) + 1) (length es) ≡ has_group (all_but_last (map group_at es)) name =
-    same_below (position_or_len (same name) (keys_of es)) (length es) ∙ sym (front name (length es - 1) es (omega arith)) ∙ ap (λ n. has_group (take (n - 1) (map group_at es)) name) (sym (length-groups name es)) in
+    same_below (position_or_len (same name) (keys_of es)) (length es) ∙ sym (front name (length es - 1) es (omega arith))
+    ∙ ap (λ n. has_group (take (n - 1) (map group_at es)) name) (sym (length-groups name es)) in
     let there : has_group (map group_at es) name ≡ nat_lt (position_or_len (same name) (keys_of es)) (length es) =
-    ap (λ groups. has_group groups name) (sym (take-length (map group_at es)) ∙ ap (λ n. take n (map group_at es)) (length-groups name es)) ∙ front name (length es) es (omega arith) in
-    let last : nat_eq (position_or_len (same name) (keys_of es)) (length es) ≡ not (has_group (map group_at es) name) = at_end (position_or_len (same name) (keys_of es)) (length es) (place_within name es) ∙ ap not (sym there) in
+    ap (λ groups. has_group groups name) (sym (take-length (map group_at es)) ∙ ap (λ n. take n (map group_at es)) (length-groups name es))
+    ∙ front name (length es) es (omega arith) in
+    let last : nat_eq (position_or_len (same name) (keys_of es)) (length es) ≡ not (has_group (map group_at es) name) =
+    at_end (position_or_len (same name) (keys_of es)) (length es) (place_within name es) ∙ ap not (sym there) in
     ap₂ (λ a b. first_fault ((a ⟹ ColumnSplit) ∷ (b ⟹ TooManyColumns) ∷ [])) split (ap₂ (λ a n. a && nat_le MAX_COLUMNS n) last (sym (length-groups name es)))
 
 -- the tests of a card's column, where none of them finds a fault, and where one does
-pub column_fine : (columns : List (Group (Entry Name))) (name : Name) (rest : Option DeckFaultKind) → column_fault columns name None ≡ None → column_fault columns name rest ≡ rest
-column_fine columns name rest = by (has_group (all_but_last columns) name ⟹ ColumnSplit) (not (has_group columns name) && nat_le MAX_COLUMNS (length columns) ⟹ TooManyColumns) rest
+pub column_fine : (columns : List (Group (Entry Name))) (name : Name) (rest : Option DeckFaultKind) → column_fault columns name None ≡ None →
+    column_fault columns name rest ≡ rest
+column_fine columns name rest =
+    by (has_group (all_but_last columns) name ⟹ ColumnSplit) (not (has_group columns name) && nat_le MAX_COLUMNS (length columns) ⟹ TooManyColumns) rest
   where
     by : (a b rest : Option DeckFaultKind) → first_fault (a ∷ b ∷ None ∷ []) ≡ None → first_fault (a ∷ b ∷ rest ∷ []) ≡ rest
     by None None None e = refl
@@ -104,8 +112,10 @@ column_fine columns name rest = by (has_group (all_but_last columns) name ⟹ Co
     by None (Some kind) rest e = absurd (cc e)
     by (Some kind) b rest e = absurd (cc e)
 
-pub column_refused : (columns : List (Group (Entry Name))) (name : Name) (rest : Option DeckFaultKind) (kind : DeckFaultKind) → column_fault columns name None ≡ Some kind → column_fault columns name rest ≡ Some kind
-column_refused columns name rest kind = by (has_group (all_but_last columns) name ⟹ ColumnSplit) (not (has_group columns name) && nat_le MAX_COLUMNS (length columns) ⟹ TooManyColumns) rest
+pub column_refused : (columns : List (Group (Entry Name))) (name : Name) (rest : Option DeckFaultKind) (kind : DeckFaultKind) →
+    column_fault columns name None ≡ Some kind → column_fault columns name rest ≡ Some kind
+column_refused columns name rest kind =
+    by (has_group (all_but_last columns) name ⟹ ColumnSplit) (not (has_group columns name) && nat_le MAX_COLUMNS (length columns) ⟹ TooManyColumns) rest
   where
     by : (a b rest : Option DeckFaultKind) → first_fault (a ∷ b ∷ None ∷ []) ≡ Some kind → first_fault (a ∷ b ∷ rest ∷ []) ≡ Some kind
     by None None rest e = absurd (cc e)

@@ -16,15 +16,18 @@ module _ {X : Type 0} where
   group_is_there name [] = refl
   group_is_there name (e ∷ es) = by (same name e.0) (group_is_there name es)
     where
-      by : (b : Bool) → is_some (lookup (same name) es) ≡ has_group (map group_at es) name → is_some (cond b (Some e.1) (lookup (same name) es)) ≡ (b || has_group (map group_at es) name)
+      by : (b : Bool) → is_some (lookup (same name) es) ≡ has_group (map group_at es) name →
+          is_some (cond b (Some e.1) (lookup (same name) es)) ≡ (b || has_group (map group_at es) name)
       by true rest = refl
       by false rest = rest
 
-  apart : (name : Name) (e : Name × List X) (es : List (Name × List X)) → same name e.0 ≡ true → AllByRecursion (λ other. same e.0 other ≡ false) (keys_of es) → AllByRecursion (λ other. same name other ≡ false) (keys_of es)
+  apart : (name : Name) (e : Name × List X) (es : List (Name × List X)) → same name e.0 ≡ true → AllByRecursion (λ other. same e.0 other ≡ false) (keys_of es) →
+      AllByRecursion (λ other. same name other ≡ false) (keys_of es)
   apart name e es is h = subst (λ n. AllByRecursion (λ other. same n other ≡ false) (keys_of es)) (sym (same_eq name e.0 is)) h
 
   -- groups of other names
-  untouched : (name : Name) (f : List X → List X) (es : List (Name × List X)) → AllByRecursion (λ other. same name other ≡ false) (keys_of es) → in_group name f (map group_at es) ≡ map group_at es
+  untouched : (name : Name) (f : List X → List X) (es : List (Name × List X)) → AllByRecursion (λ other. same name other ≡ false) (keys_of es) →
+      in_group name f (map group_at es) ≡ map group_at es
   untouched name f [] h = refl
   untouched name f (e ∷ es) h = rw (h.0) (ap (λ groups. group_at e ∷ groups) (untouched name f es h.1))
 
@@ -33,7 +36,8 @@ module _ {X : Type 0} where
   none_of name (e ∷ es) h = rw (h.0) (none_of name es h.1)
 
   -- the items of a name are what is looked up under it, or none
-  pub items_found : (name : Name) (es : List (Name × List X)) → IsDistinct same (keys_of es) → unwrap_or (lookup (same name) es) [] ≡ items_of name (map group_at es)
+  pub items_found : (name : Name) (es : List (Name × List X)) → IsDistinct same (keys_of es) →
+      unwrap_or (lookup (same name) es) [] ≡ items_of name (map group_at es)
   unfolding IsDistinct
   items_found name [] distinct = refl
   items_found name (e ∷ es) distinct = by (same name e.0) refl (items_found name es distinct.1)
@@ -55,8 +59,11 @@ module _ {X : Type 0} where
       after true = refl
       after false = refl
 
-      by : (b : Bool) → same name e.0 ≡ b → map group_at (insert_entry same es name (f (unwrap_or (lookup (same name) es) []))) ≡ in_set name f (map group_at es)
-          → map group_at (cond b ((e.0, f (unwrap_or (cond b (Some e.1) (lookup (same name) es)) [])) ∷ es) (e ∷ insert_entry same es name (f (unwrap_or (cond b (Some e.1) (lookup (same name) es)) []))))
+      by : (b : Bool) → same name e.0 ≡ b
+          → map group_at (insert_entry same es name (f (unwrap_or (lookup (same name) es) []))) ≡ in_set name f (map group_at es)
+          → map group_at
+          (cond b ((e.0, f (unwrap_or (cond b (Some e.1) (lookup (same name) es)) [])) ∷ es)
+          (e ∷ insert_entry same es name (f (unwrap_or (cond b (Some e.1) (lookup (same name) es)) []))))
           ≡ cond (b || has_group (map group_at es) name) (cond b (record { name = e.0; items = f e.1 }) (group_at e) ∷ in_group name f (map group_at es))
           ((group_at e ∷ map group_at es) ++ record { name = name; items = f [] } ∷ [])
       by true is rest = ap (λ groups. record { name = e.0; items = f e.1 } ∷ groups) (sym (untouched name f es (apart name e es is distinct.0)))

@@ -11,7 +11,8 @@ use Rattle.deck_definitions.specs.DataCards.{is_card_of, goes_on_last}
 use Rattle.named_problem.specs.declared.rows.RowBody.{RowBody}
 use Rattle.named_problem.specs.Bodies.{row_at}
 
-last_at : (o : Option (Name × RowBody)) (e : Name × RowBody) (es : List (Name × RowBody)) → last_or (option_map row_at o) (map row_at (e ∷ es)) ≡ option_map row_at (slice_get (e ∷ es) (length es))
+last_at : (o : Option (Name × RowBody)) (e : Name × RowBody) (es : List (Name × RowBody)) →
+    last_or (option_map row_at o) (map row_at (e ∷ es)) ≡ option_map row_at (slice_get (e ∷ es) (length es))
 last_at o e [] = refl
 last_at o e (next ∷ es) = last_at (Some e) next es
 
@@ -25,14 +26,19 @@ last_is (e ∷ es) = last_at None e es ∙ ap (λ n. option_map row_at (slice_ge
 -- whether a card goes on with the last row, by what stands last
 pub goes_on-at : (es : List (Name × RowBody)) (card : Reading) (o : Option (Name × RowBody)) → slice_get es (length es - 1) ≡ o
     → goes_on_last (map row_at es) card ≡ unwrap_or (option_map (λ e. is_some e.1.parts && is_card_of e.1.kind e.0 card) o) false
-goes_on-at es card o at = ap (λ last. unwrap_or (option_map (λ row. is_some row.parts && is_card_of row.kind row.name card) last) false) (last_is es ∙ ap (option_map row_at) at) ∙ by o
+goes_on-at es card o at =
+    ap (λ last. unwrap_or (option_map (λ row. is_some row.parts && is_card_of row.kind row.name card) last) false) (last_is es ∙ ap (option_map row_at) at)
+    ∙ by o
   where
-    by : (o : Option (Name × RowBody)) → unwrap_or (option_map (λ row. is_some row.parts && is_card_of row.kind row.name card) (option_map row_at o)) false ≡ unwrap_or (option_map (λ e. is_some e.1.parts && is_card_of e.1.kind e.0 card) o) false
+    by : (o : Option (Name × RowBody)) →
+        unwrap_or (option_map (λ row. is_some row.parts && is_card_of row.kind row.name card) (option_map row_at o)) false ≡ unwrap_or
+        (option_map (λ e. is_some e.1.parts && is_card_of e.1.kind e.0 card) o) false
     by None = refl
     by (Some e) = refl
 
 -- among distinct names, no other row has the name of the last
-apart : (first : Name) (es : List (Name × RowBody)) (e : Name × RowBody) → AllByRecursion (λ other. same first other ≡ false) (keys_of (es ++ e ∷ [])) → same first e.0 ≡ false
+apart : (first : Name) (es : List (Name × RowBody)) (e : Name × RowBody) → AllByRecursion (λ other. same first other ≡ false) (keys_of (es ++ e ∷ [])) →
+    same first e.0 ≡ false
 apart first [] e h = h.0
 apart first (next ∷ es) e h = apart first es e h.1
 
@@ -42,6 +48,7 @@ last_apart [] e distinct = refl
 last_apart (first ∷ es) e distinct = rw (same_sym e.0 first.0, apart first.0 es e distinct.0) (last_apart es e distinct.1)
 
 -- nor has it where the last was taken out
-pub popped_apart : (old new : List (Name × RowBody)) (o : Option (Name × RowBody)) → IsDistinct same (keys_of old) → old ≡ new ++ option_to_list o → IfSome o (λ row. has_row (map row_at new) row.0 ≡ false)
+pub popped_apart : (old new : List (Name × RowBody)) (o : Option (Name × RowBody)) → IsDistinct same (keys_of old) → old ≡ new ++ option_to_list o →
+    IfSome o (λ row. has_row (map row_at new) row.0 ≡ false)
 popped_apart old new None distinct is = tt
 popped_apart old new (Some e) distinct is = last_apart new e (subst (λ es. IsDistinct same (keys_of es)) is distinct)

@@ -30,7 +30,9 @@ reported_fault field f e = given_fault (number_fault field) (decimal_of field) f
 -- a bad character stands in the field
 pub bad_place : (field : List ℕ) (place : ℕ) → number_fault field ≡ Some (BadCharacter place) → place ≤ length field
 unfolding number_fault
-bad_place field place e = by (is_empty (trimmed field)) (nat_lt (formed_length (trimmed field)) (length (trimmed field))) (lacks_digit (trimmed field)) (nat_lt 18 (exponent_size (trimmed field))) refl e
+bad_place field place e =
+    by (is_empty (trimmed field)) (nat_lt (formed_length (trimmed field)) (length (trimmed field))) (lacks_digit (trimmed field))
+    (nat_lt 18 (exponent_size (trimmed field))) refl e
   where
     inside : formed_length (trimmed field) < length (trimmed field) → prefix_len is_blank field + formed_length (trimmed field) + 1 ≤ length field
     inside lt =
@@ -38,7 +40,9 @@ bad_place field place e = by (is_empty (trimmed field)) (nat_lt (formed_length (
         omega (arith, lt, short, length-drop (prefix_len is_blank field) field, prefix_len-le-length is_blank field)
 
     by : (a b c d : Bool) → nat_lt (formed_length (trimmed field)) (length (trimmed field)) ≡ b
-        → first_fault ((a ⟹ Empty) ∷ (b ⟹ BadCharacter (prefix_len is_blank field + formed_length (trimmed field) + 1)) ∷ (c ⟹ NoDigit) ∷ (d ⟹ ExponentRange) ∷ []) ≡ Some (BadCharacter place)
+        → first_fault
+        ((a ⟹ Empty) ∷ (b ⟹ BadCharacter (prefix_len is_blank field + formed_length (trimmed field) + 1)) ∷ (c ⟹ NoDigit) ∷ (d ⟹ ExponentRange) ∷ []) ≡ Some
+        (BadCharacter place)
         → place ≤ length field
     by true b c d lt h = absurd (cc h)
     by false true c d lt h =

@@ -24,18 +24,26 @@ or_assoc (Some kind) b c = refl
 
 module _ (rows : List (Row Name)) where
   -- the second parts are tested as if the first were there
-  pub parts-append : (parts : List (Entry Name)) (first second : List Pair) → parts_fault rows parts (first ++ second) ≡ option_or (parts_fault rows parts first) (parts_fault rows (parts ++ map entry_of first) second)
+  pub parts-append : (parts : List (Entry Name)) (first second : List Pair) →
+      parts_fault rows parts (first ++ second) ≡ option_or (parts_fault rows parts first) (parts_fault rows (parts ++ map entry_of first) second)
   parts-append parts [] second = ap (λ parts. parts_fault rows parts second) (sym (append-nil parts))
   parts-append parts (pair ∷ first) second =
       pairs_fault-cons (rows_alone rows) Rows parts 0 pair (first ++ second)
-      ∙ ap (option_or (pair_fault (rows_alone rows) Rows parts 0 pair)) (parts-append (parts ++ entry_of pair ∷ []) first second ∙ ap (λ parts. option_or (parts_fault rows (parts_so_far) first) (parts_fault rows parts second)) (append_assoc parts (entry_of pair ∷ []) (map entry_of first)))
-      ∙ or_assoc (pair_fault (rows_alone rows) Rows parts 0 pair) (parts_fault rows parts_so_far first) (parts_fault rows (parts ++ map entry_of (pair ∷ first)) second)
-      ∙ ap (λ fault. option_or fault (parts_fault rows (parts ++ map entry_of (pair ∷ first)) second)) (sym (pairs_fault-cons (rows_alone rows) Rows parts 0 pair first))
+      ∙ ap (option_or (pair_fault (rows_alone rows) Rows parts 0 pair))
+      (parts-append (parts ++ entry_of pair ∷ []) first second
+      ∙ ap (λ parts. option_or (parts_fault rows (parts_so_far) first) (parts_fault rows parts second))
+      (append_assoc parts (entry_of pair ∷ []) (map entry_of first)))
+      ∙ or_assoc (pair_fault (rows_alone rows) Rows parts 0 pair) (parts_fault rows parts_so_far first)
+      (parts_fault rows (parts ++ map entry_of (pair ∷ first)) second)
+      ∙ ap (λ fault. option_or fault (parts_fault rows (parts ++ map entry_of (pair ∷ first)) second))
+      (sym (pairs_fault-cons (rows_alone rows) Rows parts 0 pair first))
     where
       parts_so_far : List (Entry Name)
       parts_so_far = parts ++ entry_of pair ∷ []
 
   -- after first parts without a fault
-  pub second_parts : (parts mid : List (Entry Name)) (first second : List Pair) → parts_fault rows parts first ≡ None → mid ≡ parts ++ map entry_of first → parts_fault rows mid second ≡ parts_fault rows parts (first ++ second)
+  pub second_parts : (parts mid : List (Entry Name)) (first second : List Pair) → parts_fault rows parts first ≡ None → mid ≡ parts ++ map entry_of first →
+      parts_fault rows mid second ≡ parts_fault rows parts (first ++ second)
   second_parts parts mid first second fine step =
-      ap (λ parts. parts_fault rows parts second) step ∙ ap (λ fault. option_or fault (parts_fault rows (parts ++ map entry_of first) second)) (sym fine) ∙ sym (parts-append parts first second)
+      ap (λ parts. parts_fault rows parts second) step ∙ ap (λ fault. option_or fault (parts_fault rows (parts ++ map entry_of first) second)) (sym fine)
+      ∙ sym (parts-append parts first second)

@@ -34,13 +34,16 @@ module _ {F : Type 0} (T : F → Name → RowBody → Bool → RowBody → F →
   -- the parts of all rows are changed
   pub changed_rows : (es left : List (Name × RowBody)) → RetainsPairs T f es left → map row_at left ≡ map (with_parts change) (map row_at es)
   changed_rows es left h =
-      ap (map row_at) (changed_all T (body_with change) f says es left h) ∙ map-map row_at (λ e. (e.0, body_with change e.1)) es ∙ sym (map-map (with_parts change) row_at es)
+      ap (map row_at) (changed_all T (body_with change) f says es left h) ∙ map-map row_at (λ e. (e.0, body_with change e.1)) es
+      ∙ sym (map-map (with_parts change) row_at es)
 
 -- the groups that have an item are kept
 pub filled_groups : {X : Type 0} (es : List (Name × List X)) → map group_at (filter (λ e. not (is_empty e.1)) es) ≡ filled (map group_at es)
 filled_groups [] = refl
 filled_groups (e ∷ es) = by (not (is_empty e.1)) (filled_groups es)
   where
-    by : (b : Bool) → map group_at (filter (λ e. not (is_empty e.1)) es) ≡ filled (map group_at es) → map group_at (cond b (e ∷ filter (λ e. not (is_empty e.1)) es) (filter (λ e. not (is_empty e.1)) es)) ≡ cond b (group_at e ∷ filled (map group_at es)) (filled (map group_at es))
+    by : (b : Bool) → map group_at (filter (λ e. not (is_empty e.1)) es) ≡ filled (map group_at es) →
+        map group_at (cond b (e ∷ filter (λ e. not (is_empty e.1)) es) (filter (λ e. not (is_empty e.1)) es)) ≡ cond b (group_at e ∷ filled (map group_at es))
+        (filled (map group_at es))
     by true more = ap (λ rest. group_at e ∷ rest) more
     by false more = more

@@ -19,12 +19,14 @@ use Rattle.named_problem.specs.Views.{rows_alone, new_row_fault, begun_fault, pa
 
 -- a word for a plain row names no combination
 plain_apart : (word : List ℕ) (kind : RowKind) → named row_kinds word ≡ Some kind → named combination_kinds word ≡ None
-plain_apart word kind is = by (bytes_eq (codes "N") word) (bytes_eq (codes "G") word) (bytes_eq (codes "L") word) (bytes_eq (codes "E") word) refl refl refl refl
+plain_apart word kind is =
+    by (bytes_eq (codes "N") word) (bytes_eq (codes "G") word) (bytes_eq (codes "L") word) (bytes_eq (codes "E") word) refl refl refl refl
   where
     of : (text : List ℕ) → bytes_eq text word ≡ true → named combination_kinds text ≡ None → named combination_kinds word ≡ None
     of text equal none = subst (λ word. named combination_kinds word ≡ None) (same_eq text word equal) none
 
-    by : (n g l e : Bool) → bytes_eq (codes "N") word ≡ n → bytes_eq (codes "G") word ≡ g → bytes_eq (codes "L") word ≡ l → bytes_eq (codes "E") word ≡ e → named combination_kinds word ≡ None
+    by : (n g l e : Bool) → bytes_eq (codes "N") word ≡ n → bytes_eq (codes "G") word ≡ g → bytes_eq (codes "L") word ≡ l → bytes_eq (codes "E") word ≡ e →
+        named combination_kinds word ≡ None
     by true g l e is_n is_g is_l is_e = of (codes "N") is_n refl
     by false true l e is_n is_g is_l is_e = of (codes "G") is_g refl
     by false false true e is_n is_g is_l is_e = of (codes "L") is_l refl
@@ -41,7 +43,8 @@ module _ (rows : List (Row Name)) (card : Reading) where
       (not goes_on && nat_le MAX_ROWS (length rows) ⟹ TooManyRows) ∷
       (if is_some combines then parts_fault (rows_before card.name1 rows) (parts_of card.name1 rows) (part_pairs_of card) else filled_from_3 card) ∷ [])
 
-  regrouped : (empty there full rest : Option DeckFaultKind) → first_fault (None ∷ empty ∷ there ∷ full ∷ rest ∷ []) ≡ first_fault (first_fault (empty ∷ there ∷ full ∷ []) ∷ rest ∷ [])
+  regrouped : (empty there full rest : Option DeckFaultKind) →
+      first_fault (None ∷ empty ∷ there ∷ full ∷ rest ∷ []) ≡ first_fault (first_fault (empty ∷ there ∷ full ∷ []) ∷ rest ∷ [])
   regrouped None None None None = refl
   regrouped None None None (Some kind) = refl
   regrouped None None (Some kind) rest = refl
@@ -63,18 +66,22 @@ module _ (rows : List (Row Name)) (card : Reading) where
   same_rest (Some kind) rest other same = refl
 
   module _ (goes_on : goes_on_last rows card ≡ false) where
-    pub begins_plain : (kind : RowKind) → named row_kinds card.kind ≡ Some kind → row_fault (rows_alone rows) card ≡ begun_fault rows card.name1 (filled_from_3 card)
+    pub begins_plain : (kind : RowKind) → named row_kinds card.kind ≡ Some kind →
+        row_fault (rows_alone rows) card ≡ begun_fault rows card.name1 (filled_from_3 card)
     begins_plain kind is =
         (λ i. tests (goes_on i) (is i) (plain_apart card.kind kind is i))
-        ∙ regrouped (is_empty card.name1 ⟹ EmptyName) (has_row rows card.name1 ⟹ DuplicateRow) (nat_le MAX_ROWS (length rows) ⟹ TooManyRows) (filled_from_3 card)
+        ∙ regrouped (is_empty card.name1 ⟹ EmptyName) (has_row rows card.name1 ⟹ DuplicateRow) (nat_le MAX_ROWS (length rows) ⟹ TooManyRows)
+        (filled_from_3 card)
 
     pub begins_combination : (kind : RowKind) → named row_kinds card.kind ≡ None → named combination_kinds card.kind ≡ Some kind
         → row_fault (rows_alone rows) card ≡ begun_fault rows card.name1 (parts_fault rows [] (part_pairs_of card))
     begins_combination kind none is =
         (λ i. tests (goes_on i) (none i) (is i))
-        ∙ regrouped (is_empty card.name1 ⟹ EmptyName) (has_row rows card.name1 ⟹ DuplicateRow) (nat_le MAX_ROWS (length rows) ⟹ TooManyRows) (parts_fault (rows_before card.name1 rows) (parts_of card.name1 rows) (part_pairs_of card))
+        ∙ regrouped (is_empty card.name1 ⟹ EmptyName) (has_row rows card.name1 ⟹ DuplicateRow) (nat_le MAX_ROWS (length rows) ⟹ TooManyRows)
+        (parts_fault (rows_before card.name1 rows) (parts_of card.name1 rows) (part_pairs_of card))
         ∙ same_rest (new_row_fault rows card.name1) _ (parts_fault rows [] (part_pairs_of card))
-        (λ fine. ap₂ (λ earlier parts. parts_fault earlier parts (part_pairs_of card)) (rows_before-new card.name1 rows (is_new fine)) (parts_of-new card.name1 rows (is_new fine)))
+        (λ fine. ap₂ (λ earlier parts. parts_fault earlier parts (part_pairs_of card)) (rows_before-new card.name1 rows (is_new fine))
+        (parts_of-new card.name1 rows (is_new fine)))
 
 -- ---- a card that goes on with the last row, which was taken out
 
@@ -92,7 +99,8 @@ module _ (card : Reading) (old rest : List (Row Name)) (kind : RowKind) (name : 
   pub tells_more : is_empty card.name1 ≡ false → row_fault (rows_alone old) card ≡ parts_fault rest parts (part_pairs_of card)
   tells_more filled =
       ap (λ rows. row_fault (rows_alone rows) card) taken ∙ row_fault-more card rest kind name parts is_card (rows_alone []) no_other
-      ∙ ap (λ b. first_fault ((b ⟹ EmptyName) ∷ parts_fault rest parts (part_pairs_of card) ∷ [])) filled ∙ last_one (parts_fault rest parts (part_pairs_of card))
+      ∙ ap (λ b. first_fault ((b ⟹ EmptyName) ∷ parts_fault rest parts (part_pairs_of card) ∷ [])) filled
+      ∙ last_one (parts_fault rest parts (part_pairs_of card))
     where
       last_one : (fault : Option DeckFaultKind) → option_or fault None ≡ fault
       last_one None = refl
@@ -100,4 +108,5 @@ module _ (card : Reading) (old rest : List (Row Name)) (kind : RowKind) (name : 
 
 -- no card goes on with a plain row
 pub not_plain : (card : Reading) (old rest : List (Row Name)) (row : Row Name) → old ≡ rest ++ row ∷ [] → row.parts ≡ None → goes_on_last old card ≡ false
-not_plain card old rest row taken plain = ap (λ rows. goes_on_last rows card) taken ∙ goes_on-last rest row card ∙ ap (λ parts. is_some parts && is_card_of row.kind row.name card) plain
+not_plain card old rest row taken plain =
+    ap (λ rows. goes_on_last rows card) taken ∙ goes_on-last rest row card ∙ ap (λ parts. is_some parts && is_card_of row.kind row.name card) plain

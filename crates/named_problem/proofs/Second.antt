@@ -14,5 +14,7 @@ pub second_tells : (seen : Problem Name) (section : Section) (taken mid : List (
     → pair_fault seen section mid (count + 1) second ≡ pairs_fault seen section taken count pairs
 second_tells seen section taken mid count first second pairs none step are =
     ap (λ items. pair_fault seen section items (count + 1) second) step
-    ∙ sym (ap (pairs_fault seen section taken count) are ∙ pairs_fault-cons seen section taken count first (second ∷ []) ∙ ap (λ o. option_or o (pairs_fault seen section (taken ++ entry_of first ∷ []) (count + 1) (second ∷ []))) none
-    ∙ pairs_fault-cons seen section (taken ++ entry_of first ∷ []) (count + 1) second [] ∙ or_none (pair_fault seen section (taken ++ entry_of first ∷ []) (count + 1) second))
+    ∙ sym (ap (pairs_fault seen section taken count) are ∙ pairs_fault-cons seen section taken count first (second ∷ [])
+    ∙ ap (λ o. option_or o (pairs_fault seen section (taken ++ entry_of first ∷ []) (count + 1) (second ∷ []))) none
+    ∙ pairs_fault-cons seen section (taken ++ entry_of first ∷ []) (count + 1) second []
+    ∙ or_none (pair_fault seen section (taken ++ entry_of first ∷ []) (count + 1) second))

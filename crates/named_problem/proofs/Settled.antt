@@ -16,7 +16,8 @@ module _ {T U E : Type 0} where
   if_err_settled P (Err stop) (Ok y) same h = absurd same
 
   -- what each value shows, together with what holds where there is one
-  pub with_ok_settled : (P : T → Type 0) (Q R : Type 0) (changed : Result T E) (result : Result U E) → IsSettled changed result → ((x : T) → P x → Q → R) → IfOk changed P → OnOk result Q → OnOk result R
+  pub with_ok_settled : (P : T → Type 0) (Q R : Type 0) (changed : Result T E) (result : Result U E) → IsSettled changed result → ((x : T) → P x → Q → R) →
+      IfOk changed P → OnOk result Q → OnOk result R
   with_ok_settled P Q R (Ok x) (Ok y) same leads p q = leads x p q
   with_ok_settled P Q R (Err stop) (Err same_stop) same leads p q = tt
   with_ok_settled P Q R (Ok x) (Err stop) same leads p q = absurd same

@@ -32,7 +32,9 @@ is_at_end_there end column (Some (Some bound)) = is_at_end end column bound
 
 -- a bound that touches an end is noted under its column with its place
 abbrev pub AreNoted : ColumnEnd → List (Name × ℕ) → List (Option (Bound Name)) → Type 0
-AreNoted end places slots = (place : ℕ) (bound : Bound Name) → slice_get slots place ≡ Some (Some bound) → touches_end end bound.kind ≡ true → lookup (same bound.column) places ≡ Some place
+AreNoted end places slots =
+    (place : ℕ) (bound : Bound Name) → slice_get slots place ≡ Some (Some bound) → touches_end end bound.kind ≡ true →
+    lookup (same bound.column) places ≡ Some place
 
 -- a slot that isn't empty is as it was
 abbrev pub AreEmptied : List (Option (Bound Name)) → List (Option (Bound Name)) → Type 0

@@ -91,11 +91,13 @@ AreShort (group ∷ groups) = (length group.items ≤ 18446744073709551615) × A
 
 -- items are put under a name in the place of those that it had, where it had so many and has so many
 abbrev pub IsPut : {X : Type 0} → Name → List X → List (Name × List X) → List (Name × List X) → ℕ → ℕ → Type 0
-IsPut name items old new before after = (new ≡ insert_entry same old name items) × (before ≡ length (unwrap_or (lookup (same name) old) [])) × (after ≡ length items)
+IsPut name items old new before after =
+    (new ≡ insert_entry same old name items) × (before ≡ length (unwrap_or (lookup (same name) old) [])) × (after ≡ length items)
 
 -- the items of these groups were so many before those of one of them changed, of which there were so many, and are so many now
 abbrev pub IsCountBefore : {X : Type 0} → List (Group X) → ℕ → ℕ → ℕ → Type 0
-IsCountBefore groups count before after = after ≤ 18446744073709551615 → (count + after ≡ sum_by (λ group. length group.items) groups + before) × (before ≤ count) × AreShort groups
+IsCountBefore groups count before after =
+    after ≤ 18446744073709551615 → (count + after ≡ sum_by (λ group. length group.items) groups + before) × (before ≤ count) × AreShort groups
 
 -- the one is what the other is, `Ok`, or an `Err` of the same stop
 abbrev pub IsSettled : {T U E : Type 0} → Result T E → Result U E → Type 0

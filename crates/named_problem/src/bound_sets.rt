@@ -119,7 +119,8 @@ fn take_bound_into(
     card: &DataCard<'_>,
 ) -> Result<(), CardStop<DeckFaultKind>>
     ensures no_fault { OnOk result
-        (bound_rest_fault (items_of card.now.name1 (map group_at sets.old.entries)) (viewed card.now)
+        (bound_rest_fault
+        (items_of card.now.name1 (map group_at sets.old.entries)) (viewed card.now)
         kind ≡ None) }
     ensures step { OnOk result (map group_at sets.new.entries ≡ in_set card.now.name1
         (λ items. items ++ bound_of (viewed card.now) kind ∷ []) (map group_at sets.old.entries)) }

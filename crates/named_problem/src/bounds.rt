@@ -49,7 +49,8 @@ impl Model for Bounds {
 
     ghost view = { λ bounds. held bounds.slots.items };
 
-    ghost invariant = { λ bounds. AreNoted Upper bounds.uppers.entries bounds.slots.items × AreNoted Lower bounds.lowers.entries bounds.slots.items };
+    ghost invariant = { λ bounds. AreNoted Upper bounds.uppers.entries bounds.slots.items ×
+        AreNoted Lower bounds.lowers.entries bounds.slots.items };
 }
 
 // Whether the bound at a place touches this end of a column.

@@ -53,7 +53,9 @@ impl Model for Groups {
 
     ghost view = { λ groups. map group_at groups.groups.entries };
 
-    ghost invariant = { λ groups. IsDistinct same (keys_of groups.groups.entries) × (groups.count ≡ sum_by (λ group. length group.items) (map group_at groups.groups.entries)) × AreShort (map group_at groups.groups.entries) };
+    ghost invariant = { λ groups. IsDistinct same (keys_of groups.groups.entries) ×
+        (groups.count ≡ sum_by (λ group. length group.items) (map group_at groups.groups.entries)) ×
+        AreShort (map group_at groups.groups.entries) };
 }
 
 // How many items stand under a name.
@@ -83,7 +85,8 @@ fn any_on_row(groups: &IndexMap<Name, Entries>, row: &Name) -> bool
 
 // How many items stand under all names.
 fn count_of_all(groups: &IndexMap<Name, Entries>) -> u128
-    ensures count { result ≡ sum_by (λ group. length group.items) (map group_at groups.now.entries) }
+    ensures count { result ≡
+        sum_by (λ group. length group.items) (map group_at groups.now.entries) }
     ensures short { AreShort (map group_at groups.now.entries) }
 {
     let _names = groups.len();
@@ -104,7 +107,8 @@ struct Lengths {
 // How many items stand under all names, where so many did before those under one name changed.
 fn recounted(groups: &IndexMap<Name, Entries>, count: u128, lengths: Lengths) -> u128
     requires { IsCountBefore (map group_at groups.now.entries) count lengths.before lengths.after }
-    ensures count { result ≡ sum_by (λ group. length group.items) (map group_at groups.now.entries) }
+    ensures count { result ≡
+        sum_by (λ group. length group.items) (map group_at groups.now.entries) }
     ensures distinct { IsDistinct same (keys_of groups.now.entries) }
 {
     let _names = groups.len();
@@ -212,7 +216,8 @@ fn take_into(
         (pairs_fault (rows_alone rows.now) section (items_of card.now.name1
         (map group_at groups.old.entries)) count (pairs_of (viewed card.now)) ≡ None) }
     ensures put { IfOk result (λ lengths. IsPut card.now.name1
-        (unwrap_or (lookup (same card.now.name1) groups.old.entries) [] ++ entries_of (viewed card.now))
+        (unwrap_or
+        (lookup (same card.now.name1) groups.old.entries) [] ++ entries_of (viewed card.now))
         groups.old.entries groups.new.entries lengths.before lengths.after) }
     ensures stop { IfErr result (ReportsDeckFault
         (pairs_fault (rows_alone rows.now) section (items_of card.now.name1
@@ -236,7 +241,8 @@ fn take_column_into(
         (pairs_fault (rows_alone rows.now) Columns (items_of card.now.name1
         (map group_at columns.old.entries)) count (pairs_of (viewed card.now))) ≡ None) }
     ensures put { IfOk result (λ lengths. IsPut card.now.name1
-        (unwrap_or (lookup (same card.now.name1) columns.old.entries) [] ++ entries_of (viewed card.now))
+        (unwrap_or
+        (lookup (same card.now.name1) columns.old.entries) [] ++ entries_of (viewed card.now))
         columns.old.entries columns.new.entries lengths.before lengths.after) }
     ensures stop { IfErr result (ReportsDeckFault
         (column_fault (map group_at columns.old.entries) card.now.name1

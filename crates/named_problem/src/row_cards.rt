@@ -116,7 +116,8 @@ fn put_back(
     body: RowBody,
     card: &DataCard<'_>,
 ) -> Result<(), CardStop<DeckFaultKind>>
-    requires goes_on { goes_on_last (rows.old ++ row_at (name, body) ∷ []) (viewed card.now) ≡ true }
+    requires goes_on { goes_on_last (rows.old ++ row_at (name, body) ∷ [])
+        (viewed card.now) ≡ true }
     requires apart { has_row rows.old name ≡ false }
     ensures no_fault { OnOk result (row_fault (rows_alone (rows.old ++ row_at (name, body) ∷ []))
         (viewed card.now) ≡ None) }

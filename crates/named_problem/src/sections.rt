@@ -37,7 +37,8 @@ pub fn take_column_card(
         (viewed card.now) ≡ None) }
     ensures step { OnOk result (columns.new ≡ in_set card.now.name1
         (λ items. items ++ entries_of (viewed card.now)) columns.old) }
-    ensures stop { IfErr result (ReportsDeckFault (columns_fault (columns_alone rows.now columns.old)
+    ensures stop { IfErr result
+        (ReportsDeckFault (columns_fault (columns_alone rows.now columns.old)
         (viewed card.now))) }
 {
     if !is_blank(card.kind) {

@@ -20,10 +20,13 @@ answered_once S function owns job failures status PrintGains PunchGains answer b
 
     decided : ((status ≡ status_of own.ending) × PrintGains (listing own.reports own.ending) × PunchGains (card_text own.cards)) ⊎
         (IsBrokenOff S bytes own.reports own.cards status PrintGains PunchGains ⊎ IsCutOff failures status)
-    decided = answer_is_decided S job failures status PrintGains PunchGains answer.0 answer.1 function answer.2 answer.3 answer.4 bytes own.reports own.cards own.ending of_job own.is_own.runs own.is_own.fits
+    decided =
+        answer_is_decided S job failures status PrintGains PunchGains answer.0 answer.1 function answer.2 answer.3 answer.4 bytes own.reports own.cards own.ending of_job own.is_own.runs own.is_own.fits
 
     by : (((status ≡ status_of own.ending) × PrintGains (listing own.reports own.ending) × PunchGains (card_text own.cards)) ⊎
-        (IsBrokenOff S bytes own.reports own.cards status PrintGains PunchGains ⊎ IsCutOff failures status)) → IsOfRun own.reports own.cards own.ending status PrintGains PunchGains ⊎ (StoppedShort S bytes own status PrintGains PunchGains ⊎ IsCutOff failures status)
+        (IsBrokenOff S bytes own.reports own.cards status PrintGains PunchGains ⊎ IsCutOff failures status)) →
+        IsOfRun own.reports own.cards own.ending status PrintGains PunchGains ⊎
+        (StoppedShort S bytes own status PrintGains PunchGains ⊎ IsCutOff failures status)
     by (inl is) = inl (record { is_status = is.0; print_gains = is.1; punch_gains = is.2 })
     by (inr (inl off)) = inr (inl (record { broken_off = off; meets = meets_evidence S bytes off.overflow off.first_reports off.first_cards off.runs }))
     by (inr (inr cut)) = inr (inr cut)

@@ -64,8 +64,10 @@ module _ (p : LinearProgram) (lawful : IsLinearProgram p) where
       let proved = optimal_end p s z y lawful at end in
       record { never = (never_optimal p lawful.is_matrix (value_at z) (value_at y) proved.best.feasible proved.certificate).never }
   end_passes s (EndsCrossed k) at end = record { never = λ part number e. let both = sym (crossed_holds p k (crossed_end p s k end)) ∙ e in cc both }
-  end_passes s (EndsInfeasible w) at end = record { never = (never_infeasible p lawful.is_matrix (value_at w) (infeasible_end p s w at.is_basis at.nonsingular end)).never }
-  end_passes s (EndsUnbounded z d) at end = record { never = (never_unbounded p (value_at z) (value_at d) (unbounded_end p s z d lawful at.is_basis end)).never }
+  end_passes s (EndsInfeasible w) at end =
+      record { never = (never_infeasible p lawful.is_matrix (value_at w) (infeasible_end p s w at.is_basis at.nonsingular end)).never }
+  end_passes s (EndsUnbounded z d) at end =
+      record { never = (never_unbounded p (value_at z) (value_at d) (unbounded_end p s z d lawful at.is_basis end)).never }
 
 -- ---- paths
 
@@ -73,8 +75,10 @@ module _ (sheet : Sheet) (s : Basis) (lawful : IsLinearProgram sheet.lp) (at : I
   has : HasTableau sheet.lp s
   has = tableau_of sheet.lp s at
 
-  checked_of : (bases : List Basis) (ending : PathEnding) → RulePathEnds turn sheet.lp s bases ending → (check : Check) × (check_of sheet.lp ending ≡ found check)
-  checked_of bases ending ends = found_of (check_of sheet.lp ending) (end_passes sheet.lp lawful (last_of s bases) ending (path_leads sheet.lp s bases at ends.is_path) ends.ends)
+  checked_of : (bases : List Basis) (ending : PathEnding) → RulePathEnds turn sheet.lp s bases ending →
+      (check : Check) × (check_of sheet.lp ending ≡ found check)
+  checked_of bases ending ends =
+      found_of (check_of sheet.lp ending) (end_passes sheet.lp lawful (last_of s bases) ending (path_leads sheet.lp s bases at ends.is_path) ends.ends)
 
   solved : (limit : Option ℕ) → (end : PathEnd) × IsSolved sheet s limit end
   solved None =
@@ -94,7 +98,8 @@ module _ (sheet : Sheet) (s : Basis) (lawful : IsLinearProgram sheet.lp) (at : I
       by (inr on) = (PathLimit, on)
 
   module _ (no_change : sheet.lp.change ≡ None) where
-    dual_checked : HasRightPrices sheet.lp s → (bases : List Basis) (ending : PathEnding) → RulePathEnds dual_turn sheet.lp s bases ending → (check : Check) × (check_of sheet.lp ending ≡ found check)
+    dual_checked : HasRightPrices sheet.lp s → (bases : List Basis) (ending : PathEnding) → RulePathEnds dual_turn sheet.lp s bases ending →
+        (check : Check) × (check_of sheet.lp ending ≡ found check)
     dual_checked right bases ending ends =
         let last = dual_path_leads sheet.lp s bases at ends.is_path in
         found_of (check_of sheet.lp ending) (end_passes sheet.lp lawful (last_of s bases) ending last
@@ -133,7 +138,8 @@ paths limit sheet s asked = solved sheet s (lawful_of (OfPath Primal limit) shee
 pub dual_paths : (limit : Option ℕ) → HasAnswer linear_programming (OfPath Dual limit)
 unfolding linear_programming
 dual_paths limit sheet s asked =
-    dual_solved sheet s (lawful_of (OfPath Dual limit) sheet s asked) asked.is_basis (unchanged (OfPath Dual limit) sheet s asked) limit (right_or_wrong sheet.lp s (tableau_of sheet.lp s asked.is_basis))
+    dual_solved sheet s (lawful_of (OfPath Dual limit) sheet s asked) asked.is_basis (unchanged (OfPath Dual limit) sheet s asked) limit
+    (right_or_wrong sheet.lp s (tableau_of sheet.lp s asked.is_basis))
 
 pub solutions : (mark : Mark) → HasAnswer linear_programming (OfSolution mark)
 unfolding linear_programming
@@ -152,7 +158,8 @@ pub punches : HasAnswer linear_programming OfPunch
 unfolding linear_programming
 punches sheet s asked = (basis_deck sheet.problem sheet.lp s, refl)
 
-installed : (sheet : Sheet) (t : Basis) → (IsNonsingularBasis sheet.lp t ⊎ HasDependency sheet.lp.matrix (basics_of t)) → (end : InstallEnd) × IsInstalled sheet t end
+installed : (sheet : Sheet) (t : Basis) → (IsNonsingularBasis sheet.lp t ⊎ HasDependency sheet.lp.matrix (basics_of t)) →
+    (end : InstallEnd) × IsInstalled sheet t end
 installed sheet t (inl one) = (Installed, one.nonsingular)
 installed sheet t (inr d) = (DependsBy (ray_lines sheet (listed sheet.lp.matrix d.1)), (d.0, d.1, d.2, refl))
 

@@ -69,17 +69,20 @@ by_verdict_steady Optimal report state = refl
 by_verdict_steady Infeasible report state = demanded_steady state.cells.xdonfs 1 report state
 by_verdict_steady Unbounded report state = demanded_steady state.cells.xdounb 2 report state
 
-after_path_steady : (solver : Solver) (card : ℕ) (present : Present) (state : State) (end : PathEnd) → Steady state.executed (after_path solver card present state end)
+after_path_steady : (solver : Solver) (card : ℕ) (present : Present) (state : State) (end : PathEnd) →
+    Steady state.executed (after_path solver card present state end)
 after_path_steady solver card present state (Reached bases verdict check) = by_verdict_steady (mark_of verdict) _ _
 after_path_steady solver card present state PathLimit = λ stop. let e = stop.1 in cc e
 after_path_steady solver card present state (PricesWrong j) = λ stop. let e = stop.1 in cc e
 
-after_run_steady : (card : ℕ) (parametric_run : ParametricRun) (present : Present) (state : State) (end : ParametricRunEnd) → Steady state.executed (after_parametric_run card parametric_run present state end)
+after_run_steady : (card : ℕ) (parametric_run : ParametricRun) (present : Present) (state : State) (end : ParametricRunEnd) →
+    Steady state.executed (after_parametric_run card parametric_run present state end)
 after_run_steady card parametric_run present state (Opening bases verdict check) = by_verdict_steady (mark_of verdict) _ _
 after_run_steady card parametric_run present state (Chained bases intervals end) = refl
 after_run_steady card parametric_run present state ParametricRunLimit = λ stop. let e = stop.1 in cc e
 
-after_install_steady : (card : ℕ) (lp : LinearProgram) (s : Basis) (taken : List Card × List (List Card)) (present : Present) (state : State) (end : InstallEnd) → Steady state.executed (after_install card lp s taken present state end)
+after_install_steady : (card : ℕ) (lp : LinearProgram) (s : Basis) (taken : List Card × List (List Card)) (present : Present) (state : State)
+    (end : InstallEnd) → Steady state.executed (after_install card lp s taken present state end)
 after_install_steady card lp s taken present state Installed = refl
 after_install_steady card lp s taken present state (DependsBy lines) = λ stop. let e = stop.1 in cc e
 
@@ -90,7 +93,8 @@ module _ (n : ℕ) where
   may_stop : (refusals : Refusals) (move : StatementMove) → IsWell n move → IsWell n (MayStop refusals move)
   may_stop refusals move is = record { well = is.well }
 
-  unless_fault : {X : Type 0} (card : ℕ) (fault : VerbFault) (o : Option X) (go : X → StatementMove) → ((x : X) → o ≡ Some x → IsWell n (go x)) → IsWell n (or_fault card fault o go)
+  unless_fault : {X : Type 0} (card : ℕ) (fault : VerbFault) (o : Option X) (go : X → StatementMove) → ((x : X) → o ≡ Some x → IsWell n (go x)) →
+      IsWell n (or_fault card fault o go)
   unless_fault card fault None go is = record { well = λ stop. let e = stop.1 in cc e }
   unless_fault card fault (Some x) go is = is x refl
 
@@ -98,11 +102,13 @@ module _ (n : ℕ) where
   unless_deck_fault (Err fault) go is = record { well = λ stop. let e = stop.1 in cc e }
   unless_deck_fault (Ok x) go is = is x refl
 
-  unless_selection_fault : (card : ℕ) (r : Result LinearProgram SelectionFault) (go : LinearProgram → StatementMove) → ((lp : LinearProgram) → r ≡ Ok lp → IsWell n (go lp)) → IsWell n (or_selection_fault card r go)
+  unless_selection_fault : (card : ℕ) (r : Result LinearProgram SelectionFault) (go : LinearProgram → StatementMove) →
+      ((lp : LinearProgram) → r ≡ Ok lp → IsWell n (go lp)) → IsWell n (or_selection_fault card r go)
   unless_selection_fault card (Err fault) go is = record { well = λ stop. let e = stop.1 in cc e }
   unless_selection_fault card (Ok lp) go is = is lp refl
 
-  selecting : (card : ℕ) (problem : Problem ℕ) (choice : Choice) (go : LinearProgram → StatementMove) → ((lp : LinearProgram) → selected problem choice ≡ Ok lp → IsWell n (go lp)) → IsWell n (selects card problem choice go)
+  selecting : (card : ℕ) (problem : Problem ℕ) (choice : Choice) (go : LinearProgram → StatementMove) →
+      ((lp : LinearProgram) → selected problem choice ≡ Ok lp → IsWell n (go lp)) → IsWell n (selects card problem choice go)
   selecting card problem choice go is = unless_selection_fault card (selected problem choice) _ (λ lp e. may_stop _ (go lp) (is lp e))
 
 -- ---- verbs that ask nothing
@@ -124,12 +130,15 @@ sets_up_well card options state =
     selecting state.executed card problem (choice_of state.cells options) _ (λ lp is. does state.executed _ refl))
 
 punches_well : (card : ℕ) (state : State) → IsWell state.executed (punches card state)
-punches_well card state = unless_fault state.executed card VerbFault.NoProblem (problem_of state.cells.xpbname state.file) _ (λ problem e. does state.executed _ refl)
+punches_well card state =
+    unless_fault state.executed card VerbFault.NoProblem (problem_of state.cells.xpbname state.file) _ (λ problem e. does state.executed _ refl)
 
 -- ---- verbs that ask
 
-asked_here : (question : Question) (present : Present) (state : State) (lp : LinearProgram) → HasProblem state.setup → Knows state → state.setup ≡ Some present →
-    selected present.problem (choice_of state.cells present.options) ≡ Ok lp → Suits question (record { problem = present.problem; lp = lp }) (present_basis present) →
+asked_here : (question : Question) (present : Present) (state : State) (lp : LinearProgram) → HasProblem state.setup → Knows state →
+    state.setup ≡ Some present →
+    selected present.problem (choice_of state.cells present.options) ≡ Ok lp →
+    Suits question (record { problem = present.problem; lp = lp }) (present_basis present) →
     IsAsked question (record { problem = present.problem; lp = lp }) (present_basis present)
 asked_here question present state lp lawful knows e is suits = record {
   is_problem = lawful present e;
@@ -140,17 +149,21 @@ asked_here question present state lp lawful knows e is suits = record {
 }
 
 -- a question at the present basis of what is selected of the setup
-asked : (question : Question) (present : Present) (state : State) (lp : LinearProgram) (go : AnswerTo question → StatementOutcome) → IsOfVerb question → ((answer : AnswerTo question) → Steady state.executed (go answer)) → HasProblem state.setup → Knows state →
-    state.setup ≡ Some present → selected present.problem (choice_of state.cells present.options) ≡ Ok lp → Suits question (record { problem = present.problem; lp = lp }) (present_basis present) →
+asked : (question : Question) (present : Present) (state : State) (lp : LinearProgram) (go : AnswerTo question → StatementOutcome) → IsOfVerb question →
+    ((answer : AnswerTo question) → Steady state.executed (go answer)) → HasProblem state.setup → Knows state →
+    state.setup ≡ Some present → selected present.problem (choice_of state.cells present.options) ≡ Ok lp →
+    Suits question (record { problem = present.problem; lp = lp }) (present_basis present) →
     IsWell state.executed (asks question (record { problem = present.problem; lp = lp }) present go)
-asked question present state lp go verb steady lawful knows e is suits = record { well = (verb, asked_here question present state lp lawful knows e is suits, steady) }
+asked question present state lp go verb steady lawful knows e is suits =
+    record { well = (verb, asked_here question present state lp lawful knows e is suits, steady) }
 
 module _ (card : ℕ) (state : State) (lawful : HasProblem state.setup) (knows : Knows state) where
   solves_well : (solver : Solver) (limit : Option ℕ) → IsOfVerb (OfPath solver limit) → IsWell state.executed (solves solver limit card state)
   solves_well solver limit verb =
       unless_fault state.executed card VerbFault.NoSetup state.setup _ (λ present e.
       selecting state.executed card present.problem (choice_of state.cells present.options) _ (λ lp is.
-      asked (OfPath solver limit) present state lp (after_path solver card present state) verb (after_path_steady solver card present state) lawful knows e is tt))
+      asked (OfPath solver limit) present state lp (after_path solver card present state) verb
+      (after_path_steady solver card present state) lawful knows e is tt))
 
   punches_basis_well : IsWell state.executed (punches_basis card state)
   punches_basis_well =
@@ -164,11 +177,13 @@ module _ (card : ℕ) (state : State) (lawful : HasProblem state.setup) (knows :
       selecting state.executed card present.problem (choice_of state.cells present.options) _ (λ lp is.
       unless_fault state.executed {X = List Card × List (List Card)} card VerbFault.DeckNotFound (deck_taken state.cells.xdata state.decks) _ (λ taken t.
       unless_deck_fault state.executed (basis_reading present.problem lp taken.0) _ (λ s read.
-      asked (OfInstall s) present state lp (after_install card lp s taken present state) tt (after_install_steady card lp s taken present state) lawful knows e is
+      asked (OfInstall s) present state lp (after_install card lp s taken present state) tt
+      (after_install_steady card lp s taken present state) lawful knows e is
       (lawful_basis present.problem lp taken.0 s (selected_has_names present.problem (choice_of state.cells present.options) lp is) read)))))
 
   showing_well : (present : Present) (question : Question) (report : AnswerTo question → Report) → IsOfVerb question → state.setup ≡ Some present →
-      ((lp : LinearProgram) → selected present.problem (choice_of state.cells present.options) ≡ Ok lp → Suits question (record { problem = present.problem; lp = lp }) (present_basis present)) →
+      ((lp : LinearProgram) → selected present.problem (choice_of state.cells present.options) ≡ Ok lp →
+      Suits question (record { problem = present.problem; lp = lp }) (present_basis present)) →
       IsWell state.executed (shows_present card state present question report)
   showing_well present question report verb e suits =
       unless_selection_fault state.executed card (selected present.problem (choice_of state.cells present.options)) _ (λ lp is.
@@ -181,10 +196,12 @@ module _ (card : ℕ) (state : State) (lawful : HasProblem state.setup) (knows :
       showing_well present (OfSolution mark) (Solution mark) tt e (λ lp is. tt)))
 
   -- under the mark OPTIMAL the present basis is optimal in what is selected
-  optimal_now : (present : Present) (lp : LinearProgram) → state.mark ≡ Some Optimal → state.setup ≡ Some present → selected present.problem (choice_of state.cells present.options) ≡ Ok lp →
+  optimal_now : (present : Present) (lp : LinearProgram) → state.mark ≡ Some Optimal → state.setup ≡ Some present →
+      selected present.problem (choice_of state.cells present.options) ≡ Ok lp →
       IsOptimalBasis lp (present_basis present)
   optimal_now present lp m e is =
-      (optimal_end lp (present_basis present) known.point known.prices (selected_is_lawful present.problem (choice_of state.cells present.options) lp (lawful present e) is)
+      (optimal_end lp (present_basis present) known.point known.prices
+      (selected_is_lawful present.problem (choice_of state.cells present.options) lp (lawful present e) is)
       ((knows.bases present e).in_each state.cells.xobj state.cells.xrhs lp is) ends).optimal
     where
       known : EndsOptimally state.setup state.cells.xobj state.cells.xrhs
@@ -193,9 +210,11 @@ module _ (card : ℕ) (state : State) (lawful : HasProblem state.setup) (knows :
       same_present : known.present ≡ present
       same_present = same_Some known.present present (sym known.is_setup ∙ e)
 
-      moved : (selected present.problem (choice_of state.cells present.options) ≡ Ok known.lp) × EndsAt known.lp (present_basis present) (EndsOptimal known.point known.prices)
+      moved : (selected present.problem (choice_of state.cells present.options) ≡ Ok known.lp) × EndsAt known.lp (present_basis present)
+          (EndsOptimal known.point known.prices)
       moved =
-          subst (λ (x : Present). (selected x.problem (choice_of state.cells x.options) ≡ Ok known.lp) × EndsAt known.lp (present_basis x) (EndsOptimal known.point known.prices))
+          subst (λ (x : Present). (selected x.problem (choice_of state.cells x.options) ≡ Ok known.lp) × EndsAt known.lp (present_basis x)
+          (EndsOptimal known.point known.prices))
           same_present (known.is_selected, known.ends)
 
       same_lp : known.lp ≡ lp
@@ -222,7 +241,8 @@ module _ (card : ℕ) (state : State) (lawful : HasProblem state.setup) (knows :
       unless_fault state.executed {X = ℚ} card VerbFault.ParmaxBelow (not_less state.cells.xparam last) _ (λ to t.
       asked (OfParametricRun (record { changing = changing; from = state.cells.xparam; to = to; limit = steps_allowed state.cells })) present state lp
       (after_parametric_run card (record { changing = changing; from = state.cells.xparam; to = to; limit = steps_allowed state.cells }) present state) tt
-      (after_run_steady card (record { changing = changing; from = state.cells.xparam; to = to; limit = steps_allowed state.cells }) present state) lawful knows e is
+      (after_run_steady card
+      (record { changing = changing; from = state.cells.xparam; to = to; limit = steps_allowed state.cells }) present state) lawful knows e is
       (changes_part change of_problem present.problem moved changing c, last_no_less state.cells.xparam last to t))))))
 
 pub verb_asks : (verb : Verb ℕ) (card : ℕ) (state : State) → HasProblem state.setup → Knows state → IsWell state.executed (verb_move verb card state)

@@ -31,17 +31,20 @@ keeps_bases : (sheet : Sheet) (changing : Changing) → KeepsBases sheet.lp (fam
 keeps_bases sheet (Row name) = objective_keeps sheet.lp (row_of sheet.problem name)
 keeps_bases sheet (Set name) = rhs_keeps sheet.lp (shifts_of sheet.problem name)
 
-lawful_family : (sheet : Sheet) (changing : Changing) → IsLinearProgram sheet.lp → ChangesFreely sheet changing → (theta : ℚ) → IsLinearProgram (family_of sheet changing theta)
+lawful_family : (sheet : Sheet) (changing : Changing) → IsLinearProgram sheet.lp → ChangesFreely sheet changing → (theta : ℚ) →
+    IsLinearProgram (family_of sheet changing theta)
 lawful_family sheet (Row name) lawful free = lawful_objective sheet.lp (row_of sheet.problem name) lawful free.0 free.1
 lawful_family sheet (Set name) lawful free = lawful_rhs sheet.lp (shifts_of sheet.problem name) lawful
 
-reports_of : (sheet : Sheet) (changing : Changing) → IsLinearProgram sheet.lp → sheet.lp.change ≡ None → ChangesFreely sheet changing → HasReports sheet.lp (family_of sheet changing) (IsFace sheet changing)
+reports_of : (sheet : Sheet) (changing : Changing) → IsLinearProgram sheet.lp → sheet.lp.change ≡ None → ChangesFreely sheet changing →
+    HasReports sheet.lp (family_of sheet changing) (IsFace sheet changing)
 reports_of sheet (Row name) lawful no_change free = objective_reports sheet.lp (row_of sheet.problem name) lawful free.0 free.1
 reports_of sheet (Set name) lawful no_change free = rhs_reports sheet.lp (shifts_of sheet.problem name) lawful no_change
 
 -- ---- its end
 
-module _ (sheet : Sheet) (s : Basis) (run : ParametricRun) (lawful : IsLinearProgram sheet.lp) (free : ChangesFreely sheet run.changing) (at : IsNonsingularBasis sheet.lp s) where
+module _ (sheet : Sheet) (s : Basis) (run : ParametricRun) (lawful : IsLinearProgram sheet.lp) (free : ChangesFreely sheet run.changing)
+    (at : IsNonsingularBasis sheet.lp s) where
   abbrev first : LinearProgram
   first = family_of sheet run.changing run.from
 
@@ -53,7 +56,8 @@ module _ (sheet : Sheet) (s : Basis) (run : ParametricRun) (lawful : IsLinearPro
       (end_passes first (lawful_family sheet run.changing lawful free run.from) (last_of s path) ending
       (path_leads first s path ((keeps_bases sheet run.changing).to_family run.from s at) failed.opens.is_path) failed.opens.ends)
 
-  by_report : (report : RunReport) (path : List Basis) → IsReport (family_of sheet run.changing) (IsFace sheet run.changing) run.from run.to s report path → length path ≤ run.limit →
+  by_report : (report : RunReport) (path : List Basis) → IsReport (family_of sheet run.changing) (IsFace sheet run.changing) run.from run.to s report path →
+      length path ≤ run.limit →
       (end : ParametricRunEnd) × IsParametricRun sheet s run end
   by_report (FailedOpening ending) path failed within =
       let check = checked_of path ending failed in (
@@ -66,7 +70,8 @@ module _ (sheet : Sheet) (s : Basis) (run : ParametricRun) (lawful : IsLinearPro
   )
 
   end_of_run : (EndsRun (family_of sheet run.changing) (IsFace sheet run.changing) run.from run.to s run.limit ⊎
-      RunGoesOnFor (family_of sheet run.changing) (IsFace sheet run.changing) run.from run.to s run.limit) → (end : ParametricRunEnd) × IsParametricRun sheet s run end
+      RunGoesOnFor (family_of sheet run.changing) (IsFace sheet run.changing) run.from run.to s run.limit) →
+      (end : ParametricRunEnd) × IsParametricRun sheet s run end
   end_of_run (inl ended) = by_report ended.report ended.path ended.is_report ended.within
   end_of_run (inr on) = (ParametricRunLimit, on)
 
@@ -76,4 +81,5 @@ parametric_runs run sheet s asked =
     let lawful = lawful_of (OfParametricRun run) sheet s asked in
     let free = changes_freely sheet asked.choice run.changing asked.is_problem asked.is_selected asked.suits.0 in
     end_of_run sheet s run lawful free asked.is_basis
-    (reports_of sheet run.changing lawful (unchanged (OfParametricRun run) sheet s asked) free run.from run.to s run.limit (le_from_lt_fails run.to run.from asked.suits.1) asked.is_basis)
+    (reports_of sheet run.changing lawful (unchanged (OfParametricRun run) sheet s asked) free run.from run.to s run.limit
+    (le_from_lt_fails run.to run.from asked.suits.1) asked.is_basis)

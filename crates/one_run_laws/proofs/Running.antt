@@ -69,28 +69,35 @@ module _ (S : Solving) (solving : KnowsSolving S) (always : AnswersAlways S) (by
     runs : IsRun S program (job_decks program bytes) reports cards ending
     fits : IsOverflow ending → ⊥
 
-  over : (reports : List Report) (cards : List (List ℕ)) (state : State) (ending : Ending) → Reaches S program (job_decks program bytes) reports cards state → IsOver S program state ending → RunsOn
-  over reports cards state ending reaches is = record { reports = reports; cards = cards; ending = ending; runs = is_over reaches is; fits = no_overflow state ending is }
+  over : (reports : List Report) (cards : List (List ℕ)) (state : State) (ending : Ending) → Reaches S program (job_decks program bytes) reports cards state →
+      IsOver S program state ending → RunsOn
+  over reports cards state ending reaches is =
+      record { reports = reports; cards = cards; ending = ending; runs = is_over reaches is; fits = no_overflow state ending is }
     where
       no_overflow : (state : State) (ending : Ending) → IsOver S program state ending → IsOverflow ending → ⊥
       no_overflow state _ (at_end past) stop = let e = stop.1 in cc e
       no_overflow state _ (at_limit within most) stop = let e = stop.1 in cc e
 
   module _ (some : 0 < length program.statements) where
-    on : (left : ℕ) (reports : List Report) (cards : List (List ℕ)) (state : State) → Reaches S program (job_decks program bytes) reports cards state → max_executed ≤ state.executed + left → RunsOn
+    on : (left : ℕ) (reports : List Report) (cards : List (List ℕ)) (state : State) → Reaches S program (job_decks program bytes) reports cards state →
+        max_executed ≤ state.executed + left → RunsOn
     on zero reports cards state reaches most = by (cases_lt (length program.statements) state.position)
       where
         by : ((length program.statements < state.position) ⊎ (state.position ≤ length program.statements)) → RunsOn
         by (inr within) = over reports cards state _ reaches (at_limit within (omega arith))
         by (inl past) = over reports cards state _ reaches (at_end past)
-    on (suc left) reports cards state reaches most = by (cases_lt (length program.statements) state.position) (cases_lt state.executed max_executed) (λ reports cards state. on left reports cards state)
+    on (suc left) reports cards state reaches most =
+        by (cases_lt (length program.statements) state.position) (cases_lt state.executed max_executed) (λ reports cards state. on left reports cards state)
       where
-        by_outcome : (statement : Statement ℕ) → slice_get program.statements (state.position - 1) ≡ Some statement → state.executed < max_executed → (outcome : StatementOutcome) →
+        by_outcome : (statement : Statement ℕ) → slice_get program.statements (state.position - 1) ≡ Some statement → state.executed < max_executed →
+            (outcome : StatementOutcome) →
             Gives S statement.card (verb_move statement.verb statement.card (counted state)) outcome → Steady (state.executed + 1) outcome →
-            ((reports : List Report) (cards : List (List ℕ)) (state : State) → Reaches S program (job_decks program bytes) reports cards state → max_executed ≤ state.executed + left → RunsOn) → RunsOn
+            ((reports : List Report) (cards : List (List ℕ)) (state : State) → Reaches S program (job_decks program bytes) reports cards state →
+            max_executed ≤ state.executed + left → RunsOn) → RunsOn
         by_outcome statement is below (Goes gain after) gives steady next =
             next (reports ++ printed_by gain) (cards ++ punched_by gain) after
-            (stepped gain after reaches (record { statement = statement; is_at_position = is; is_within_limit = below; gives = gives })) (omega (arith, steady, most))
+            (stepped gain after reaches (record { statement = statement; is_at_position = is; is_within_limit = below; gives = gives }))
+            (omega (arith, steady, most))
         by_outcome statement is below (Ends gain ending) gives steady next = record {
           reports = reports ++ printed_by gain;
           cards = cards ++ punched_by gain;
@@ -99,8 +106,10 @@ module _ (S : Solving) (solving : KnowsSolving S) (always : AnswersAlways S) (by
           fits = steady;
         }
 
-        by : ((length program.statements < state.position) ⊎ (state.position ≤ length program.statements)) → ((state.executed < max_executed) ⊎ (max_executed ≤ state.executed)) →
-            ((reports : List Report) (cards : List (List ℕ)) (state : State) → Reaches S program (job_decks program bytes) reports cards state → max_executed ≤ state.executed + left → RunsOn) → RunsOn
+        by : ((length program.statements < state.position) ⊎ (state.position ≤ length program.statements)) →
+            ((state.executed < max_executed) ⊎ (max_executed ≤ state.executed)) →
+            ((reports : List Report) (cards : List (List ℕ)) (state : State) → Reaches S program (job_decks program bytes) reports cards state →
+            max_executed ≤ state.executed + left → RunsOn) → RunsOn
         by (inl past) count next = over reports cards state _ reaches (at_end past)
         by (inr within) (inr all) next = over reports cards state _ reaches (at_limit within all)
         by (inr within) (inl below) next =

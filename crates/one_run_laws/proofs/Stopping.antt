@@ -12,7 +12,8 @@ use Rattle.determinism_laws.proofs.Stops.{statement_evidence}
 use Rattle.one_run_laws.specs.Laws.{MeetsEvidence}
 
 module _ (S : Solving) (bytes : List ℕ) (overflow : Overflow) where
-  stopped_at : (program : Program) (reports : List Report) (cards : List (List ℕ)) (ending : Ending) → IsProgramOf bytes program → IsRun S program (job_decks program bytes) reports cards ending →
+  stopped_at : (program : Program) (reports : List Report) (cards : List (List ℕ)) (ending : Ending) → IsProgramOf bytes program →
+      IsRun S program (job_decks program bytes) reports cards ending →
       ending ≡ OverflowStop overflow → MeetsEvidence S bytes
   stopped_at program _ _ _ is (is_over came (at_end past)) stop = cc
   stopped_at program _ _ _ is (is_over came (at_limit within limit)) stop = cc
@@ -29,7 +30,8 @@ module _ (S : Solving) (bytes : List ℕ) (overflow : Overflow) where
         (subst (λ x. Gives S step.statement.card (verb_move step.statement.verb step.statement.card (counted state)) (Ends gain x)) stop step.gives);
   }
 
-  by_run : (reports : List Report) (cards : List (List ℕ)) (ending : Ending) → IsJobRun S bytes reports cards ending → ending ≡ OverflowStop overflow → MeetsEvidence S bytes
+  by_run : (reports : List Report) (cards : List (List ℕ)) (ending : Ending) → IsJobRun S bytes reports cards ending → ending ≡ OverflowStop overflow →
+      MeetsEvidence S bytes
   by_run _ _ _ (card_fault fault is) stop = cc
   by_run _ _ _ (control_fault fault fine is) stop = cc
   by_run reports cards ending (run program is runs) stop = stopped_at program reports cards ending is runs stop

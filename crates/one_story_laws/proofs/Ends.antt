@@ -46,7 +46,9 @@ module _ (family : ℚ → LinearProgram) where
   forward_all : (max from : ℚ) (parts : List Part) → All (IsTruePart family max) parts → AreJoined from parts → from ≤ℚ last_end from parts
   forward_all max from [] each joined = le_refl from
   forward_all max from (part ∷ parts) each joined =
-      le_trans (le_of_eq (sym joined.0)) (le_trans (All-head (IsTruePart family max) part parts each).forward (forward_all max part.to parts (All-tail (IsTruePart family max) part parts each) joined.1))
+      le_trans (le_of_eq (sym joined.0))
+      (le_trans (All-head (IsTruePart family max) part parts each).forward
+      (forward_all max part.to parts (All-tail (IsTruePart family max) part parts each) joined.1))
 
   covers_by : (from max : ℚ) (parts : List Part) (past : PastBreakpoint) → IsTrueRun family from max parts past → Covers from (last_end from parts)
   covers_by from max parts past run = record {
@@ -57,7 +59,8 @@ module _ (family : ℚ → LinearProgram) where
         (along theta covered.part.value covered.part.value_rate, viewed.best);
   }
 
-  breaks : {Proved : ℚ → Type 0} (max last past : ℚ) (mark : Mark) → ((theta : ℚ) → Proved theta → IsOfMark (family theta) mark) → IsProvedPast max last past Proved → BreaksPast max last past mark
+  breaks : {Proved : ℚ → Type 0} (max last past : ℚ) (mark : Mark) → ((theta : ℚ) → Proved theta → IsOfMark (family theta) mark) →
+      IsProvedPast max last past Proved → BreaksPast max last past mark
   breaks max last past mark tells proof = record {
     at_last = proof.at_last;
     before_max = proof.before_max;
@@ -74,14 +77,16 @@ module _ (family : ℚ → LinearProgram) where
   closed_as_reported sheet max last (PastUnbounded value z d) closes = breaks max last value Unbounded (λ theta h. h.unbounded) closes
   closed_as_reported sheet max last (PastInfeasible value w) closes = breaks max last value Infeasible (λ theta h. h.infeasible) closes
 
-  pub run_as_viewed : (sheet : Sheet) (from max : ℚ) (parts : List Part) (end : ChainEnd) → IsTrueRun family from max parts (past_of sheet end) → HasRun from max end
+  pub run_as_viewed : (sheet : Sheet) (from max : ℚ) (parts : List Part) (end : ChainEnd) → IsTrueRun family from max parts (past_of sheet end) →
+      HasRun from max end
   run_as_viewed sheet from max parts end run = record {
     last = last_end from parts;
     covers = covers_by from max parts (past_of sheet end) run;
     closes = closed_as_viewed sheet max (last_end from parts) end run.closes;
   }
 
-  pub run_as_reported : (sheet : Sheet) (from max : ℚ) (parts : List Part) (past : PastBreakpoint) → IsTrueRun family from max parts past → HasRun from max (end_of sheet max past)
+  pub run_as_reported : (sheet : Sheet) (from max : ℚ) (parts : List Part) (past : PastBreakpoint) → IsTrueRun family from max parts past →
+      HasRun from max (end_of sheet max past)
   run_as_reported sheet from max parts past run = record {
     last = last_end from parts;
     covers = covers_by from max parts past run;
@@ -104,7 +109,8 @@ module _ (family : ℚ → LinearProgram) (from max : ℚ) where
       by (inr below) = below
 
   -- nor does a run that ends at the last value stop at a breakpoint
-  last_or_breakpoint : (last other past : ℚ) (mark : Mark) → (Optimal ≡ mark → ⊥) → other ≡ max → Covers family from other → BreaksPast family max last past mark → ⊥
+  last_or_breakpoint : (last other past : ℚ) (mark : Mark) → (Optimal ≡ mark → ⊥) → other ≡ max → Covers family from other →
+      BreaksPast family max last past mark → ⊥
   last_or_breakpoint last other past mark broken at covers breaks =
       lt_not_le breaks.before_max (subst (λ (x : ℚ). x ≤ℚ last) at (within last other past mark broken covers breaks))
 
@@ -113,23 +119,31 @@ module _ (family : ℚ → LinearProgram) (from max : ℚ) where
   same_breakpoint last other past later mark broken first second breaks again =
       breaks.at_last ∙ le_antisymm (within other last later mark broken first again) (within last other past mark broken second breaks) ∙ sym again.at_last
 
-  one_breakpoint : (last other past later : ℚ) (mark another : Mark) → BreaksPast family max last past mark → BreaksPast family max other later another → mark ≡ another
+  one_breakpoint : (last other past later : ℚ) (mark another : Mark) → BreaksPast family max last past mark → BreaksPast family max other later another →
+      mark ≡ another
   one_breakpoint last other past later mark another breaks again =
       one_mark (family max) mark another (breaks.proved max breaks.before_max) (again.proved max again.before_max)
 
-  closes_same : (last other : ℚ) (end another : ChainEnd) → Covers family from last → Covers family from other → IsClosed family max last end → IsClosed family max other another →
+  closes_same : (last other : ℚ) (end another : ChainEnd) → Covers family from last → Covers family from other → IsClosed family max last end →
+      IsClosed family max other another →
       IsLast max end → IsLast max another → SameClose end another
   closes_same last other (EndsAt value) (EndsAt later) first second closed again at also = at ∙ sym also
-  closes_same last other (EndsAt value) (UnboundedPast later lines) first second closed again at also = absurd (last_or_breakpoint other last later Unbounded (λ e. cc e) closed first again)
-  closes_same last other (EndsAt value) (InfeasiblePast later lines) first second closed again at also = absurd (last_or_breakpoint other last later Infeasible (λ e. cc e) closed first again)
-  closes_same last other (UnboundedPast value lines) (EndsAt later) first second closed again at also = absurd (last_or_breakpoint last other value Unbounded (λ e. cc e) again second closed)
-  closes_same last other (UnboundedPast value lines) (UnboundedPast later others) first second closed again at also = same_breakpoint last other value later Unbounded (λ e. cc e) first second closed again
+  closes_same last other (EndsAt value) (UnboundedPast later lines) first second closed again at also =
+      absurd (last_or_breakpoint other last later Unbounded (λ e. cc e) closed first again)
+  closes_same last other (EndsAt value) (InfeasiblePast later lines) first second closed again at also =
+      absurd (last_or_breakpoint other last later Infeasible (λ e. cc e) closed first again)
+  closes_same last other (UnboundedPast value lines) (EndsAt later) first second closed again at also =
+      absurd (last_or_breakpoint last other value Unbounded (λ e. cc e) again second closed)
+  closes_same last other (UnboundedPast value lines) (UnboundedPast later others) first second closed again at also =
+      same_breakpoint last other value later Unbounded (λ e. cc e) first second closed again
   closes_same last other (UnboundedPast value lines) (InfeasiblePast later others) first second closed again at also =
       let e : Unbounded ≡ Infeasible = one_breakpoint last other value later Unbounded Infeasible closed again in absurd (cc e)
-  closes_same last other (InfeasiblePast value lines) (EndsAt later) first second closed again at also = absurd (last_or_breakpoint last other value Infeasible (λ e. cc e) again second closed)
+  closes_same last other (InfeasiblePast value lines) (EndsAt later) first second closed again at also =
+      absurd (last_or_breakpoint last other value Infeasible (λ e. cc e) again second closed)
   closes_same last other (InfeasiblePast value lines) (UnboundedPast later others) first second closed again at also =
       let e : Infeasible ≡ Unbounded = one_breakpoint last other value later Infeasible Unbounded closed again in absurd (cc e)
-  closes_same last other (InfeasiblePast value lines) (InfeasiblePast later others) first second closed again at also = same_breakpoint last other value later Infeasible (λ e. cc e) first second closed again
+  closes_same last other (InfeasiblePast value lines) (InfeasiblePast later others) first second closed again at also =
+      same_breakpoint last other value later Infeasible (λ e. cc e) first second closed again
 
   -- two true runs from one value to one value
   pub same_close : (end other : ChainEnd) → HasRun family from max end → HasRun family from max other → IsLast max end → IsLast max other → SameClose end other

@@ -46,13 +46,16 @@ one_mark p Unbounded Unbounded first second = refl
 
 same_value : (sense : Sense) (x y : ℚ) → for_min sense x ≤ℚ for_min sense y → for_min sense y ≤ℚ for_min sense x → x ≡ y
 same_value Min x y below above = le_antisymm below above
-same_value Max x y below above = by_ring1 x (λ x. x ≐ opposite (opposite x)) refl ∙ ap neg_ℚ (le_antisymm below above) ∙ by_ring1 y (λ y. opposite (opposite y) ≐ y) refl
+same_value Max x y below above =
+    by_ring1 x (λ x. x ≐ opposite (opposite x)) refl ∙ ap neg_ℚ (le_antisymm below above) ∙ by_ring1 y (λ y. opposite (opposite y) ≐ y) refl
 
 pub best_objective : (p : LinearProgram) (z w : Vector) → IsBest p z → IsBest p w → objective_value p z ≡ objective_value p w
-best_objective p z w first second = same_value p.sense (objective_value p z) (objective_value p w) (first.unimproved w second.feasible) (second.unimproved z first.feasible)
+best_objective p z w first second =
+    same_value p.sense (objective_value p z) (objective_value p w) (first.unimproved w second.feasible) (second.unimproved z first.feasible)
 
 one_objective : (p : LinearProgram) (x y : ℚ) → IsBestObjective p x → IsBestObjective p y → x ≡ y
-one_objective p x y first second = first.is_objective ∙ best_objective p (value_at first.point) (value_at second.point) first.best second.best ∙ sym second.is_objective
+one_objective p x y first second =
+    first.is_objective ∙ best_objective p (value_at first.point) (value_at second.point) first.best second.best ∙ sym second.is_objective
 
 -- ---- verdicts
 
@@ -73,8 +76,11 @@ same_objective sheet (UnboundedBy steps x lines) other first second = tt
 
 -- two verdicts that are true of one linear program
 pub same_verdict : (sheet : Sheet) (verdict other : PathVerdict) → IsTrueOf sheet verdict → IsTrueOf sheet other → SameVerdict verdict other
-same_verdict sheet verdict other first second =
-    (one_mark sheet.lp (mark_of verdict) (mark_of other) (of_verdict sheet verdict first) (of_verdict sheet other second), same_objective sheet verdict other first second)
+same_verdict sheet verdict other first second = (
+  one_mark sheet.lp (mark_of verdict) (mark_of other) (of_verdict sheet verdict first)
+      (of_verdict sheet other second),
+  same_objective sheet verdict other first second,
+)
 
 -- ---- openings that are reported
 

@@ -69,7 +69,8 @@ module _ (C : Checker) (card : ℕ) where
       stopping given (inl gives) = shows.by given gives
       stopping given (inr stop) = subst NoneOf (sym stop.3) nothing
 
-  asked : (question : Question) (sheet : Sheet) (s : Basis) (go : AnswerTo question → StatementOutcome) → ((answer : AnswerTo question) → IsRight (attested C) question sheet s answer → NoneOf (go answer)) →
+  asked : (question : Question) (sheet : Sheet) (s : Basis) (go : AnswerTo question → StatementOutcome) →
+      ((answer : AnswerTo question) → IsRight (attested C) question sheet s answer → NoneOf (go answer)) →
       ShowsNone (Asks question sheet s go)
   asked question sheet s go none = record { by = λ given a. subst NoneOf (sym a.2) (none a.0 a.1) }
 
@@ -81,24 +82,29 @@ module _ (C : Checker) (card : ℕ) where
   unless_deck_fault (Err fault) go shows = does _ nothing
   unless_deck_fault (Ok x) go shows = shows x
 
-  unless_selection_fault : (r : Result LinearProgram SelectionFault) (go : LinearProgram → StatementMove) → ((lp : LinearProgram) → ShowsNone (go lp)) → ShowsNone (or_selection_fault card r go)
+  unless_selection_fault : (r : Result LinearProgram SelectionFault) (go : LinearProgram → StatementMove) → ((lp : LinearProgram) → ShowsNone (go lp)) →
+      ShowsNone (or_selection_fault card r go)
   unless_selection_fault (Err fault) go shows = does _ nothing
   unless_selection_fault (Ok lp) go shows = shows lp
 
-  selecting : (problem : Problem ℕ) (choice : Choice) (go : LinearProgram → StatementMove) → ((lp : LinearProgram) → ShowsNone (go lp)) → ShowsNone (selects card problem choice go)
+  selecting : (problem : Problem ℕ) (choice : Choice) (go : LinearProgram → StatementMove) → ((lp : LinearProgram) → ShowsNone (go lp)) →
+      ShowsNone (selects card problem choice go)
   selecting problem choice go shows = unless_selection_fault (selected problem choice) _ (λ lp. may_stop _ (go lp) (shows lp))
 
   -- ---- verbs
 
   path_none : (solver : Solver) (present : Present) (state : State) (end : PathEnd) → NoneOf (after_path solver card present state end)
   path_none solver present state (Reached bases verdict check) =
-      by_verdict_none (mark_of verdict) (Solved solver verdict check) (record state { setup = Some (gone_through bases present); mark = Some (mark_of verdict) }) tt
+      by_verdict_none (mark_of verdict) (Solved solver verdict check)
+      (record state { setup = Some (gone_through bases present); mark = Some (mark_of verdict) }) tt
   path_none solver present state PathLimit = nothing
   path_none solver present state (PricesWrong j) = nothing
 
-  parametric_run_none : (parametric_run : ParametricRun) (present : Present) (state : State) (end : ParametricRunEnd) → NoneOf (after_parametric_run card parametric_run present state end)
+  parametric_run_none : (parametric_run : ParametricRun) (present : Present) (state : State) (end : ParametricRunEnd) →
+      NoneOf (after_parametric_run card parametric_run present state end)
   parametric_run_none parametric_run present state (Opening bases verdict check) =
-      by_verdict_none (mark_of verdict) (Solved (parametric_solver parametric_run.changing) verdict check) (record state { setup = Some (gone_through bases present); mark = None }) tt
+      by_verdict_none (mark_of verdict) (Solved (parametric_solver parametric_run.changing) verdict check)
+      (record state { setup = Some (gone_through bases present); mark = None }) tt
   parametric_run_none parametric_run present state (Chained bases intervals end) = only _ tt
   parametric_run_none parametric_run present state ParametricRunLimit = nothing
 
@@ -143,14 +149,16 @@ module _ (C : Checker) (card : ℕ) where
         unless_selection_fault (selected present.problem (choice_of state.cells present.options)) _ (λ lp.
         may_stop _ _ (asked OfRanges _ _ _ (λ lines taken. absurd taken))))))
 
-    parametric_runs_none : (fault : VerbFault) (change : Problem ℕ → Name → Option Changing) (moved : Option Name) → ShowsNone (parametric_runs card fault change moved state)
+    parametric_runs_none : (fault : VerbFault) (change : Problem ℕ → Name → Option Changing) (moved : Option Name) →
+        ShowsNone (parametric_runs card fault change moved state)
     parametric_runs_none fault change moved =
         unless_fault VerbFault.NoSetup state.setup _ (λ present.
         selecting present.problem (choice_of state.cells present.options) _ (λ lp.
         unless_fault {X = Changing} fault (option_and_then (change present.problem) moved) _ (λ changing.
         unless_fault {X = ℚ} VerbFault.NoParmax state.cells.xparmax _ (λ last.
         unless_fault {X = ℚ} VerbFault.ParmaxBelow (not_less state.cells.xparam last) _ (λ to.
-        may_stop _ _ (asked (OfParametricRun (record { changing = changing; from = state.cells.xparam; to = to; limit = steps_allowed state.cells })) _ _ _ (λ end taken.
+        may_stop _ _
+        (asked (OfParametricRun (record { changing = changing; from = state.cells.xparam; to = to; limit = steps_allowed state.cells })) _ _ _ (λ end taken.
         parametric_run_none (record { changing = changing; from = state.cells.xparam; to = to; limit = steps_allowed state.cells }) present state end)))))))
 
     punches_basis_none : ShowsNone (punches_basis card state)
@@ -193,7 +201,8 @@ module _ (C : Checker) (card : ℕ) where
 -- ---- runs
 
 module _ (C : Checker) (program : Program) (decks : List (List Card)) where
-  so_far_none : (reports : List Report) (cards : List (List ℕ)) (state : State) → Reaches (attested C) program decks reports cards state → All IsOfNoBasis reports
+  so_far_none : (reports : List Report) (cards : List (List ℕ)) (state : State) → Reaches (attested C) program decks reports cards state →
+      All IsOfNoBasis reports
   so_far_none _ _ _ begun = nothing
   so_far_none _ _ _ (stepped {reports} {cards} {state} gain after before step) =
       All-append IsOfNoBasis reports (printed_by gain) (so_far_none reports cards state before)
@@ -205,7 +214,8 @@ module _ (C : Checker) (program : Program) (decks : List (List Card)) where
       All-append IsOfNoBasis reports (printed_by gain) (so_far_none reports cards state before)
       ((verb_none C step.statement.card step.statement.verb (counted state)).by (Ends gain ending) step.gives)
 
-pub job_of_no_basis : (C : Checker) (bytes : List ℕ) (reports : List Report) (cards : List (List ℕ)) (ending : Ending) → IsJobRun (attested C) bytes reports cards ending → All IsOfNoBasis reports
+pub job_of_no_basis : (C : Checker) (bytes : List ℕ) (reports : List Report) (cards : List (List ℕ)) (ending : Ending) →
+    IsJobRun (attested C) bytes reports cards ending → All IsOfNoBasis reports
 job_of_no_basis C bytes _ _ _ (card_fault fault is) = nothing
 job_of_no_basis C bytes _ _ _ (control_fault fault fine is) = nothing
 job_of_no_basis C bytes reports cards ending (run program is runs) = run_none C program _ reports cards ending runs

@@ -33,7 +33,8 @@ use Rattle.walk_definitions.specs.Checkers.{Checker}
 
 -- ---- the linear program, and the parametric run, of which something is reported
 
-pub same_sheet : (setup : Option Present) (cells : Cells) (present : Present) (lp : LinearProgram) (program : PresentProgram setup cells) → setup ≡ Some present →
+pub same_sheet : (setup : Option Present) (cells : Cells) (present : Present) (lp : LinearProgram) (program : PresentProgram setup cells) →
+    setup ≡ Some present →
     selected present.problem (choice_of cells present.options) ≡ Ok lp → sheet_of program ≡ record { problem = present.problem; lp = lp }
 same_sheet setup cells present lp program set is =
     let same : program.present ≡ present = same_Some program.present present (sym program.is_setup ∙ set) in
@@ -43,7 +44,8 @@ same_sheet setup cells present lp program set is =
     let same_lp : program.lp ≡ lp = cc both in
     λ i. record { problem = (same i).problem; lp = same_lp i }
 
-pub same_changing : (cells : Cells) (one two : Changing) → parametric_solver one ≡ parametric_solver two → named_by cells one ≡ Some (changing_name one) → named_by cells two ≡ Some (changing_name two) → one ≡ two
+pub same_changing : (cells : Cells) (one two : Changing) → parametric_solver one ≡ parametric_solver two → named_by cells one ≡ Some (changing_name one) →
+    named_by cells two ≡ Some (changing_name two) → one ≡ two
 same_changing cells (Row name) (Row other) solvers first second = ap Row (same_Some name other (sym first ∙ second))
 same_changing cells (Row name) (Set other) solvers first second = absurd (cc solvers)
 same_changing cells (Set name) (Row other) solvers first second = absurd (cc solvers)
@@ -55,9 +57,11 @@ pub record IsAskedBy (cells : Cells) (parametric_run : ParametricRun) : Type 0 w
   pub from_first : parametric_run.from ≡ cells.xparam
   pub to_last : cells.xparmax ≡ Some parametric_run.to
 
-reported_here : (setup : Option Present) (cells : Cells) (present : Present) (lp : LinearProgram) (parametric_run : ParametricRun) (Tells : Sheet → Changing → ℚ → ℚ → Type 0) → setup ≡ Some present →
+reported_here : (setup : Option Present) (cells : Cells) (present : Present) (lp : LinearProgram) (parametric_run : ParametricRun)
+    (Tells : Sheet → Changing → ℚ → ℚ → Type 0) → setup ≡ Some present →
     selected present.problem (choice_of cells present.options) ≡ Ok lp → IsAskedBy cells parametric_run →
-    ReportsOfRun setup cells (parametric_solver parametric_run.changing) (λ sheet run. Tells sheet run.changing run.from run.to) → Tells (record { problem = present.problem; lp = lp }) parametric_run.changing parametric_run.from parametric_run.to
+    ReportsOfRun setup cells (parametric_solver parametric_run.changing) (λ sheet run. Tells sheet run.changing run.from run.to) →
+    Tells (record { problem = present.problem; lp = lp }) parametric_run.changing parametric_run.from parametric_run.to
 reported_here setup cells present lp parametric_run Tells set is asked reported =
     let sheets = same_sheet setup cells present lp reported.program set is in
     let changes = same_changing cells reported.parametric_run.changing parametric_run.changing (sym reported.is_solver) reported.is_named asked.is_named in
@@ -83,7 +87,8 @@ same_last (InfeasiblePast value lines) (UnboundedPast other others) same = absur
 one_verdict : (P : Report → Type 0) (mark : Mark) (report : Report) (state : State) → All P (printed_by (gain_of (by_verdict mark report state))) → P report
 one_verdict P mark report state all = All-head P report [] (subst (All P) (printed_verdict mark report state) all)
 
-module _ (C : Checker) (S : Solving) (Speaks : State → Report → Type 0) (Open : Type 0) (enough : SaysEnough S Speaks Open) (card : ℕ) (state : State) (problem : Problem ℕ) (options : SetupOptions)
+module _ (C : Checker) (S : Solving) (Speaks : State → Report → Type 0) (Open : Type 0) (enough : SaysEnough S Speaks Open) (card : ℕ) (state : State)
+    (problem : Problem ℕ) (options : SetupOptions)
     (opening other : Basis) (steps others : List Basis) (lp : LinearProgram) (is : selected problem (choice_of state.cells options) ≡ Ok lp) where
   abbrev one : Present
   one = record { problem = problem; options = options; opening = opening; steps = steps }
@@ -104,20 +109,28 @@ module _ (C : Checker) (S : Solving) (Speaks : State → Report → Type 0) (Ope
   gone bases more = one_setup problem options opening other (steps ++ bases) (others ++ more)
 
   -- two verdicts that leave one mark
-  verdicts_alike : (solver : Solver) (verdict another : PathVerdict) (check other_check : Check) (bases more : List Basis) (mark_left : Mark → Option Mark) → SameVerdict verdict another →
-      Alike (by_verdict (mark_of verdict) (Solved solver verdict check) (record (counted first) { setup = Some (gone_through bases one); mark = mark_left (mark_of verdict) }))
-      (by_verdict (mark_of another) (Solved solver another other_check) (record (counted second) { setup = Some (gone_through more two); mark = mark_left (mark_of another) }))
+  verdicts_alike : (solver : Solver) (verdict another : PathVerdict) (check other_check : Check) (bases more : List Basis) (mark_left : Mark → Option Mark) →
+      SameVerdict verdict another →
+      Alike (by_verdict (mark_of verdict) (Solved solver verdict check)
+      (record (counted first) { setup = Some (gone_through bases one); mark = mark_left (mark_of verdict) }))
+      (by_verdict (mark_of another) (Solved solver another other_check)
+      (record (counted second) { setup = Some (gone_through more two); mark = mark_left (mark_of another) }))
   verdicts_alike solver verdict another check other_check bases more mark_left same =
-      subst (λ (m : Mark). Alike (by_verdict (mark_of verdict) (Solved solver verdict check) (record (counted first) { setup = Some (gone_through bases one); mark = mark_left (mark_of verdict) }))
+      subst (λ (m : Mark). Alike
+      (by_verdict (mark_of verdict) (Solved solver verdict check)
+      (record (counted first) { setup = Some (gone_through bases one); mark = mark_left (mark_of verdict) }))
       (by_verdict m (Solved solver another other_check) (record (counted second) { setup = Some (gone_through more two); mark = mark_left m }))) same.0
-      (by_verdict_alike (mark_of verdict) (Solved solver verdict check) (Solved solver another other_check) (record (counted state) { mark = mark_left (mark_of verdict) })
+      (by_verdict_alike (mark_of verdict) (Solved solver verdict check) (Solved solver another other_check)
+      (record (counted state) { mark = mark_left (mark_of verdict) })
       (Some (gone_through bases one)) (Some (gone_through more two)) (refl, same) (gone bases more))
 
   -- ---- PRIMAL and DUAL
 
-  true_here : (setup : Option Present) (present : Present) (verdict : PathVerdict) → setup ≡ Some present → selected present.problem (choice_of state.cells present.options) ≡ Ok lp →
+  true_here : (setup : Option Present) (present : Present) (verdict : PathVerdict) → setup ≡ Some present →
+      selected present.problem (choice_of state.cells present.options) ≡ Ok lp →
       (program : PresentProgram setup state.cells) → IsTrueOf (sheet_of program) verdict → IsTrueOf (record { problem = present.problem; lp = lp }) verdict
-  true_here setup present verdict set selects program holds = subst (λ (x : Sheet). IsTrueOf x verdict) (same_sheet setup state.cells present lp program set selects) holds
+  true_here setup present verdict set selects program holds =
+      subst (λ (x : Sheet). IsTrueOf x verdict) (same_sheet setup state.cells present lp program set selects) holds
 
   module _ (solver : Solver) (is_path : IsPathSolver solver) (limit : Option ℕ) where
     abbrev path_go : PathEnd → StatementOutcome
@@ -126,28 +139,39 @@ module _ (C : Checker) (S : Solving) (Speaks : State → Report → Type 0) (Ope
     abbrev path_on : PathEnd → StatementOutcome
     path_on = after_path solver card two (counted second)
 
-    paths_alike : (x y : PathEnd) → S.Solves solver sheet (present_basis one) limit x → (attested C).Solves solver sheet (present_basis two) limit y → All (Speaks first) (printed_by (gain_of (path_go x))) →
+    paths_alike : (x y : PathEnd) → S.Solves solver sheet (present_basis one) limit x → (attested C).Solves solver sheet (present_basis two) limit y →
+        All (Speaks first) (printed_by (gain_of (path_go x))) →
         All (Says C second) (printed_by (gain_of (path_on y))) → AlikeOrStopped Open (path_go x) (path_on y)
     paths_alike PathLimit y right taken speaks says = inr (LimitStop _, enough.path_limits solver sheet (present_basis one) limit right, refl)
     paths_alike (PricesWrong j) y right taken speaks says = inr (PriceStop _, enough.price_stops solver sheet (present_basis one) limit j right, refl)
-    paths_alike (Reached bases verdict check) PathLimit right taken speaks says = absurd ((attested_says C).path_limits solver sheet (present_basis two) limit taken)
-    paths_alike (Reached bases verdict check) (PricesWrong j) right taken speaks says = absurd ((attested_says C).price_stops solver sheet (present_basis two) limit j taken)
+    paths_alike (Reached bases verdict check) PathLimit right taken speaks says =
+        absurd ((attested_says C).path_limits solver sheet (present_basis two) limit taken)
+    paths_alike (Reached bases verdict check) (PricesWrong j) right taken speaks says =
+        absurd ((attested_says C).price_stops solver sheet (present_basis two) limit j taken)
     paths_alike (Reached bases verdict check) (Reached more another other_check) right taken speaks says =
         let spoken = enough.paths first solver verdict check is_path (one_verdict (Speaks first) (mark_of verdict) (Solved solver verdict check) _ speaks) in
-        let said = (attested_says C).paths second solver another other_check is_path (one_verdict (Says C second) (mark_of another) (Solved solver another other_check) _ says) in
+        let said =
+        (attested_says C).paths second solver another other_check is_path
+        (one_verdict (Says C second) (mark_of another) (Solved solver another other_check) _ says) in
         inl (verdicts_alike solver verdict another check other_check bases more (λ m. Some m)
-        (same_verdict sheet verdict another (true_here (Some one) one verdict refl is spoken.0 spoken.1) (true_here (Some two) two another refl is said.0 said.1)))
+        (same_verdict sheet verdict another (true_here (Some one) one verdict refl is spoken.0 spoken.1)
+        (true_here (Some two) two another refl is said.0 said.1)))
 
     pub path_asked : IsAlike C S Speaks Open first second card (asks (OfPath solver limit) sheet one path_go) (asks (OfPath solver limit) sheet two path_on)
-    path_asked = may_stop C S Speaks Open first second card _ _ _ _ (asked C S Speaks Open first second card (OfPath solver limit) sheet (present_basis one) (present_basis two) path_go path_on paths_alike)
+    path_asked =
+        may_stop C S Speaks Open first second card _ _ _ _
+        (asked C S Speaks Open first second card (OfPath solver limit) sheet (present_basis one) (present_basis two) path_go path_on paths_alike)
 
   -- ---- SOLUTION
 
-  pub solution_asked : (mark : Mark) → IsAlike C S Speaks Open first second card (asks (OfSolution mark) sheet one (λ lines. next (Prints (Solution mark lines)) (counted first)))
+  pub solution_asked : (mark : Mark) →
+      IsAlike C S Speaks Open first second card (asks (OfSolution mark) sheet one (λ lines. next (Prints (Solution mark lines)) (counted first)))
       (asks (OfSolution mark) sheet two (λ lines. next (Prints (Solution mark lines)) (counted second)))
   solution_asked mark =
-      may_stop C S Speaks Open first second card _ _ _ _ (asked C S Speaks Open first second card (OfSolution mark) sheet (present_basis one) (present_basis two) _ _ (λ x y right taken speaks says.
-      inl (goes_alike (Prints (Solution mark x)) (Prints (Solution mark y)) (record (counted state) { position = state.position + 1 }) (Some one) (Some two) (refl, tt)
+      may_stop C S Speaks Open first second card _ _ _ _
+      (asked C S Speaks Open first second card (OfSolution mark) sheet (present_basis one) (present_basis two) _ _ (λ x y right taken speaks says.
+      inl (goes_alike (Prints (Solution mark x)) (Prints (Solution mark y)) (record (counted state) { position = state.position + 1 }) (Some one) (Some two)
+      (refl, tt)
       (one_setup problem options opening other steps others))))
 
   -- ---- parametric runs
@@ -165,18 +189,25 @@ module _ (C : Checker) (S : Solving) (Speaks : State → Report → Type 0) (Ope
     abbrev chain_of : List ParametricInterval → ChainEnd → Chain
     chain_of intervals end = record { from = parametric_run.from; change = changing_name parametric_run.changing; intervals = intervals; end = end }
 
-    fails_here : (setup : Option Present) (present : Present) (verdict : PathVerdict) → setup ≡ Some present → selected present.problem (choice_of state.cells present.options) ≡ Ok lp →
-        ReportsOfRun setup state.cells (parametric_solver parametric_run.changing) (Fails verdict) → FailsAt (family_of (record { problem = present.problem; lp = lp }) parametric_run.changing parametric_run.from) verdict
+    fails_here : (setup : Option Present) (present : Present) (verdict : PathVerdict) → setup ≡ Some present →
+        selected present.problem (choice_of state.cells present.options) ≡ Ok lp →
+        ReportsOfRun setup state.cells (parametric_solver parametric_run.changing) (Fails verdict) →
+        FailsAt (family_of (record { problem = present.problem; lp = lp }) parametric_run.changing parametric_run.from) verdict
     fails_here setup present verdict set selects reported =
-        reported_here setup state.cells present lp parametric_run (λ sheet changing from to. FailsAt (family_of sheet changing from) verdict) set selects asks_so reported
+        reported_here setup state.cells present lp parametric_run
+        (λ sheet changing from to. FailsAt (family_of sheet changing from) verdict) set selects asks_so reported
 
-    runs_here : (setup : Option Present) (present : Present) (end : ChainEnd) → setup ≡ Some present → selected present.problem (choice_of state.cells present.options) ≡ Ok lp →
-        ReportsOfRun setup state.cells (parametric_solver parametric_run.changing) (Runs end) → HasRun (family_of (record { problem = present.problem; lp = lp }) parametric_run.changing) parametric_run.from parametric_run.to end
+    runs_here : (setup : Option Present) (present : Present) (end : ChainEnd) → setup ≡ Some present →
+        selected present.problem (choice_of state.cells present.options) ≡ Ok lp →
+        ReportsOfRun setup state.cells (parametric_solver parametric_run.changing) (Runs end) →
+        HasRun (family_of (record { problem = present.problem; lp = lp }) parametric_run.changing) parametric_run.from parametric_run.to end
     runs_here setup present end set selects reported =
-        reported_here setup state.cells present lp parametric_run (λ sheet changing from to. HasRun (family_of sheet changing) from to end) set selects asks_so reported
+        reported_here setup state.cells present lp parametric_run
+        (λ sheet changing from to. HasRun (family_of sheet changing) from to end) set selects asks_so reported
 
     -- an opening doesn't fail where a run has a best point
-    fails_or_runs : (verdict : PathVerdict) (end : ChainEnd) → FailsAt (family parametric_run.from) verdict → HasRun family parametric_run.from parametric_run.to end → ⊥
+    fails_or_runs : (verdict : PathVerdict) (end : ChainEnd) → FailsAt (family parametric_run.from) verdict →
+        HasRun family parametric_run.from parametric_run.to end → ⊥
     fails_or_runs verdict end fails run =
         let best = run.covers.solved parametric_run.from (le_refl parametric_run.from) run.covers.forward in
         fails_or_best (family parametric_run.from) verdict best.0 fails best.1
@@ -186,34 +217,50 @@ module _ (C : Checker) (S : Solving) (Speaks : State → Report → Type 0) (Ope
     chains_alike bases more intervals others_intervals end another same =
         subst (λ (x : ℚ). Alike (parametric_run_go (Chained bases intervals end))
         (next (Prints (Parametric (parametric_solver parametric_run.changing) (chain_of others_intervals another)))
-        (record (counted second) { setup = Some (gone_through more two); mark = None; cells = record (state.cells) { xparam = x } }))) (same_last end another same)
-        (goes_alike (Prints (Parametric (parametric_solver parametric_run.changing) (chain_of intervals end))) (Prints (Parametric (parametric_solver parametric_run.changing) (chain_of others_intervals another)))
+        (record (counted second) { setup = Some (gone_through more two); mark = None; cells = record (state.cells) { xparam = x } })))
+        (same_last end another same)
+        (goes_alike (Prints (Parametric (parametric_solver parametric_run.changing) (chain_of intervals end)))
+        (Prints (Parametric (parametric_solver parametric_run.changing) (chain_of others_intervals another)))
         (record (counted state) { position = state.position + 1; mark = None; cells = record (state.cells) { xparam = last_value end } })
         (Some (gone_through bases one)) (Some (gone_through more two)) ((refl, refl, refl, same), tt) (gone bases more))
 
-    spoken_opening : (verdict : PathVerdict) (check : Check) (bases : List Basis) → All (Speaks first) (printed_by (gain_of (parametric_run_go (Opening bases verdict check)))) → FailsAt (family parametric_run.from) verdict
+    spoken_opening : (verdict : PathVerdict) (check : Check) (bases : List Basis) →
+        All (Speaks first) (printed_by (gain_of (parametric_run_go (Opening bases verdict check)))) → FailsAt (family parametric_run.from) verdict
     spoken_opening verdict check bases speaks =
         fails_here (Some one) one verdict refl is
-        (enough.openings first parametric_run.changing verdict check (one_verdict (Speaks first) (mark_of verdict) (Solved (parametric_solver parametric_run.changing) verdict check) _ speaks))
+        (enough.openings first parametric_run.changing verdict check
+        (one_verdict (Speaks first) (mark_of verdict) (Solved (parametric_solver parametric_run.changing) verdict check) _ speaks))
 
-    said_opening : (verdict : PathVerdict) (check : Check) (bases : List Basis) → All (Says C second) (printed_by (gain_of (parametric_run_on (Opening bases verdict check)))) → FailsAt (family parametric_run.from) verdict
+    said_opening : (verdict : PathVerdict) (check : Check) (bases : List Basis) →
+        All (Says C second) (printed_by (gain_of (parametric_run_on (Opening bases verdict check)))) → FailsAt (family parametric_run.from) verdict
     said_opening verdict check bases says =
         fails_here (Some two) two verdict refl is
-        ((attested_says C).openings second parametric_run.changing verdict check (one_verdict (Says C second) (mark_of verdict) (Solved (parametric_solver parametric_run.changing) verdict check) _ says))
+        ((attested_says C).openings second parametric_run.changing verdict check
+        (one_verdict (Says C second) (mark_of verdict) (Solved (parametric_solver parametric_run.changing) verdict check) _ says))
 
-    spoken_run : (intervals : List ParametricInterval) (end : ChainEnd) → All (Speaks first) (Parametric (parametric_solver parametric_run.changing) (chain_of intervals end) ∷ []) → HasRun family parametric_run.from parametric_run.to end
+    spoken_run : (intervals : List ParametricInterval) (end : ChainEnd) →
+        All (Speaks first) (Parametric (parametric_solver parametric_run.changing) (chain_of intervals end) ∷ []) →
+        HasRun family parametric_run.from parametric_run.to end
     spoken_run intervals end speaks =
-        runs_here (Some one) one end refl is (enough.chains first (parametric_solver parametric_run.changing) (chain_of intervals end) (All-head (Speaks first) _ [] speaks))
+        runs_here (Some one) one end refl is
+        (enough.chains first (parametric_solver parametric_run.changing) (chain_of intervals end) (All-head (Speaks first) _ [] speaks))
 
-    said_run : (intervals : List ParametricInterval) (end : ChainEnd) → All (Says C second) (Parametric (parametric_solver parametric_run.changing) (chain_of intervals end) ∷ []) → HasRun family parametric_run.from parametric_run.to end
+    said_run : (intervals : List ParametricInterval) (end : ChainEnd) →
+        All (Says C second) (Parametric (parametric_solver parametric_run.changing) (chain_of intervals end) ∷ []) →
+        HasRun family parametric_run.from parametric_run.to end
     said_run intervals end says =
-        runs_here (Some two) two end refl is ((attested_says C).chains second (parametric_solver parametric_run.changing) (chain_of intervals end) (All-head (Says C second) _ [] says))
+        runs_here (Some two) two end refl is
+        ((attested_says C).chains second (parametric_solver parametric_run.changing) (chain_of intervals end) (All-head (Says C second) _ [] says))
 
-    parametric_runs_alike : (x y : ParametricRunEnd) → S.ParametricRuns sheet (present_basis one) parametric_run x → (attested C).ParametricRuns sheet (present_basis two) parametric_run y → All (Speaks first) (printed_by (gain_of (parametric_run_go x))) →
+    parametric_runs_alike : (x y : ParametricRunEnd) → S.ParametricRuns sheet (present_basis one) parametric_run x →
+        (attested C).ParametricRuns sheet (present_basis two) parametric_run y → All (Speaks first) (printed_by (gain_of (parametric_run_go x))) →
         All (Says C second) (printed_by (gain_of (parametric_run_on y))) → AlikeOrStopped Open (parametric_run_go x) (parametric_run_on y)
-    parametric_runs_alike ParametricRunLimit y right taken speaks says = inr (LimitStop _, enough.parametric_run_limits sheet (present_basis one) parametric_run right, refl)
-    parametric_runs_alike (Opening bases verdict check) ParametricRunLimit right taken speaks says = absurd ((attested_says C).parametric_run_limits sheet (present_basis two) parametric_run taken)
-    parametric_runs_alike (Chained bases intervals end) ParametricRunLimit right taken speaks says = absurd ((attested_says C).parametric_run_limits sheet (present_basis two) parametric_run taken)
+    parametric_runs_alike ParametricRunLimit y right taken speaks says =
+        inr (LimitStop _, enough.parametric_run_limits sheet (present_basis one) parametric_run right, refl)
+    parametric_runs_alike (Opening bases verdict check) ParametricRunLimit right taken speaks says =
+        absurd ((attested_says C).parametric_run_limits sheet (present_basis two) parametric_run taken)
+    parametric_runs_alike (Chained bases intervals end) ParametricRunLimit right taken speaks says =
+        absurd ((attested_says C).parametric_run_limits sheet (present_basis two) parametric_run taken)
     parametric_runs_alike (Opening bases verdict check) (Opening more another other_check) right taken speaks says =
         inl (verdicts_alike (parametric_solver parametric_run.changing) verdict another check other_check bases more (λ m. None)
         (same_failure (family parametric_run.from) verdict another (spoken_opening verdict check bases speaks) (said_opening another other_check more says)))
@@ -224,7 +271,12 @@ module _ (C : Checker) (S : Solving) (Speaks : State → Report → Type 0) (Ope
     parametric_runs_alike (Chained bases intervals end) (Chained more others_intervals another) right taken speaks says =
         inl (chains_alike bases more intervals others_intervals end another
         (same_close family parametric_run.from parametric_run.to end another (spoken_run intervals end speaks) (said_run others_intervals another says)
-        (enough.lasts sheet (present_basis one) parametric_run bases intervals end right) ((attested_says C).lasts sheet (present_basis two) parametric_run more others_intervals another taken)))
+        (enough.lasts sheet (present_basis one) parametric_run bases intervals end right)
+        ((attested_says C).lasts sheet (present_basis two) parametric_run more others_intervals another taken)))
 
-    pub parametric_run_asked : IsAlike C S Speaks Open first second card (asks (OfParametricRun parametric_run) sheet one parametric_run_go) (asks (OfParametricRun parametric_run) sheet two parametric_run_on)
-    parametric_run_asked = may_stop C S Speaks Open first second card _ _ _ _ (asked C S Speaks Open first second card (OfParametricRun parametric_run) sheet (present_basis one) (present_basis two) parametric_run_go parametric_run_on parametric_runs_alike)
+    pub parametric_run_asked : IsAlike C S Speaks Open first second card (asks (OfParametricRun parametric_run) sheet one parametric_run_go)
+        (asks (OfParametricRun parametric_run) sheet two parametric_run_on)
+    parametric_run_asked =
+        may_stop C S Speaks Open first second card _ _ _ _
+        (asked C S Speaks Open first second card (OfParametricRun parametric_run) sheet (present_basis one)
+        (present_basis two) parametric_run_go parametric_run_on parametric_runs_alike)

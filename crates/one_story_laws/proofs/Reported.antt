@@ -33,16 +33,21 @@ abbrev pub Runs : ChainEnd → Sheet → ParametricRun → Type 0
 Runs end sheet parametric_run = HasRun (family_of sheet parametric_run.changing) parametric_run.from parametric_run.to end
 
 pub record SaysEnough (S : Solving) (Speaks : State → Report → Type 0) (Open : Type 0) : Type 0 where
-  pub paths : (state : State) (solver : Solver) (verdict : PathVerdict) (check : Check) → IsPathSolver solver → Speaks state (Solved solver verdict check) → IsTrueVerdict state verdict
-  pub openings : (state : State) (changing : Changing) (verdict : PathVerdict) (check : Check) → Speaks state (Solved (parametric_solver changing) verdict check) →
+  pub paths : (state : State) (solver : Solver) (verdict : PathVerdict) (check : Check) → IsPathSolver solver → Speaks state (Solved solver verdict check) →
+      IsTrueVerdict state verdict
+  pub openings : (state : State) (changing : Changing) (verdict : PathVerdict) (check : Check) →
+      Speaks state (Solved (parametric_solver changing) verdict check) →
       ReportsOfRun state.setup state.cells (parametric_solver changing) (Fails verdict)
-  pub chains : (state : State) (solver : Solver) (chain : Chain) → Speaks state (Parametric solver chain) → ReportsOfRun state.setup state.cells solver (Runs chain.end)
-  pub lasts : (sheet : Sheet) (s : Basis) (parametric_run : ParametricRun) (bases : List Basis) (intervals : List ParametricInterval) (end : ChainEnd) → S.ParametricRuns sheet s parametric_run (Chained bases intervals end) → IsLast parametric_run.to end
+  pub chains : (state : State) (solver : Solver) (chain : Chain) → Speaks state (Parametric solver chain) →
+      ReportsOfRun state.setup state.cells solver (Runs chain.end)
+  pub lasts : (sheet : Sheet) (s : Basis) (parametric_run : ParametricRun) (bases : List Basis) (intervals : List ParametricInterval) (end : ChainEnd) →
+      S.ParametricRuns sheet s parametric_run (Chained bases intervals end) → IsLast parametric_run.to end
   pub path_limits : (solver : Solver) (sheet : Sheet) (s : Basis) (limit : Option ℕ) → S.Solves solver sheet s limit PathLimit → Open
   pub price_stops : (solver : Solver) (sheet : Sheet) (s : Basis) (limit : Option ℕ) (j : ℕ) → S.Solves solver sheet s limit (PricesWrong j) → Open
   pub parametric_run_limits : (sheet : Sheet) (s : Basis) (parametric_run : ParametricRun) → S.ParametricRuns sheet s parametric_run ParametricRunLimit → Open
 
-reported_map : {setup : Option Present} {cells : Cells} {solver : Solver} (Tells Other : Sheet → ParametricRun → Type 0) → ((sheet : Sheet) (parametric_run : ParametricRun) → Tells sheet parametric_run → Other sheet parametric_run) →
+reported_map : {setup : Option Present} {cells : Cells} {solver : Solver} (Tells Other : Sheet → ParametricRun → Type 0) →
+    ((sheet : Sheet) (parametric_run : ParametricRun) → Tells sheet parametric_run → Other sheet parametric_run) →
     ReportsOfRun setup cells solver Tells → ReportsOfRun setup cells solver Other
 reported_map Tells Other tells reported = record {
   program = reported.program;
@@ -57,7 +62,8 @@ reported_map Tells Other tells reported = record {
 
 -- ---- an attested listing
 
-reported_path : (C : Checker) (state : State) (solver : Solver) (verdict : PathVerdict) (check : Check) → IsPathSolver solver → Says C state (Solved solver verdict check) → IsTrueVerdict state verdict
+reported_path : (C : Checker) (state : State) (solver : Solver) (verdict : PathVerdict) (check : Check) → IsPathSolver solver →
+    Says C state (Solved solver verdict check) → IsTrueVerdict state verdict
 reported_path C state ByPrimal verdict check is says = says.0
 reported_path C state ByDual verdict check is says = let said = says.0 in (said.0, said.1)
 reported_path C state ByParaobj verdict check is says = absurd is
@@ -66,16 +72,20 @@ reported_path C state ByPararhs verdict check is says = absurd is
 abbrev FailsAsViewed : PathVerdict → Sheet → ParametricRun → Type 0
 FailsAsViewed verdict sheet parametric_run = IsTrueAtFirst (sheet_at sheet parametric_run.changing parametric_run.from) verdict
 
-fails_as_viewed : (verdict : PathVerdict) (sheet : Sheet) (parametric_run : ParametricRun) → FailsAsViewed verdict sheet parametric_run → Fails verdict sheet parametric_run
+fails_as_viewed : (verdict : PathVerdict) (sheet : Sheet) (parametric_run : ParametricRun) → FailsAsViewed verdict sheet parametric_run →
+    Fails verdict sheet parametric_run
 fails_as_viewed verdict sheet parametric_run holds = fails_at_first (sheet_at sheet parametric_run.changing parametric_run.from) verdict holds
 
-reported_opening : (C : Checker) (state : State) (changing : Changing) (verdict : PathVerdict) (check : Check) → Says C state (Solved (parametric_solver changing) verdict check) →
+reported_opening : (C : Checker) (state : State) (changing : Changing) (verdict : PathVerdict) (check : Check) →
+    Says C state (Solved (parametric_solver changing) verdict check) →
     ReportsOfRun state.setup state.cells (parametric_solver changing) (Fails verdict)
 reported_opening C state (Row name) verdict check says = reported_map (FailsAsViewed verdict) (Fails verdict) (fails_as_viewed verdict) says.0
 reported_opening C state (Set name) verdict check says = reported_map (FailsAsViewed verdict) (Fails verdict) (fails_as_viewed verdict) says.0
 
-runs_as_viewed : (chain : Chain) (sheet : Sheet) (parametric_run : ParametricRun) → ShowsProvedChain chain sheet parametric_run → Runs chain.end sheet parametric_run
-runs_as_viewed chain sheet parametric_run shows = run_as_viewed (family_of sheet parametric_run.changing) sheet parametric_run.from parametric_run.to (map part_of chain.intervals) chain.end shows.is_true
+runs_as_viewed : (chain : Chain) (sheet : Sheet) (parametric_run : ParametricRun) → ShowsProvedChain chain sheet parametric_run →
+    Runs chain.end sheet parametric_run
+runs_as_viewed chain sheet parametric_run shows =
+    run_as_viewed (family_of sheet parametric_run.changing) sheet parametric_run.from parametric_run.to (map part_of chain.intervals) chain.end shows.is_true
 
 pub attested_says : (C : Checker) → SaysEnough (attested C) (Says C) ⊥
 attested_says C = record {
@@ -90,13 +100,15 @@ attested_says C = record {
 
 -- ---- the run itself
 
-held_path : (state : State) (solver : Solver) (verdict : PathVerdict) (check : Check) → IsPathSolver solver → Holds state (Solved solver verdict check) → IsTrueVerdict state verdict
+held_path : (state : State) (solver : Solver) (verdict : PathVerdict) (check : Check) → IsPathSolver solver → Holds state (Solved solver verdict check) →
+    IsTrueVerdict state verdict
 held_path state ByPrimal verdict check is holds = holds
 held_path state ByDual verdict check is holds = (holds.0, holds.1)
 held_path state ByParaobj verdict check is holds = absurd is
 held_path state ByPararhs verdict check is holds = absurd is
 
-fails_as_held : (verdict : PathVerdict) (check : Check) (sheet : Sheet) (parametric_run : ParametricRun) → ShowsOpening verdict check sheet parametric_run → Fails verdict sheet parametric_run
+fails_as_held : (verdict : PathVerdict) (check : Check) (sheet : Sheet) (parametric_run : ParametricRun) → ShowsOpening verdict check sheet parametric_run →
+    Fails verdict sheet parametric_run
 fails_as_held verdict check sheet parametric_run shows =
     let truth = shows.is_true in
     subst (FailsAt (family_of sheet parametric_run.changing parametric_run.from)) (sym truth.is_verdict.is_verdict)

@@ -40,7 +40,8 @@ tell_append [] (other ∷ others) more later first second = absurd first
 tell_append (report ∷ reports) [] more later first second = absurd first
 
 module _ (Same : State → Report → Report → Type 0) where
-  pub beside_append : (mades more : List (State × Report)) (others later : List Report) → AreBeside Same mades others → AreBeside Same more later → AreBeside Same (mades ++ more) (others ++ later)
+  pub beside_append : (mades more : List (State × Report)) (others later : List Report) → AreBeside Same mades others → AreBeside Same more later →
+      AreBeside Same (mades ++ more) (others ++ later)
   beside_append [] more [] later first second = second
   beside_append (made ∷ mades) more (other ∷ others) later first second = (first.0, beside_append mades more others later first.1 second)
   beside_append [] more (other ∷ others) later first second = absurd first
@@ -56,12 +57,14 @@ same_executed _ _ (standing state left right setups) = refl
 
 module _ (T U : Solving) (program : Program) where
   -- a run that is over executes no statement
-  over_or_step : (a b : State) (ending : Ending) (outcome : StatementOutcome) → a.position ≡ b.position → a.executed ≡ b.executed → IsOver T program a ending → Step U program b outcome → ⊥
+  over_or_step : (a b : State) (ending : Ending) (outcome : StatementOutcome) → a.position ≡ b.position → a.executed ≡ b.executed → IsOver T program a ending →
+      Step U program b outcome → ⊥
   over_or_step a b _ outcome positions counts (at_end past) step =
       let within = slice_get_within program.statements (b.position - 1) step.statement step.is_at_position in omega (arith, past, within, positions)
   over_or_step a b _ outcome positions counts (at_limit within limit) step = let below = step.is_within_limit in omega (arith, limit, below, counts)
 
-  one_over : (a b : State) (ending other : Ending) → a.position ≡ b.position → a.executed ≡ b.executed → IsOver T program a ending → IsOver U program b other → ending ≡ other
+  one_over : (a b : State) (ending other : Ending) → a.position ≡ b.position → a.executed ≡ b.executed → IsOver T program a ending → IsOver U program b other →
+      ending ≡ other
   one_over a b _ _ positions counts (at_end past) (at_end again) = refl
   one_over a b _ _ positions counts (at_end past) (at_limit within limit) = absurd (omega (arith, past, within, positions))
   one_over a b _ _ positions counts (at_limit within limit) (at_end past) = absurd (omega (arith, past, within, positions))
@@ -88,7 +91,8 @@ module _ (T : Solving) (Tells : State → Report → Type 0) (program : Program)
     pub are : reports ≡ before ++ printed_by gain
     pub are_made : made ≡ made_so_far T program decks came ++ made_by state gain
 
-  pub whole_of : (AtEnd : State → Ending → Type 0) (reports : List Report) (cards : List (List ℕ)) (ending : Ending) (runs : IsRun T program decks reports cards ending) → HoldInRun T Tells AtEnd program decks runs →
+  pub whole_of : (AtEnd : State → Ending → Type 0) (reports : List Report) (cards : List (List ℕ)) (ending : Ending)
+      (runs : IsRun T program decks reports cards ending) → HoldInRun T Tells AtEnd program decks runs →
       Whole (made_in_run T program decks runs) reports ending
   whole_of AtEnd reports cards ending (is_over {reports = _} {cards = _} {state} came is) holds = record {
     before = reports;
@@ -116,7 +120,8 @@ module _ (T : Solving) (Tells : State → Report → Type 0) (program : Program)
 -- ---- two runs
 
 -- the first run is cut off, and tells the same as far as it goes
-pub record Breaks (Open : Type 0) (Same : State → Report → Report → Type 0) (made : List (State × Report)) (reports others : List Report) (ending : Ending) : Type 0 where
+pub record Breaks (Open : Type 0) (Same : State → Report → Report → Type 0) (made : List (State × Report)) (reports others : List Report)
+    (ending : Ending) : Type 0 where
   pub cut : CutsOff Open ending
   pub front : List Report
   pub later : List Report
@@ -125,9 +130,11 @@ pub record Breaks (Open : Type 0) (Same : State → Report → Report → Type 0
   pub beside : AreBeside Same made front
 
 abbrev pub Story : Type 0 → (State → Report → Report → Type 0) → List (State × Report) → List Report → List Report → Ending → Ending → Type 0
-Story Open Same made reports others ending other = (TellSame reports others × (ending ≡ other) × AreBeside Same made others) ⊎ Breaks Open Same made reports others ending
+Story Open Same made reports others ending other =
+    (TellSame reports others × (ending ≡ other) × AreBeside Same made others) ⊎ Breaks Open Same made reports others ending
 
-going : (Open : Type 0) (gain other : Gain) (after later : State) → AlikeOrStopped Open (Goes gain after) (Goes other later) → Alike (Goes gain after) (Goes other later)
+going : (Open : Type 0) (gain other : Gain) (after later : State) → AlikeOrStopped Open (Goes gain after) (Goes other later) →
+    Alike (Goes gain after) (Goes other later)
 going Open gain other after later (inl alike) = alike
 going Open gain other after later (inr stop) = let e = stop.2 in absurd (cc e)
 
@@ -137,9 +144,12 @@ never_stops gain after stop = let e = stop.1 in cc e
 ends_unstopped : (gain : Gain) (ending : Ending) → (IsOverflow ending → ⊥) → IsOverflowStop (Ends gain ending) → ⊥
 ends_unstopped gain ending none stop = let e = stop.1 in none (stop.0, cc)
 
-module _ (C : Checker) (S : Solving) (Speaks : State → Report → Type 0) (Open : Type 0) (enough : SaysEnough S Speaks Open) (Same : State → Report → Report → Type 0)
-    (shows : (a b : State) → SameStanding a b → (report other : Report) → ReportsSame report other → Speaks a report → Says C b other → Same a report other) (program : Program) where
-  step_alike : (a b : State) (x y : StatementOutcome) → SameStanding a b → Step S program a x → Step (attested C) program b y → All (Speaks a) (printed_by (gain_of x)) → All (Says C b) (printed_by (gain_of y)) →
+module _ (C : Checker) (S : Solving) (Speaks : State → Report → Type 0) (Open : Type 0) (enough : SaysEnough S Speaks Open)
+    (Same : State → Report → Report → Type 0)
+    (shows : (a b : State) → SameStanding a b → (report other : Report) → ReportsSame report other → Speaks a report → Says C b other → Same a report other)
+    (program : Program) where
+  step_alike : (a b : State) (x y : StatementOutcome) → SameStanding a b → Step S program a x → Step (attested C) program b y →
+      All (Speaks a) (printed_by (gain_of x)) → All (Says C b) (printed_by (gain_of y)) →
       (IsOverflowStop y → ⊥) → AlikeOrStopped Open x y
   step_alike _ _ x y (standing state left right setups) first second speaks says unstopped =
       (verb_alike C S Speaks Open enough first.statement.card state first.statement.verb left right setups).by x y first.gives moved speaks says unstopped
@@ -165,13 +175,16 @@ module _ (C : Checker) (S : Solving) (Speaks : State → Report → Type 0) (Ope
     pub stand : SameStanding state other
     pub beside : AreBeside Same made others
 
-  one_more : (made : List (State × Report)) (reports others : List Report) (state other : State) (gain another : Gain) (after later : State) → AreAlike made reports others state other →
+  one_more : (made : List (State × Report)) (reports others : List Report) (state other : State) (gain another : Gain) (after later : State) →
+      AreAlike made reports others state other →
       Alike (Goes gain after) (Goes another later) → All (Speaks state) (printed_by gain) → All (Says C other) (printed_by another) →
       AreAlike (made ++ made_by state gain) (reports ++ printed_by gain) (others ++ printed_by another) after later
   one_more made reports others state other gain another after later before alike speaks says = record {
     tell = tell_append reports others (printed_by gain) (printed_by another) before.tell alike.0;
     stand = alike.1;
-    beside = beside_append Same made (made_by state gain) others (printed_by another) before.beside (show_all state other before.stand (printed_by gain) (printed_by another) alike.0 speaks says);
+    beside =
+        beside_append Same made (made_by state gain) others (printed_by another) before.beside
+        (show_all state other before.stand (printed_by gain) (printed_by another) alike.0 speaks says);
   }
 
   module _ (decks : List (List Card)) where
@@ -188,15 +201,19 @@ module _ (C : Checker) (S : Solving) (Speaks : State → Report → Type 0) (Ope
     seen_count seen = steps (attested C) (Says C) program decks seen
 
     -- after as many statements
-    same_so_far : (reports others : List Report) (cards other_cards : List (List ℕ)) (state other : State) (first : RunHasReached reports cards state) (second : Seen others other_cards other) →
-        HoldSoFar S Speaks program decks first → HoldSoFar (attested C) (Says C) program decks second → count first ≡ seen_count second → AreAlike (made_so_far S program decks first) reports others state other
+    same_so_far : (reports others : List Report) (cards other_cards : List (List ℕ)) (state other : State) (first : RunHasReached reports cards state)
+        (second : Seen others other_cards other) →
+        HoldSoFar S Speaks program decks first → HoldSoFar (attested C) (Says C) program decks second → count first ≡ seen_count second →
+        AreAlike (made_so_far S program decks first) reports others state other
     same_so_far _ _ _ _ _ _ begun begun holds also e = record { tell = tt; stand = standing (start decks) None None no_setup; beside = tt }
     same_so_far _ _ _ _ _ _ begun (stepped gain after before step) holds also e = absurd (omega arith)
     same_so_far _ _ _ _ _ _ (stepped gain after before step) begun holds also e = absurd (omega arith)
-    same_so_far _ _ _ _ _ _ (stepped {reports} {cards} {state} gain after before step) (stepped {reports = others} {cards = other_cards} {state = other} another later earlier second) holds also e =
+    same_so_far _ _ _ _ _ _ (stepped {reports} {cards} {state} gain after before step)
+        (stepped {reports = others} {cards = other_cards} {state = other} another later earlier second) holds also e =
         let so_far = same_so_far reports others cards other_cards state other before earlier holds.0 also.0 (omega (arith, e)) in
         one_more (made_so_far S program decks before) reports others state other gain another after later so_far
-        (going Open gain another after later (step_alike state other (Goes gain after) (Goes another later) so_far.stand step second holds.1 also.1 (never_stops another later))) holds.1 also.1
+        (going Open gain another after later
+        (step_alike state other (Goes gain after) (Goes another later) so_far.stand step second holds.1 also.1 (never_stops another later))) holds.1 also.1
 
     record IsAhead (made : List (State × Report)) (reports : List Report) (state : State) (others : List Report) : Type 0 where
       front : List Report
@@ -211,14 +228,17 @@ module _ (C : Checker) (S : Solving) (Speaks : State → Report → Type 0) (Ope
       step : Step (attested C) program other (Goes gain after)
       says : All (Says C other) (printed_by gain)
 
-    ahead : (reports others : List Report) (cards other_cards : List (List ℕ)) (state other : State) (first : RunHasReached reports cards state) (second : Seen others other_cards other) →
+    ahead : (reports others : List Report) (cards other_cards : List (List ℕ)) (state other : State) (first : RunHasReached reports cards state)
+        (second : Seen others other_cards other) →
         HoldSoFar S Speaks program decks first → HoldSoFar (attested C) (Says C) program decks second → count first < seen_count second →
         IsAhead (made_so_far S program decks first) reports state others
     ahead _ _ _ _ _ _ first begun holds also e = absurd (omega (arith, e))
     ahead reports _ cards _ state _ first (stepped {reports = others} {cards = other_cards} {state = other} gain after before step) holds also e =
-        by (eq-or-lt_of_le {n = count first} {m = seen_count before} (omega (arith, e))) (ahead reports others cards other_cards state other first before holds also.0)
+        by (eq-or-lt_of_le {n = count first} {m = seen_count before} (omega (arith, e)))
+        (ahead reports others cards other_cards state other first before holds also.0)
       where
-        by : (count first ≡ seen_count before) ⊎ (count first < seen_count before) → (count first < seen_count before → IsAhead (made_so_far S program decks first) reports state others) →
+        by : (count first ≡ seen_count before) ⊎ (count first < seen_count before) →
+            (count first < seen_count before → IsAhead (made_so_far S program decks first) reports state others) →
             IsAhead (made_so_far S program decks first) reports state (others ++ printed_by gain)
         by (inl as_many) earlier = let so_far = same_so_far reports others cards other_cards state other first before holds also.0 as_many in record {
           front = others;
@@ -257,11 +277,13 @@ module _ (C : Checker) (S : Solving) (Speaks : State → Report → Type 0) (Ope
       step : Step S program state (Goes gain after)
       speaks : All (Speaks state) (printed_by gain)
 
-    behind : (reports others : List Report) (cards other_cards : List (List ℕ)) (state other : State) (first : RunHasReached reports cards state) (second : Seen others other_cards other) →
+    behind : (reports others : List Report) (cards other_cards : List (List ℕ)) (state other : State) (first : RunHasReached reports cards state)
+        (second : Seen others other_cards other) →
         HoldSoFar S Speaks program decks first → HoldSoFar (attested C) (Says C) program decks second → seen_count second < count first → IsBehind other
     behind _ _ _ _ _ _ begun second holds also e = absurd (omega (arith, e))
     behind _ others _ other_cards _ other (stepped {reports} {cards} {state} gain after before step) second holds also e =
-        by (eq-or-lt_of_le {n = seen_count second} {m = count before} (omega (arith, e))) (behind reports others cards other_cards state other before second holds.0 also)
+        by (eq-or-lt_of_le {n = seen_count second} {m = count before} (omega (arith, e)))
+        (behind reports others cards other_cards state other before second holds.0 also)
       where
         by : (seen_count second ≡ count before) ⊎ (seen_count second < count before) → (seen_count second < count before → IsBehind other) → IsBehind other
         by (inl as_many) earlier = record {
@@ -277,7 +299,8 @@ module _ (C : Checker) (S : Solving) (Speaks : State → Report → Type 0) (Ope
     -- ---- whole runs
 
     -- a run that is cut off reports nothing by its last statement
-    cut_here : (made : List (State × Report)) (state : State) (before others front later : List Report) (gain : Gain) (ending : Ending) → others ≡ front ++ later → TellSame before front → AreBeside Same made front →
+    cut_here : (made : List (State × Report)) (state : State) (before others front later : List Report) (gain : Gain) (ending : Ending) →
+        others ≡ front ++ later → TellSame before front → AreBeside Same made front →
         IsStopped Open (Ends gain ending) → Breaks Open Same (made ++ made_by state gain) (before ++ printed_by gain) others ending
     cut_here made state before others front later gain ending are tell beside stop =
         let e = stop.2 in
@@ -289,23 +312,29 @@ module _ (C : Checker) (S : Solving) (Speaks : State → Report → Type 0) (Ope
           later = later;
           are = are;
           tell = subst (λ (xs : List Report). TellSame xs front) (sym (ap (λ (g : Gain). before ++ printed_by g) silent ∙ append-nil before)) tell;
-          beside = subst (λ (xs : List (State × Report)). AreBeside Same xs front) (sym (ap (λ (g : Gain). made ++ made_by state g) silent ∙ append-nil made)) beside;
+          beside =
+              subst (λ (xs : List (State × Report)). AreBeside Same xs front)
+              (sym (ap (λ (g : Gain). made ++ made_by state g) silent ∙ append-nil made)) beside;
         }
 
     module _ (made : List (State × Report)) (before earlier : List Report) (a b : State) (so_far : AreAlike made before earlier a b) where
       abbrev EndSame : Gain → Gain → Ending → Ending → Type 0
       EndSame gain another ending other = Story Open Same (made ++ made_by a gain) (before ++ printed_by gain) (earlier ++ printed_by another) ending other
 
-      both_end : (gain another : Gain) (ending other : Ending) → All (Speaks a) (printed_by gain) → All (Says C b) (printed_by another) → AlikeOrStopped Open (Ends gain ending) (Ends another other) →
+      both_end : (gain another : Gain) (ending other : Ending) → All (Speaks a) (printed_by gain) → All (Says C b) (printed_by another) →
+          AlikeOrStopped Open (Ends gain ending) (Ends another other) →
           EndSame gain another ending other
       both_end gain another ending other speaks says (inl alike) = inl (
         tell_append before earlier (printed_by gain) (printed_by another) so_far.tell alike.0,
         alike.1,
-        beside_append Same made (made_by a gain) earlier (printed_by another) so_far.beside (show_all a b so_far.stand (printed_by gain) (printed_by another) alike.0 speaks says),
+        beside_append Same made (made_by a gain) earlier (printed_by another) so_far.beside
+            (show_all a b so_far.stand (printed_by gain) (printed_by another) alike.0 speaks says),
       )
-      both_end gain another ending other speaks says (inr stop) = inr (cut_here made a before (earlier ++ printed_by another) earlier (printed_by another) gain ending refl so_far.tell so_far.beside stop)
+      both_end gain another ending other speaks says (inr stop) =
+          inr (cut_here made a before (earlier ++ printed_by another) earlier (printed_by another) gain ending refl so_far.tell so_far.beside stop)
 
-      two_lasts : (gain another : Gain) (ending other : Ending) → (IsOverflow other → ⊥) → Last S Speaks program decks a gain ending → Last (attested C) (Says C) program decks b another other →
+      two_lasts : (gain another : Gain) (ending other : Ending) → (IsOverflow other → ⊥) → Last S Speaks program decks a gain ending →
+          Last (attested C) (Says C) program decks b another other →
           EndSame gain another ending other
       two_lasts _ _ ending other none (over first) (over second) = inl (
         tell_append before earlier [] [] so_far.tell tt,
@@ -313,20 +342,28 @@ module _ (C : Checker) (S : Solving) (Speaks : State → Report → Type 0) (Ope
         beside_append Same made [] earlier [] so_far.beside tt,
       )
       two_lasts _ another ending other none (over first) (ended second says) =
-          absurd (over_or_step S (attested C) program a b ending (Ends another other) (same_position a b so_far.stand) (same_executed a b so_far.stand) first second)
+          absurd (over_or_step S (attested C) program a b ending (Ends another other) (same_position a b so_far.stand)
+          (same_executed a b so_far.stand) first second)
       two_lasts gain _ ending other none (ended first speaks) (over second) =
-          absurd (over_or_step (attested C) S program b a other (Ends gain ending) (sym (same_position a b so_far.stand)) (sym (same_executed a b so_far.stand)) second first)
+          absurd (over_or_step (attested C) S program b a other (Ends gain ending) (sym (same_position a b so_far.stand))
+          (sym (same_executed a b so_far.stand)) second first)
       two_lasts gain another ending other none (ended first speaks) (ended second says) =
-          both_end gain another ending other speaks says (step_alike a b (Ends gain ending) (Ends another other) so_far.stand first second speaks says (ends_unstopped another other none))
+          both_end gain another ending other speaks says
+          (step_alike a b (Ends gain ending) (Ends another other) so_far.stand first second speaks says (ends_unstopped another other none))
 
     -- the first run ends where the second one goes on
-    ends_early : (made : List (State × Report)) (before others : List Report) (state : State) (gain : Gain) (ending : Ending) (rest : IsAhead made before state others) → Last S Speaks program decks state gain ending → Breaks Open Same (made ++ made_by state gain) (before ++ printed_by gain) others ending
+    ends_early : (made : List (State × Report)) (before others : List Report) (state : State) (gain : Gain) (ending : Ending)
+        (rest : IsAhead made before state others) → Last S Speaks program decks state gain ending →
+        Breaks Open Same (made ++ made_by state gain) (before ++ printed_by gain) others ending
     ends_early made before others state _ ending rest (over first) =
-        absurd (over_or_step S (attested C) program state rest.other ending (Goes rest.gain rest.after) (same_position state rest.other rest.stand) (same_executed state rest.other rest.stand) first rest.step)
+        absurd (over_or_step S (attested C) program state rest.other ending (Goes rest.gain rest.after) (same_position state rest.other rest.stand)
+        (same_executed state rest.other rest.stand) first rest.step)
     ends_early made before others state gain ending rest (ended first speaks) =
-        by (step_alike state rest.other (Ends gain ending) (Goes rest.gain rest.after) rest.stand first rest.step speaks rest.says (never_stops rest.gain rest.after))
+        by (step_alike state rest.other (Ends gain ending) (Goes rest.gain rest.after) rest.stand first rest.step speaks rest.says
+        (never_stops rest.gain rest.after))
       where
-        by : AlikeOrStopped Open (Ends gain ending) (Goes rest.gain rest.after) → Breaks Open Same (made ++ made_by state gain) (before ++ printed_by gain) others ending
+        by : AlikeOrStopped Open (Ends gain ending) (Goes rest.gain rest.after) →
+            Breaks Open Same (made ++ made_by state gain) (before ++ printed_by gain) others ending
         by (inl alike) = absurd alike
         by (inr stop) = cut_here made state before others rest.front rest.later gain ending rest.are rest.tell rest.beside stop
 
@@ -334,15 +371,18 @@ module _ (C : Checker) (S : Solving) (Speaks : State → Report → Type 0) (Ope
     goes_late : (other_state : State) (another : Gain) (other : Ending) (rest : IsBehind other_state) → (IsOverflow other → ⊥) →
         Last (attested C) (Says C) program decks other_state another other → ⊥
     goes_late b _ other rest none (over second) =
-        over_or_step (attested C) S program b rest.state other (Goes rest.gain rest.after) (sym (same_position rest.state b rest.stand)) (sym (same_executed rest.state b rest.stand)) second rest.step
+        over_or_step (attested C) S program b rest.state other (Goes rest.gain rest.after) (sym (same_position rest.state b rest.stand))
+        (sym (same_executed rest.state b rest.stand)) second rest.step
     goes_late b another other rest none (ended second says) =
-        by (step_alike rest.state b (Goes rest.gain rest.after) (Ends another other) rest.stand rest.step second rest.speaks says (ends_unstopped another other none))
+        by (step_alike rest.state b (Goes rest.gain rest.after) (Ends another other) rest.stand rest.step second rest.speaks says
+        (ends_unstopped another other none))
       where
         by : AlikeOrStopped Open (Goes rest.gain rest.after) (Ends another other) → ⊥
         by (inl alike) = alike
         by (inr stop) = let e = stop.2 in cc e
 
-    more_after : (made : List (State × Report)) (reports before others : List Report) (ending : Ending) (more : List Report) → Breaks Open Same made reports before ending → others ≡ before ++ more → Breaks Open Same made reports others ending
+    more_after : (made : List (State × Report)) (reports before others : List Report) (ending : Ending) (more : List Report) →
+        Breaks Open Same made reports before ending → others ≡ before ++ more → Breaks Open Same made reports others ending
     more_after made reports before others ending more breaks are = record {
       cut = breaks.cut;
       front = breaks.front;
@@ -352,10 +392,13 @@ module _ (C : Checker) (S : Solving) (Speaks : State → Report → Type 0) (Ope
       beside = breaks.beside;
     }
 
-    module _ (made mades : List (State × Report)) (reports others : List Report) (ending other : Ending) (first : Whole S Speaks program decks made reports ending)
+    module _ (made mades : List (State × Report)) (reports others : List Report) (ending other : Ending)
+        (first : Whole S Speaks program decks made reports ending)
         (second : Whole (attested C) (Says C) program decks mades others other) (none : IsOverflow other → ⊥) where
       abbrev EndsSame : Type 0
-      EndsSame = Story Open Same (made_so_far S program decks first.came ++ made_by first.state first.gain) (first.before ++ printed_by first.gain) (second.before ++ printed_by second.gain) ending other
+      EndsSame =
+          Story Open Same (made_so_far S program decks first.came ++ made_by first.state first.gain) (first.before ++ printed_by first.gain)
+          (second.before ++ printed_by second.gain) ending other
 
       abbrev m : ℕ
       m = count first.came
@@ -377,7 +420,8 @@ module _ (C : Checker) (S : Solving) (Speaks : State → Report → Type 0) (Ope
 
       two_wholes : (m < n) ⊎ (n ≤ m) → EndsSame
       two_wholes (inl fewer) =
-          inr (more_after (made_so_far S program decks first.came ++ made_by first.state first.gain) (first.before ++ printed_by first.gain) second.before (second.before ++ printed_by second.gain) ending
+          inr (more_after (made_so_far S program decks first.came ++ made_by first.state first.gain) (first.before ++ printed_by first.gain) second.before
+          (second.before ++ printed_by second.gain) ending
           (printed_by second.gain) (ends_early (made_so_far S program decks first.came) first.before second.before first.state first.gain ending
           (ahead first.before second.before first.cards second.cards first.state second.state first.came second.came first.holds second.holds fewer) first.last) refl)
       two_wholes (inr more) = not_fewer (eq-or-lt_of_le {n = n} {m = m} more)
@@ -385,6 +429,8 @@ module _ (C : Checker) (S : Solving) (Speaks : State → Report → Type 0) (Ope
       pub two_runs : Story Open Same made reports others ending other
       two_runs =
           subst (λ (xs : List (State × Report)). Story Open Same xs reports others ending other) (sym first.are_made)
-          (subst (λ (xs : List Report). Story Open Same (made_so_far S program decks first.came ++ made_by first.state first.gain) xs others ending other) (sym first.are)
-          (subst (λ (xs : List Report). Story Open Same (made_so_far S program decks first.came ++ made_by first.state first.gain) (first.before ++ printed_by first.gain) xs ending other) (sym second.are)
+          (subst (λ (xs : List Report). Story Open Same (made_so_far S program decks first.came ++ made_by first.state first.gain) xs others ending other)
+          (sym first.are)
+          (subst (λ (xs : List Report). Story Open Same (made_so_far S program decks first.came ++ made_by first.state first.gain)
+          (first.before ++ printed_by first.gain) xs ending other) (sym second.are)
           (two_wholes (cases_lt m n))))

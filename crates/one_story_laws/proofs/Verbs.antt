@@ -39,18 +39,24 @@ module _ (C : Checker) (S : Solving) (Speaks : State → Report → Type 0) (Ope
 
   -- the moves of two runs that stand alike
   abbrev LeadsAlike : Option Present → Option Present → (State → StatementMove) → Type 0
-  LeadsAlike left right move = IsAlike C S Speaks Open (with_setup left) (with_setup right) card (move (counted (with_setup left))) (move (counted (with_setup right)))
+  LeadsAlike left right move =
+      IsAlike C S Speaks Open (with_setup left) (with_setup right) card (move (counted (with_setup left))) (move (counted (with_setup right)))
 
   -- ---- verbs that don't ask
 
-  goes : (left right : Option Present) (after : State) (later other : Option Present) (gain : Gain) → TellSame (printed_by gain) (printed_by gain) → SameSetup later other →
-      IsAlike C S Speaks Open (with_setup left) (with_setup right) card (Does (Goes gain (record after { setup = later }))) (Does (Goes gain (record after { setup = other })))
-  goes left right after later other gain same setups = does C S Speaks Open (with_setup left) (with_setup right) card _ _ (goes_alike gain gain after later other same setups)
+  goes : (left right : Option Present) (after : State) (later other : Option Present) (gain : Gain) → TellSame (printed_by gain) (printed_by gain) →
+      SameSetup later other →
+      IsAlike C S Speaks Open (with_setup left) (with_setup right) card (Does (Goes gain (record after { setup = later })))
+      (Does (Goes gain (record after { setup = other })))
+  goes left right after later other gain same setups =
+      does C S Speaks Open (with_setup left) (with_setup right) card _ _ (goes_alike gain gain after later other same setups)
 
-  files_alike : (left right : Option Present) (report : Filed → Report) (decks : List (List Card)) (problem : Problem ℕ) → ((filed : Filed) → ReportsSame (report filed) (report filed)) →
+  files_alike : (left right : Option Present) (report : Filed → Report) (decks : List (List Card)) (problem : Problem ℕ) →
+      ((filed : Filed) → ReportsSame (report filed) (report filed)) →
       LeadsAlike left right (λ (s : State). files report decks s problem)
   files_alike left right report decks problem same =
-      goes left right (record (counted state) { file = problem ∷ state.file; decks = decks; mark = None; position = state.position + 1 }) None None (Prints (report (size_of problem))) (same (size_of problem), tt) no_setup
+      goes left right (record (counted state) { file = problem ∷ state.file; decks = decks; mark = None; position = state.position + 1 }) None None
+      (Prints (report (size_of problem))) (same (size_of problem), tt) no_setup
 
   module _ (left right : Option Present) where
     abbrev first : State
@@ -61,21 +67,26 @@ module _ (C : Checker) (S : Solving) (Speaks : State → Report → Type 0) (Ope
 
     converts_alike : LeadsAlike left right (converts card)
     converts_alike =
-        unless_fault C S Speaks Open first second card {X = List Card × List (List Card)} VerbFault.DeckNotFound (deck_taken state.cells.xdata state.decks) _ _ (λ taken e.
-        unless_deck_fault C S Speaks Open first second card (conversion taken.0 state.cells.xpbname) _ _ (λ problem is. files_alike left right Converted taken.1 problem (λ filed. refl)))
+        unless_fault C S Speaks Open first second card {X = List Card × List (List Card)} VerbFault.DeckNotFound (deck_taken state.cells.xdata state.decks) _ _
+        (λ taken e.
+        unless_deck_fault C S Speaks Open first second card (conversion taken.0 state.cells.xpbname) _ _
+        (λ problem is. files_alike left right Converted taken.1 problem (λ filed. refl)))
 
     revises_alike : LeadsAlike left right (revises card)
     revises_alike =
         unless_fault C S Speaks Open first second card VerbFault.NoProblem (problem_of state.cells.xoldname state.file) _ _ (λ old o.
-        unless_fault C S Speaks Open first second card {X = List Card × List (List Card)} VerbFault.DeckNotFound (deck_taken state.cells.xdata state.decks) _ _ (λ taken e.
-        unless_deck_fault C S Speaks Open first second card (revision old taken.0 state.cells.xpbname) _ _ (λ problem is. files_alike left right Revised taken.1 problem (λ filed. refl))))
+        unless_fault C S Speaks Open first second card {X = List Card × List (List Card)} VerbFault.DeckNotFound (deck_taken state.cells.xdata state.decks) _ _
+        (λ taken e.
+        unless_deck_fault C S Speaks Open first second card (revision old taken.0 state.cells.xpbname) _ _
+        (λ problem is. files_alike left right Revised taken.1 problem (λ filed. refl))))
 
     sets_up_alike : (options : SetupOptions) → LeadsAlike left right (sets_up card options)
     sets_up_alike options =
         unless_fault C S Speaks Open first second card VerbFault.NoProblem (problem_of state.cells.xpbname state.file) _ _ (λ problem e.
         selecting C S Speaks Open first second card problem (choice_of state.cells options) _ _ (λ lp is.
         goes left right (record (counted state) { mark = None; position = state.position + 1 })
-        (Some (record { problem = problem; options = options; opening = opening_statuses lp; steps = [] })) (Some (record { problem = problem; options = options; opening = opening_statuses lp; steps = [] }))
+        (Some (record { problem = problem; options = options; opening = opening_statuses lp; steps = [] }))
+        (Some (record { problem = problem; options = options; opening = opening_statuses lp; steps = [] }))
         _ (refl, tt) (one_setup problem options (opening_statuses lp) (opening_statuses lp) [] [])))
 
     punches_alike : SameSetup left right → LeadsAlike left right (punches card)
@@ -85,7 +96,8 @@ module _ (C : Checker) (S : Solving) (Speaks : State → Report → Type 0) (Ope
 
   -- ---- verbs that ask
 
-  solves_alike : (solver : Solver) → IsPathSolver solver → (limit : Option ℕ) (left right : Option Present) → SameSetup left right → LeadsAlike left right (solves solver limit card)
+  solves_alike : (solver : Solver) → IsPathSolver solver → (limit : Option ℕ) (left right : Option Present) → SameSetup left right →
+      LeadsAlike left right (solves solver limit card)
   solves_alike solver is_path limit _ _ no_setup = does C S Speaks Open (with_setup None) (with_setup None) card _ _ (tt, refl)
   solves_alike solver is_path limit _ _ (one_setup problem options opening other steps others) =
       selecting C S Speaks Open _ _ card problem (choice_of state.cells options) _ _ (λ lp is.
@@ -99,7 +111,8 @@ module _ (C : Checker) (S : Solving) (Speaks : State → Report → Type 0) (Ope
       solution_asked C S Speaks Open enough card state problem options opening other steps others lp is mark))
 
   parametric_runs_alike : (fault : VerbFault) (change : Problem ℕ → Name → Option Changing) (moved : Option Name) →
-      ((problem : Problem ℕ) (changing : Changing) → option_and_then (change problem) moved ≡ Some changing → IsOfProblem changing problem × (named_by state.cells changing ≡ Some (changing_name changing))) →
+      ((problem : Problem ℕ) (changing : Changing) → option_and_then (change problem) moved ≡ Some changing →
+      IsOfProblem changing problem × (named_by state.cells changing ≡ Some (changing_name changing))) →
       (left right : Option Present) → SameSetup left right → LeadsAlike left right (parametric_runs card fault change moved)
   parametric_runs_alike fault change moved named _ _ no_setup = does C S Speaks Open (with_setup None) (with_setup None) card _ _ (tt, refl)
   parametric_runs_alike fault change moved named _ _ (one_setup problem options opening other steps others) =
@@ -119,7 +132,8 @@ module _ (C : Checker) (S : Solving) (Speaks : State → Report → Type 0) (Ope
       unless_fault C S Speaks Open _ _ card {X = Mark} VerbFault.NotSolved state.mark _ _ (λ mark m.
       unless_fault C S Speaks Open _ _ card {X = Mark} VerbFault.NotOptimal (if_optimal mark) _ _ (λ optimal o.
       unless_selection_fault C S Speaks Open _ _ card (selected problem (choice_of state.cells options)) _ _ (λ lp is.
-      may_stop C S Speaks Open _ _ card _ _ _ _ (asked C S Speaks Open _ _ card OfRanges (record { problem = problem; lp = lp }) _ _ _ _ (λ x y right taken speaks says. absurd taken)))))
+      may_stop C S Speaks Open _ _ card _ _ _ _
+      (asked C S Speaks Open _ _ card OfRanges (record { problem = problem; lp = lp }) _ _ _ _ (λ x y right taken speaks says. absurd taken)))))
 
   punches_basis_alike : (left right : Option Present) → SameSetup left right → LeadsAlike left right (punches_basis card)
   punches_basis_alike _ _ no_setup = does C S Speaks Open (with_setup None) (with_setup None) card _ _ (tt, refl)
@@ -133,23 +147,30 @@ module _ (C : Checker) (S : Solving) (Speaks : State → Report → Type 0) (Ope
       selecting C S Speaks Open _ _ card problem (choice_of state.cells options) _ _ (λ lp is.
       unless_fault C S Speaks Open _ _ card {X = List Card × List (List Card)} VerbFault.DeckNotFound (deck_taken state.cells.xdata state.decks) _ _ (λ taken t.
       unless_deck_fault C S Speaks Open _ _ card (basis_reading problem lp taken.0) _ _ (λ s read.
-      may_stop C S Speaks Open _ _ card _ _ _ _ (asked C S Speaks Open _ _ card (OfInstall s) (record { problem = problem; lp = lp }) _ _ _ _ (λ x y right taken speaks says. absurd taken)))))
+      may_stop C S Speaks Open _ _ card _ _ _ _
+      (asked C S Speaks Open _ _ card (OfInstall s) (record { problem = problem; lp = lp }) _ _ _ _ (λ x y right taken speaks says. absurd taken)))))
 
   -- ---- each verb
 
   quiet : (left right : Option Present) (after : State) → SameSetup left right →
-      IsAlike C S Speaks Open (with_setup left) (with_setup right) card (Does (Goes Nothing (record after { setup = left }))) (Does (Goes Nothing (record after { setup = right })))
+      IsAlike C S Speaks Open (with_setup left) (with_setup right) card (Does (Goes Nothing (record after { setup = left })))
+      (Does (Goes Nothing (record after { setup = right })))
   quiet left right after setups = goes left right after left right Nothing tt setups
 
   pub verb_alike : (verb : Verb ℕ) (left right : Option Present) → SameSetup left right → LeadsAlike left right (verb_move verb card)
   unfolding verb_move
   verb_alike Initialz left right setups = quiet left right (record (counted state) { cells = default_cells; mark = None; position = state.position + 1 }) setups
-  verb_alike (Title text) left right setups = goes left right (record (counted state) { position = state.position + 1 }) left right (Prints (Titled text)) (refl, tt) setups
+  verb_alike (Title text) left right setups =
+      goes left right (record (counted state) { position = state.position + 1 }) left right (Prints (Titled text)) (refl, tt) setups
   verb_alike (MoveName cell name) left right setups =
-      quiet left right (record (counted state) { cells = move_name cell name state.cells; mark = mark_after cell state.mark; position = state.position + 1 }) setups
-  verb_alike (MoveNumber cell value) left right setups = quiet left right (record (counted state) { cells = move_number cell value state.cells; position = state.position + 1 }) setups
-  verb_alike (MoveLimit limit) left right setups = quiet left right (record (counted state) { cells = move_limit limit state.cells; position = state.position + 1 }) setups
-  verb_alike (Mvadr demand position) left right setups = quiet left right (record (counted state) { cells = set_demand demand position state.cells; position = state.position + 1 }) setups
+      quiet left right
+      (record (counted state) { cells = move_name cell name state.cells; mark = mark_after cell state.mark; position = state.position + 1 }) setups
+  verb_alike (MoveNumber cell value) left right setups =
+      quiet left right (record (counted state) { cells = move_number cell value state.cells; position = state.position + 1 }) setups
+  verb_alike (MoveLimit limit) left right setups =
+      quiet left right (record (counted state) { cells = move_limit limit state.cells; position = state.position + 1 }) setups
+  verb_alike (Mvadr demand position) left right setups =
+      quiet left right (record (counted state) { cells = set_demand demand position state.cells; position = state.position + 1 }) setups
   verb_alike (Goto position) left right setups = quiet left right (record (counted state) { position = position }) setups
   verb_alike Convert left right setups = converts_alike left right
   verb_alike Revise left right setups = revises_alike left right

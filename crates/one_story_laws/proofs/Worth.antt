@@ -44,22 +44,27 @@ pub record ShowsWorth (setup : Option Present) (cells : Cells) (lines : Solution
   pub is_worth : IsBestWorth program.lp (point_of (sheet_of program) lines program.lp.objective)
 
 abbrev pub IntervalWorth : Sheet → ParametricRun → ParametricInterval → Type 0
-IntervalWorth sheet parametric_run interval = (theta : ℚ) → interval.from ≤ℚ theta → theta ≤ℚ interval.to → IsBestWorth (family_of sheet parametric_run.changing theta) (objective_at sheet parametric_run theta interval)
+IntervalWorth sheet parametric_run interval =
+    (theta : ℚ) → interval.from ≤ℚ theta → theta ≤ℚ interval.to →
+    IsBestWorth (family_of sheet parametric_run.changing theta) (objective_at sheet parametric_run theta interval)
 
 abbrev pub RunsWorth : List ParametricInterval → Sheet → ParametricRun → Type 0
 RunsWorth intervals sheet parametric_run = (interval : ParametricInterval) → Contains intervals interval → IntervalWorth sheet parametric_run interval
 
 pub record SpeaksWorth (Speaks : State → Report → Type 0) : Type 0 where
   pub solutions : (state : State) (lines : SolutionLines) → Speaks state (Solution Optimal lines) → ShowsWorth state.setup state.cells lines
-  pub chains : (state : State) (solver : Solver) (chain : Chain) → Speaks state (Parametric solver chain) → ReportsOfRun state.setup state.cells solver (RunsWorth chain.intervals)
+  pub chains : (state : State) (solver : Solver) (chain : Chain) → Speaks state (Parametric solver chain) →
+      ReportsOfRun state.setup state.cells solver (RunsWorth chain.intervals)
 
-activity_is : (setup : Option Present) (cells : Cells) (program : PresentProgram setup cells) (z : Vector) → z program.lp.objective ≡ objective_value program.lp z
+activity_is : (setup : Option Present) (cells : Cells) (program : PresentProgram setup cells) (z : Vector) →
+    z program.lp.objective ≡ objective_value program.lp z
 activity_is setup cells program z = selected_has_no_change program.present.problem (choice_of cells program.present.options) program.lp program.is_selected z
 
 -- what each of a list is, by what it is made of
 all_map : {X Y : Type 0} (P : Y → Type 0) (f : X → Y) (xs : List X) → All (λ (x : X). P (f x)) xs → All P (map f xs)
 all_map P f [] all = All-nil P
-all_map {X = X} P f (x ∷ xs) all = All-cons P (f x) (map f xs) (All-head (λ (x : X). P (f x)) x xs all) (all_map P f xs (All-tail (λ (x : X). P (f x)) x xs all))
+all_map {X = X} P f (x ∷ xs) all =
+    All-cons P (f x) (map f xs) (All-head (λ (x : X). P (f x)) x xs all) (all_map P f xs (All-tail (λ (x : X). P (f x)) x xs all))
 
 all_before : {X Y : Type 0} (P : Y → Type 0) (f : X → Y) (xs : List X) → All P (map f xs) → All (λ (x : X). P (f x)) xs
 all_before {X = X} P f [] all = All-nil (λ (x : X). P (f x))
@@ -81,20 +86,24 @@ reported_solution C state lines says = record {
   };
 }
 
-reported_interval : (sheet : Sheet) (parametric_run : ParametricRun) (interval : ParametricInterval) → IsTruePart (family_of sheet parametric_run.changing) parametric_run.to (part_of interval) → IntervalWorth sheet parametric_run interval
+reported_interval : (sheet : Sheet) (parametric_run : ParametricRun) (interval : ParametricInterval) →
+    IsTruePart (family_of sheet parametric_run.changing) parametric_run.to (part_of interval) → IntervalWorth sheet parametric_run interval
 reported_interval sheet parametric_run interval is_true = λ theta after before. record {
   point = along theta (part_of interval).value (part_of interval).value_rate;
   best = (is_true.solved theta after before).best;
   worth = refl;
 }
 
-reported_run : (chain : Chain) (sheet : Sheet) (parametric_run : ParametricRun) → ShowsProvedChain chain sheet parametric_run → RunsWorth chain.intervals sheet parametric_run
+reported_run : (chain : Chain) (sheet : Sheet) (parametric_run : ParametricRun) → ShowsProvedChain chain sheet parametric_run →
+    RunsWorth chain.intervals sheet parametric_run
 reported_run chain sheet parametric_run shows = λ interval among.
     All-contains (IntervalWorth sheet parametric_run) chain.intervals interval
-    (all_weaker (λ (i : ParametricInterval). IsTruePart (family_of sheet parametric_run.changing) parametric_run.to (part_of i)) (IntervalWorth sheet parametric_run) (reported_interval sheet parametric_run) chain.intervals
+    (all_weaker (λ (i : ParametricInterval). IsTruePart (family_of sheet parametric_run.changing) parametric_run.to (part_of i))
+    (IntervalWorth sheet parametric_run) (reported_interval sheet parametric_run) chain.intervals
     (all_before (IsTruePart (family_of sheet parametric_run.changing) parametric_run.to) part_of chain.intervals shows.is_true.intervals)) among
 
-reported_chain : (C : Checker) (state : State) (solver : Solver) (chain : Chain) → Says C state (Parametric solver chain) → ReportsOfRun state.setup state.cells solver (RunsWorth chain.intervals)
+reported_chain : (C : Checker) (state : State) (solver : Solver) (chain : Chain) → Says C state (Parametric solver chain) →
+    ReportsOfRun state.setup state.cells solver (RunsWorth chain.intervals)
 reported_chain C state solver chain says = record {
   program = says.program;
   parametric_run = says.parametric_run;
@@ -112,7 +121,8 @@ attested_worth C = record { solutions = reported_solution C; chains = reported_c
 -- ---- the lines of the run itself
 
 -- the second value of a line that stands among the first ones
-second_of : (sheet : Sheet) (values : ℕ → List Value) (f : ℕ → ℚ) → ((k : ℕ) → number_of (slice_get (values k) 1) ≡ f k) → (n first i : ℕ) (more : List Line) → i < n →
+second_of : (sheet : Sheet) (values : ℕ → List Value) (f : ℕ → ℚ) → ((k : ℕ) → number_of (slice_get (values k) 1) ≡ f k) → (n first i : ℕ) (more : List Line) →
+    i < n →
     slice_index_or (column_of 1 (lines_of sheet values (numbers_from first n) ++ more)) i zero_ℚ ≡ f (first + i)
 second_of sheet values f each zero first i more below = absurd (omega (arith, below))
 second_of sheet values f each (suc n) first zero more below = each first ∙ ap f (omega arith)
@@ -120,7 +130,8 @@ second_of sheet values f each (suc n) first (suc i) more below = second_of sheet
 
 reported_activity : (sheet : Sheet) (s : Basis) (t : Tableau) (k : ℕ) → IsRow sheet.lp.matrix k → point_of sheet (solution_lines sheet s t) k ≡ t.point k
 reported_activity sheet s t k is =
-    second_of sheet (solution_row sheet s t) t.point (λ k. refl) sheet.lp.matrix.rows 1 (k - 1) (lines_of sheet (solution_column sheet s t) (column_numbers sheet.lp)) (omega (arith, is.0, is.1))
+    second_of sheet (solution_row sheet s t) t.point (λ k. refl) sheet.lp.matrix.rows 1 (k - 1)
+    (lines_of sheet (solution_column sheet s t) (column_numbers sheet.lp)) (omega (arith, is.0, is.1))
     ∙ ap t.point (omega (arith, is.0))
 
 held_solution : (state : State) (lines : SolutionLines) → Holds state (Solution Optimal lines) → ShowsWorth state.setup state.cells lines
@@ -159,39 +170,50 @@ module _ (sheet : Sheet) (part : Part) where
 row_variable : (a : Matrix) (i : ℕ) → IsRow a i → IsVariable a i
 row_variable a i is = (is.0, omega (arith, is.1))
 
-same_combined : (p : LinearProgram) (change : Option Change) (z w : Vector) → IsLinearProgram p → ChangeIsFree p change → ((k : ℕ) → IsVariable p.matrix k → z k ≡ w k) →
+same_combined : (p : LinearProgram) (change : Option Change) (z w : Vector) → IsLinearProgram p → ChangeIsFree p change →
+    ((k : ℕ) → IsVariable p.matrix k → z k ≡ w k) →
     with_change_row change z (z p.objective) ≡ with_change_row change w (w p.objective)
 same_combined p None z w lawful free agree = agree p.objective (row_variable p.matrix p.objective lawful.objective_row)
 same_combined p (Some c) z w lawful free agree =
-    ap₂ (λ (x y : ℚ). x +ℚ c.theta *ℚ y) (agree p.objective (row_variable p.matrix p.objective lawful.objective_row)) (agree c.row (row_variable p.matrix c.row free.0))
+    ap₂ (λ (x y : ℚ). x +ℚ c.theta *ℚ y) (agree p.objective (row_variable p.matrix p.objective lawful.objective_row))
+    (agree c.row (row_variable p.matrix c.row free.0))
 
 -- vectors that agree at the variables have one objective
 same_objective : (sheet : Sheet) (changing : Changing) (from theta : ℚ) (z w : Vector) → IsLinearProgram sheet.lp → ChangesFreely sheet changing →
-    ((k : ℕ) → IsVariable (family_of sheet changing from).matrix k → z k ≡ w k) → objective_value (family_of sheet changing theta) z ≡ objective_value (family_of sheet changing theta) w
+    ((k : ℕ) → IsVariable (family_of sheet changing from).matrix k → z k ≡ w k) →
+    objective_value (family_of sheet changing theta) z ≡ objective_value (family_of sheet changing theta) w
 same_objective sheet (Row name) from theta z w lawful free agree = same_combined sheet.lp (Some (record { row = _; theta = theta })) z w lawful free agree
 same_objective sheet (Set name) from theta z w lawful free agree = same_combined sheet.lp sheet.lp.change z w lawful lawful.change_free agree
 
-held_interval : (sheet : Sheet) (parametric_run : ParametricRun) → IsLinearProgram sheet.lp → ChangesFreely sheet parametric_run.changing → (part : Part) → IsTruePart (family_of sheet parametric_run.changing) parametric_run.to part →
+held_interval : (sheet : Sheet) (parametric_run : ParametricRun) → IsLinearProgram sheet.lp → ChangesFreely sheet parametric_run.changing → (part : Part) →
+    IsTruePart (family_of sheet parametric_run.changing) parametric_run.to part →
     IntervalWorth sheet parametric_run (interval_of (sheet_at sheet parametric_run.changing parametric_run.from) part)
 held_interval sheet parametric_run lawful free part is_true = λ theta after before. record {
   point = along theta part.value part.value_rate;
   best = (is_true.solved theta after before).best;
-  worth = same_objective sheet parametric_run.changing parametric_run.from theta _ (along theta part.value part.value_rate) lawful free (along_is (sheet_at sheet parametric_run.changing parametric_run.from) part theta);
+  worth =
+      same_objective sheet parametric_run.changing parametric_run.from theta _ (along theta part.value part.value_rate) lawful free
+      (along_is (sheet_at sheet parametric_run.changing parametric_run.from) part theta);
 }
 
-held_run : (chain : Chain) (sheet : Sheet) (parametric_run : ParametricRun) → IsLinearProgram sheet.lp → ChangesFreely sheet parametric_run.changing → ShowsChain chain sheet parametric_run → RunsWorth chain.intervals sheet parametric_run
+held_run : (chain : Chain) (sheet : Sheet) (parametric_run : ParametricRun) → IsLinearProgram sheet.lp → ChangesFreely sheet parametric_run.changing →
+    ShowsChain chain sheet parametric_run → RunsWorth chain.intervals sheet parametric_run
 held_run chain sheet parametric_run lawful free shows = λ interval among.
     let truth = shows.is_true in
     let made : Part → ParametricInterval = interval_of (sheet_at sheet parametric_run.changing parametric_run.from) in
     All-contains (IntervalWorth sheet parametric_run) chain.intervals interval
     (subst (All (IntervalWorth sheet parametric_run)) (sym truth.are_intervals)
     (all_map (IntervalWorth sheet parametric_run) made truth.parts
-    (all_weaker (IsTruePart (family_of sheet parametric_run.changing) parametric_run.to) (λ (part : Part). IntervalWorth sheet parametric_run (made part)) (held_interval sheet parametric_run lawful free) truth.parts truth.is_true.intervals))) among
+    (all_weaker (IsTruePart (family_of sheet parametric_run.changing) parametric_run.to) (λ (part : Part). IntervalWorth sheet parametric_run (made part))
+    (held_interval sheet parametric_run lawful free) truth.parts truth.is_true.intervals))) among
 
-held_chain : (state : State) (solver : Solver) (chain : Chain) → Holds state (Parametric solver chain) → ReportsOfRun state.setup state.cells solver (RunsWorth chain.intervals)
+held_chain : (state : State) (solver : Solver) (chain : Chain) → Holds state (Parametric solver chain) →
+    ReportsOfRun state.setup state.cells solver (RunsWorth chain.intervals)
 held_chain state solver chain holds =
     let sheet : Sheet = sheet_of holds.program in
-    let free = changes_freely sheet (choice_of state.cells holds.program.present.options) holds.parametric_run.changing holds.program.is_problem holds.program.is_selected holds.is_part in
+    let free =
+    changes_freely sheet
+    (choice_of state.cells holds.program.present.options) holds.parametric_run.changing holds.program.is_problem holds.program.is_selected holds.is_part in
     record {
       program = holds.program;
       parametric_run = holds.parametric_run;

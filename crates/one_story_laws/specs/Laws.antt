@@ -44,14 +44,18 @@ pub record OneStoryLaws : Type 0 where
   -- and so two attested listings of one job have as many reports
   pub as_many : (C D : Checker) (bytes lines others : List ℕ) (n m : ℕ) → EndsIn C bytes lines (Attested n) → EndsIn D bytes others (Attested m) → n ≡ m
   -- the run of the job tells this story too, or it was cut off and tells the beginning of it
-  pub run : (C : Checker) (bytes lines : List ℕ) (count : ℕ) (one : IsProvedListing C bytes lines count) (reports : List Report) (cards : List (List ℕ)) (ending : Ending) →
+  pub run : (C : Checker) (bytes lines : List ℕ) (count : ℕ) (one : IsProvedListing C bytes lines count) (reports : List Report) (cards : List (List ℕ))
+      (ending : Ending) →
       (runs : IsJobRun linear_programming bytes reports cards ending) →
-      IsOneStory (made_in_job linear_programming runs) reports one.proved.reports ending one.proved.ending ⊎ IsBrokenOff (made_in_job linear_programming runs) reports one.proved.reports ending
+      IsOneStory (made_in_job linear_programming runs) reports one.proved.reports ending one.proved.ending ⊎ IsBrokenOff
+      (made_in_job linear_programming runs) reports one.proved.reports ending
   -- the reports that are given with their states are those of the run
   pub made : (C : Checker) (bytes lines : List ℕ) (one : IsTrueListing C bytes lines) → map (λ made. made.1) (made_in_job (attested C) one.runs) ≡ one.reports
-  pub made_by_run : (bytes : List ℕ) (reports : List Report) (cards : List (List ℕ)) (ending : Ending) (runs : IsJobRun linear_programming bytes reports cards ending) →
+  pub made_by_run : (bytes : List ℕ) (reports : List Report) (cards : List (List ℕ)) (ending : Ending)
+      (runs : IsJobRun linear_programming bytes reports cards ending) →
       map (λ made. made.1) (made_in_job linear_programming runs) ≡ reports
   -- A true listing has no report of RANGE, PUNCH or INSERT, and so the run of a job of which a listing is proved has none.
   pub no_basis : (C : Checker) (bytes lines : List ℕ) (one : IsTrueListing C bytes lines) → All IsOfNoBasis one.reports
-  pub no_basis_in_run : (C : Checker) (bytes lines : List ℕ) (count : ℕ) → IsProvedListing C bytes lines count → (reports : List Report) (cards : List (List ℕ)) (ending : Ending) →
+  pub no_basis_in_run : (C : Checker) (bytes lines : List ℕ) (count : ℕ) → IsProvedListing C bytes lines count →
+      (reports : List Report) (cards : List (List ℕ)) (ending : Ending) →
       IsJobRun linear_programming bytes reports cards ending → All IsOfNoBasis reports

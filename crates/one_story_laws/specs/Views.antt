@@ -31,16 +31,19 @@ abbrev pub made_by : State → Gain → List (State × Report)
 made_by state gain = map (λ report. (state, report)) (printed_by gain)
 
 module _ (S : Solving) where
-  abbrev pub made_so_far : (program : Program) (decks : List (List Card)) {reports : List Report} {cards : List (List ℕ)} {state : State} → Reaches S program decks reports cards state → List (State × Report)
+  abbrev pub made_so_far : (program : Program) (decks : List (List Card)) {reports : List Report} {cards : List (List ℕ)} {state : State} →
+      Reaches S program decks reports cards state → List (State × Report)
   made_so_far program decks begun = []
   made_so_far program decks (stepped {state = state} gain after before step) = made_so_far program decks before ++ made_by state gain
 
-  abbrev pub made_in_run : (program : Program) (decks : List (List Card)) {reports : List Report} {cards : List (List ℕ)} {ending : Ending} → IsRun S program decks reports cards ending → List (State × Report)
+  abbrev pub made_in_run : (program : Program) (decks : List (List Card)) {reports : List Report} {cards : List (List ℕ)} {ending : Ending} →
+      IsRun S program decks reports cards ending → List (State × Report)
   made_in_run program decks (is_over before over) = made_so_far program decks before
   made_in_run program decks (is_ended {state = state} gain before step) = made_so_far program decks before ++ made_by state gain
 
   -- a fault of the cards, or a control fault, comes without a report
-  abbrev pub made_in_job : {bytes : List ℕ} {reports : List Report} {cards : List (List ℕ)} {ending : Ending} → IsJobRun S bytes reports cards ending → List (State × Report)
+  abbrev pub made_in_job : {bytes : List ℕ} {reports : List Report} {cards : List (List ℕ)} {ending : Ending} → IsJobRun S bytes reports cards ending →
+      List (State × Report)
   made_in_job (run program is_program runs) = made_in_run program _ runs
   made_in_job _ = []
 
@@ -57,11 +60,14 @@ pub record SameActivity (setup : Option Present) (cells : Cells) (lines others :
 
 -- the objective of an interval's point at a value of the parameter
 abbrev pub objective_at : Sheet → ParametricRun → ℚ → ParametricInterval → ℚ
-objective_at sheet parametric_run theta interval = objective_value (family_of sheet parametric_run.changing theta) (along theta (part_of interval).value (part_of interval).value_rate)
+objective_at sheet parametric_run theta interval =
+    objective_value (family_of sheet parametric_run.changing theta) (along theta (part_of interval).value (part_of interval).value_rate)
 
 -- in whatever intervals of the two the value lies
 abbrev pub SameAlong : List ParametricInterval → List ParametricInterval → Sheet → ParametricRun → Type 0
-SameAlong intervals others sheet parametric_run = (theta : ℚ) (one two : ParametricInterval) → Contains intervals one → Contains others two → one.from ≤ℚ theta → theta ≤ℚ one.to → two.from ≤ℚ theta → theta ≤ℚ two.to →
+SameAlong intervals others sheet parametric_run =
+    (theta : ℚ) (one two : ParametricInterval) → Contains intervals one → Contains others two → one.from ≤ℚ theta → theta ≤ℚ one.to → two.from ≤ℚ theta →
+    theta ≤ℚ two.to →
     objective_at sheet parametric_run theta one ≡ objective_at sheet parametric_run theta two
 
 abbrev pub ShowsSame : State → Report → Report → Type 0

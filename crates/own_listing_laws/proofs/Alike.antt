@@ -44,7 +44,8 @@ AreAlike outcome other = ⊥
 
 abbrev pub MovesAlike : StatementMove → StatementMove → Type 0
 MovesAlike (Does walked) (Does run) = AreAlike walked run
-MovesAlike (MayStop (InSelection problem choice) walked) (MayStop (InSelection own other) run) = (is_made problem choice ≡ is_made own other) × MovesAlike walked run
+MovesAlike (MayStop (InSelection problem choice) walked) (MayStop (InSelection own other) run) =
+    (is_made problem choice ≡ is_made own other) × MovesAlike walked run
 MovesAlike (MayStop (InAnswer question sheet bases) walked) (MayStop (InAnswer own other path) run) = MovesAlike walked run
 MovesAlike walked (Asks question sheet s go) = Unit {0}
 MovesAlike walked run = ⊥
@@ -63,8 +64,10 @@ pub record SettlesToo (card : ℕ) (walked run : StatementMove) (outcome : State
   pub settles : DecidesAlone card walked own
   pub made : refuses_selection walked ≡ refuses_selection run
 
-pub settles_too : (card : ℕ) (walked run : StatementMove) (outcome : StatementOutcome) → MovesAlike walked run → DecidesAlone card run outcome → SettlesToo card walked run outcome
-settles_too card (Does own) (Does other) outcome alike settled = record { own = own; alike = subst (λ (o : StatementOutcome). AreAlike own o) (sym settled) alike; settles = refl; made = refl }
+pub settles_too : (card : ℕ) (walked run : StatementMove) (outcome : StatementOutcome) → MovesAlike walked run → DecidesAlone card run outcome →
+    SettlesToo card walked run outcome
+settles_too card (Does own) (Does other) outcome alike settled =
+    record { own = own; alike = subst (λ (o : StatementOutcome). AreAlike own o) (sym settled) alike; settles = refl; made = refl }
 settles_too card (MayStop (InSelection problem choice) walked) (MayStop (InSelection own other) run) outcome alike settled =
     let too = settles_too card walked run outcome alike.1 settled in
     record { own = too.own; alike = too.alike; settles = too.settles; made = ap₂ (λ a b. not a || b) alike.0 too.made }
@@ -82,24 +85,29 @@ settles_too card (Asks question sheet s go) (MayStop refusals run) outcome alike
 
 -- ---- faults
 
-unless_fault : {X : Type 0} (card : ℕ) (fault : VerbFault) (o : Option X) (go own : X → StatementMove) → ((x : X) → MovesAlike (go x) (own x)) → MovesAlike (or_fault card fault o go) (or_fault card fault o own)
+unless_fault : {X : Type 0} (card : ℕ) (fault : VerbFault) (o : Option X) (go own : X → StatementMove) → ((x : X) → MovesAlike (go x) (own x)) →
+    MovesAlike (or_fault card fault o go) (or_fault card fault o own)
 unless_fault card fault None go own alike = (refl, refl)
 unless_fault card fault (Some x) go own alike = alike x
 
 unless_no_setup : (card : ℕ) (fault : VerbFault) (opening : Basis) (steps : List Basis) (setup : Option Present) (go own : Present → StatementMove) →
-    ((present : Present) → MovesAlike (go (record present { opening = opening; steps = steps })) (own present)) → MovesAlike (or_fault card fault (rebased opening steps setup) go) (or_fault card fault setup own)
+    ((present : Present) → MovesAlike (go (record present { opening = opening; steps = steps })) (own present)) →
+    MovesAlike (or_fault card fault (rebased opening steps setup) go) (or_fault card fault setup own)
 unless_no_setup card fault opening steps None go own alike = (refl, refl)
 unless_no_setup card fault opening steps (Some present) go own alike = alike present
 
-unless_deck_fault : {X : Type 0} (r : Result X DeckFault) (go own : X → StatementMove) → ((x : X) → MovesAlike (go x) (own x)) → MovesAlike (or_deck_fault r go) (or_deck_fault r own)
+unless_deck_fault : {X : Type 0} (r : Result X DeckFault) (go own : X → StatementMove) → ((x : X) → MovesAlike (go x) (own x)) →
+    MovesAlike (or_deck_fault r go) (or_deck_fault r own)
 unless_deck_fault (Err fault) go own alike = (refl, refl)
 unless_deck_fault (Ok x) go own alike = alike x
 
-unless_selection_fault : (card : ℕ) (r : Result LinearProgram SelectionFault) (go own : LinearProgram → StatementMove) → ((lp : LinearProgram) → MovesAlike (go lp) (own lp)) → MovesAlike (or_selection_fault card r go) (or_selection_fault card r own)
+unless_selection_fault : (card : ℕ) (r : Result LinearProgram SelectionFault) (go own : LinearProgram → StatementMove) →
+    ((lp : LinearProgram) → MovesAlike (go lp) (own lp)) → MovesAlike (or_selection_fault card r go) (or_selection_fault card r own)
 unless_selection_fault card (Err fault) go own alike = (refl, refl)
 unless_selection_fault card (Ok lp) go own alike = alike lp
 
-selecting : (card : ℕ) (problem : Problem ℕ) (choice : Choice) (go own : LinearProgram → StatementMove) → ((lp : LinearProgram) → MovesAlike (go lp) (own lp)) → MovesAlike (selects card problem choice go) (selects card problem choice own)
+selecting : (card : ℕ) (problem : Problem ℕ) (choice : Choice) (go own : LinearProgram → StatementMove) → ((lp : LinearProgram) → MovesAlike (go lp) (own lp)) →
+    MovesAlike (selects card problem choice go) (selects card problem choice own)
 selecting card problem choice go own alike = unless_selection_fault card (selected problem choice) _ _ (λ lp. (refl, alike lp))
 
 -- ---- verbs
@@ -111,13 +119,15 @@ module _ (s : State) (opening : Basis) (steps : List Basis) where
   converts_alike : (card : ℕ) → MovesAlike (converts card (counted walked)) (converts card (counted s))
   converts_alike card =
       unless_fault {X = List Card × List (List Card)} card VerbFault.DeckNotFound (deck_taken s.cells.xdata s.decks) _ _ (λ taken.
-      unless_deck_fault (conversion taken.0 s.cells.xpbname) (files Converted taken.1 (counted walked)) (files Converted taken.1 (counted s)) (λ problem. (refl, record { opening = []; steps = []; is = refl })))
+      unless_deck_fault (conversion taken.0 s.cells.xpbname) (files Converted taken.1 (counted walked)) (files Converted taken.1 (counted s))
+      (λ problem. (refl, record { opening = []; steps = []; is = refl })))
 
   revises_alike : (card : ℕ) → MovesAlike (revises card (counted walked)) (revises card (counted s))
   revises_alike card =
       unless_fault card VerbFault.NoProblem (problem_of s.cells.xoldname s.file) _ _ (λ old.
       unless_fault {X = List Card × List (List Card)} card VerbFault.DeckNotFound (deck_taken s.cells.xdata s.decks) _ _ (λ taken.
-      unless_deck_fault (revision old taken.0 s.cells.xpbname) (files Revised taken.1 (counted walked)) (files Revised taken.1 (counted s)) (λ problem. (refl, record { opening = []; steps = []; is = refl }))))
+      unless_deck_fault (revision old taken.0 s.cells.xpbname) (files Revised taken.1 (counted walked)) (files Revised taken.1 (counted s))
+      (λ problem. (refl, record { opening = []; steps = []; is = refl }))))
 
   sets_up_alike : (card : ℕ) (options : SetupOptions) → MovesAlike (sets_up card options (counted walked)) (sets_up card options (counted s))
   sets_up_alike card options =
@@ -125,11 +135,13 @@ module _ (s : State) (opening : Basis) (steps : List Basis) where
       selecting card problem (choice_of s.cells options) _ _ (λ lp. (refl, record { opening = opening_statuses lp; steps = []; is = refl })))
 
   punches_alike : (card : ℕ) → MovesAlike (punches card (counted walked)) (punches card (counted s))
-  punches_alike card = unless_fault card VerbFault.NoProblem (problem_of s.cells.xpbname s.file) _ _ (λ problem. (refl, record { opening = opening; steps = steps; is = refl }))
+  punches_alike card =
+      unless_fault card VerbFault.NoProblem (problem_of s.cells.xpbname s.file) _ _ (λ problem. (refl, record { opening = opening; steps = steps; is = refl }))
 
   solves_alike : (solver : Solver) (limit : Option ℕ) (card : ℕ) → MovesAlike (solves solver limit card (counted walked)) (solves solver limit card (counted s))
   solves_alike solver limit card =
-      unless_no_setup card VerbFault.NoSetup opening steps s.setup _ _ (λ present. selecting card present.problem (choice_of s.cells present.options) _ _ (λ lp. tt))
+      unless_no_setup card VerbFault.NoSetup opening steps s.setup _ _
+      (λ present. selecting card present.problem (choice_of s.cells present.options) _ _ (λ lp. tt))
 
   shows_alike : (card : ℕ) → MovesAlike (shows card (counted walked)) (shows card (counted s))
   shows_alike card =
@@ -146,7 +158,8 @@ module _ (s : State) (opening : Basis) (steps : List Basis) where
 
   punches_basis_alike : (card : ℕ) → MovesAlike (punches_basis card (counted walked)) (punches_basis card (counted s))
   punches_basis_alike card =
-      unless_no_setup card VerbFault.NoSetup opening steps s.setup _ _ (λ present. selecting card present.problem (choice_of s.cells present.options) _ _ (λ lp. tt))
+      unless_no_setup card VerbFault.NoSetup opening steps s.setup _ _
+      (λ present. selecting card present.problem (choice_of s.cells present.options) _ _ (λ lp. tt))
 
   inserts_alike : (card : ℕ) → MovesAlike (inserts card (counted walked)) (inserts card (counted s))
   inserts_alike card =

@@ -67,15 +67,20 @@ fine_tested test x rest passes = by (test x) passes
 
 -- ---- readers of the linear program at a value are those of the linear program
 
-same_interval_in : (sheet : Sheet) (changing : Changing) (theta : ℚ) (number : ℕ) (from : ℚ) (rest : List ℕ) → interval_in (fraction_in checker_of_128_bits) sheet number from rest ≡ interval_in (fraction_in checker_of_128_bits) (sheet_at sheet changing theta) number from rest
+same_interval_in : (sheet : Sheet) (changing : Changing) (theta : ℚ) (number : ℕ) (from : ℚ) (rest : List ℕ) →
+    interval_in (fraction_in checker_of_128_bits) sheet number from rest ≡ interval_in (fraction_in checker_of_128_bits)
+    (sheet_at sheet changing theta) number from rest
 same_interval_in sheet (Row name) theta number from rest = refl
 same_interval_in sheet (Set name) theta number from rest = refl
 
-same_close_in : (sheet : Sheet) (changing : Changing) (theta : ℚ) (rest : List ℕ) → close_in (fraction_in checker_of_128_bits) sheet (parametric_solver changing) rest ≡ close_in (fraction_in checker_of_128_bits) (sheet_at sheet changing theta) (parametric_solver changing) rest
+same_close_in : (sheet : Sheet) (changing : Changing) (theta : ℚ) (rest : List ℕ) →
+    close_in (fraction_in checker_of_128_bits) sheet (parametric_solver changing) rest ≡ close_in (fraction_in checker_of_128_bits)
+    (sheet_at sheet changing theta) (parametric_solver changing) rest
 same_close_in sheet (Row name) theta rest = refl
 same_close_in sheet (Set name) theta rest = refl
 
-is_end_of : (sheet : Sheet) (changing : Changing) (max : ℚ) (past : PastBreakpoint) → IsKind changing past → IsEndOf sheet (parametric_solver changing) (end_of sheet max past)
+is_end_of : (sheet : Sheet) (changing : Changing) (max : ℚ) (past : PastBreakpoint) → IsKind changing past →
+    IsEndOf sheet (parametric_solver changing) (end_of sheet max past)
 is_end_of sheet changing max AtMax kind = of_end max
 is_end_of sheet (Row name) max (PastUnbounded past z d) kind = of_direction past z d
 is_end_of sheet (Set name) max (PastInfeasible past w) kind = of_ray past w
@@ -83,7 +88,8 @@ is_end_of sheet (Row name) max (PastInfeasible past w) kind = absurd kind
 is_end_of sheet (Set name) max (PastUnbounded past z d) kind = absurd kind
 
 -- no interval stands where the run closes
-no_interval : (changing : Changing) (end : ChainEnd) (more : List ℕ) → left_after (codes "INTERVAL ") (chain_end_text (parametric_solver changing) end ++ more) ≡ None
+no_interval : (changing : Changing) (end : ChainEnd) (more : List ℕ) →
+    left_after (codes "INTERVAL ") (chain_end_text (parametric_solver changing) end ++ more) ≡ None
 no_interval (Row name) (EndsAt value) more = refl
 no_interval (Row name) (UnboundedPast value lines) more = refl
 no_interval (Row name) (InfeasiblePast value lines) more = refl
@@ -102,7 +108,8 @@ some_close (Set name) (InfeasiblePast value lines) more = omega arith
 later_number : (number : ℕ) → 0 < number → nat_eq (number + 1) 1 ≡ false
 later_number number some = grind (arith, nat_tests, some)
 
-module _ (problem : Problem ℕ) (lp : LinearProgram) (parametric_run : ParametricRun) (lawful : IsLinearProgram lp) (free : ChangesFreely (record { problem = problem; lp = lp }) parametric_run.changing) (more : List ℕ) (plain : begins_table_line more ≡ false) where
+module _ (problem : Problem ℕ) (lp : LinearProgram) (parametric_run : ParametricRun) (lawful : IsLinearProgram lp)
+    (free : ChangesFreely (record { problem = problem; lp = lp }) parametric_run.changing) (more : List ℕ) (plain : begins_table_line more ≡ false) where
   abbrev sheet : Sheet
   sheet = record { problem = problem; lp = lp }
 
@@ -121,15 +128,27 @@ module _ (problem : Problem ℕ) (lp : LinearProgram) (parametric_run : Parametr
 
   -- ---- the close
 
-  close_fine : (room : List ℕ) (number : ℕ) (last : ℚ) (v : Vector) (past : PastBreakpoint) → 1 ≤ length room → nat_eq number 1 ≡ false → IsBest (family last) v → IsKind parametric_run.changing past →
-      IsTrueEnd family parametric_run.to last past → EndFits (end_of first parametric_run.to past) → IsFine ([], end_of first parametric_run.to past) more (run_in checker_of_128_bits sheet parametric_run room number last (chain_end_text solver (end_of first parametric_run.to past) ++ more))
+  close_fine : (room : List ℕ) (number : ℕ) (last : ℚ) (v : Vector) (past : PastBreakpoint) → 1 ≤ length room → nat_eq number 1 ≡ false →
+      IsBest (family last) v → IsKind parametric_run.changing past →
+      IsTrueEnd family parametric_run.to last past → EndFits (end_of first parametric_run.to past) →
+      IsFine ([], end_of first parametric_run.to past) more
+      (run_in checker_of_128_bits sheet parametric_run room number last (chain_end_text solver (end_of first parametric_run.to past) ++ more))
   close_fine [] number last v past some later best kind is fit = absurd (omega (arith, some))
   close_fine (byte ∷ room) number last v past some later best kind is fit =
-      subst (λ (o : Option (List ℕ)). IsFine ([], end) more (part_in checker_of_128_bits sheet parametric_run (run_in checker_of_128_bits sheet parametric_run room (number + 1)) number last text o)) (sym (no_interval parametric_run.changing end more))
-      (subst (λ b. IsFine ([], end) more (if b then Fails else judged_map {Y = Run} (λ e. ([], e)) (tested (close_test checker_of_128_bits sheet parametric_run.changing parametric_run.to last) (close_in (fraction_in checker_of_128_bits) sheet solver text)))) (sym later)
-      (fine_map {Y = Run} (λ e. ([], e)) end more (tested (close_test checker_of_128_bits sheet parametric_run.changing parametric_run.to last) (close_in (fraction_in checker_of_128_bits) sheet solver text))
-      (subst (λ (parsed : Parsed ChainEnd). IsFine end more (tested (close_test checker_of_128_bits sheet parametric_run.changing parametric_run.to last) parsed)) (sym read)
-      (fine_tested (close_test checker_of_128_bits sheet parametric_run.changing parametric_run.to last) end more (close_passes problem lp parametric_run.changing lawful free parametric_run.from parametric_run.to last v best past kind is)))))
+      subst (λ (o : Option (List ℕ)). IsFine ([], end) more
+      (part_in checker_of_128_bits sheet parametric_run (run_in checker_of_128_bits sheet parametric_run room (number + 1)) number last text o))
+      (sym (no_interval parametric_run.changing end more))
+      (subst (λ b. IsFine ([], end) more
+      (if b then Fails else judged_map {Y = Run} (λ e. ([], e))
+      (tested (close_test checker_of_128_bits sheet parametric_run.changing parametric_run.to last)
+      (close_in (fraction_in checker_of_128_bits) sheet solver text)))) (sym later)
+      (fine_map {Y = Run} (λ e. ([], e)) end more
+      (tested (close_test checker_of_128_bits sheet parametric_run.changing parametric_run.to last)
+      (close_in (fraction_in checker_of_128_bits) sheet solver text))
+      (subst (λ (parsed : Parsed ChainEnd). IsFine end more
+      (tested (close_test checker_of_128_bits sheet parametric_run.changing parametric_run.to last) parsed)) (sym read)
+      (fine_tested (close_test checker_of_128_bits sheet parametric_run.changing parametric_run.to last) end more
+      (close_passes problem lp parametric_run.changing lawful free parametric_run.from parametric_run.to last v best past kind is)))))
     where
       end : ChainEnd
       end = end_of first parametric_run.to past
@@ -137,19 +156,25 @@ module _ (problem : Problem ℕ) (lp : LinearProgram) (parametric_run : Parametr
       text : List ℕ
       text = chain_end_text solver (end_of first parametric_run.to past) ++ more
 
-      read : close_in (fraction_in checker_of_128_bits) sheet solver (chain_end_text solver (end_of first parametric_run.to past) ++ more) ≡ Some (end_of first parametric_run.to past, more)
+      read : close_in (fraction_in checker_of_128_bits) sheet solver (chain_end_text solver (end_of first parametric_run.to past) ++ more) ≡ Some
+          (end_of first parametric_run.to past, more)
       read =
           same_close_in sheet parametric_run.changing parametric_run.from (chain_end_text solver (end_of first parametric_run.to past) ++ more)
           ∙ close_read first solver (end_of first parametric_run.to past) more (is_end_of first parametric_run.changing parametric_run.to past kind) fit plain
 
   -- ---- an interval, and what follows it
 
-  part_fine : (byte : ℕ) (room : List ℕ) (number : ℕ) (last : ℚ) (part : Part) (rest : List ℕ) (run : Run) → part.from ≡ last → Passes (interval_test checker_of_128_bits sheet parametric_run.changing (nat_eq number 1) parametric_run.to (interval_of first part)) →
-      TermsFit part.to → LinesFit (interval_of first part).lines → IsFine run more (run_in checker_of_128_bits sheet parametric_run room (number + 1) part.to rest) →
-      IsFine (interval_of first part ∷ run.0, run.1) more (run_in checker_of_128_bits sheet parametric_run (byte ∷ room) number last (interval_text (number, interval_of first part) ++ rest))
+  part_fine : (byte : ℕ) (room : List ℕ) (number : ℕ) (last : ℚ) (part : Part) (rest : List ℕ) (run : Run) → part.from ≡ last →
+      Passes (interval_test checker_of_128_bits sheet parametric_run.changing (nat_eq number 1) parametric_run.to (interval_of first part)) →
+      TermsFit part.to → LinesFit (interval_of first part).lines →
+      IsFine run more (run_in checker_of_128_bits sheet parametric_run room (number + 1) part.to rest) →
+      IsFine (interval_of first part ∷ run.0, run.1) more
+      (run_in checker_of_128_bits sheet parametric_run (byte ∷ room) number last (interval_text (number, interval_of first part) ++ rest))
   part_fine byte room number last part rest run begins passes fit lines_fit later =
-      subst (λ (o : Option (List ℕ)). IsFine (interval ∷ run.0, run.1) more (part_in checker_of_128_bits sheet parametric_run go number last text o)) (sym there)
-      (subst (λ (parsed : Parsed ParametricInterval). IsFine (interval ∷ run.0, run.1) more (onward go (tested test parsed))) (sym read) (by (test interval) passes))
+      subst (λ (o : Option (List ℕ)). IsFine (interval ∷ run.0, run.1) more (part_in checker_of_128_bits sheet parametric_run go number last text o))
+      (sym there)
+      (subst (λ (parsed : Parsed ParametricInterval). IsFine (interval ∷ run.0, run.1) more (onward go (tested test parsed))) (sym read)
+      (by (test interval) passes))
     where
       interval : ParametricInterval
       interval = interval_of first part
@@ -163,16 +188,23 @@ module _ (problem : Problem ℕ) (lp : LinearProgram) (parametric_run : Parametr
       text : List ℕ
       text = interval_text (number, interval_of first part) ++ rest
 
-      there : left_after (codes "INTERVAL ") (interval_text (number, interval_of first part) ++ rest) ≡ Some (drop 9 (interval_text (number, interval_of first part) ++ rest))
+      there : left_after (codes "INTERVAL ") (interval_text (number, interval_of first part) ++ rest) ≡ Some
+          (drop 9 (interval_text (number, interval_of first part) ++ rest))
       there = stands (codes "INTERVAL ") (drop 9 (interval_text (number, interval_of first part) ++ rest))
 
-      read : interval_in (fraction_in checker_of_128_bits) sheet number last (interval_text (number, interval_of first part) ++ rest) ≡ Some (interval_of first part, rest)
+      read : interval_in (fraction_in checker_of_128_bits) sheet number last (interval_text (number, interval_of first part) ++ rest) ≡ Some
+          (interval_of first part, rest)
       read =
           same_interval_in sheet parametric_run.changing parametric_run.from number last (interval_text (number, interval_of first part) ++ rest)
-          ∙ ap (λ (x : ℚ). interval_in (fraction_in checker_of_128_bits) first number x (interval_text (number, interval_of first part) ++ rest)) (sym begins) ∙ interval_read first number part rest fit lines_fit
+          ∙ ap (λ (x : ℚ). interval_in (fraction_in checker_of_128_bits) first number x (interval_text (number, interval_of first part) ++ rest)) (sym begins)
+          ∙ interval_read first number part rest fit lines_fit
 
-      by : (v : Verdict) → Passes v → IsFine (interval_of first part ∷ run.0, run.1) more (onward (run_in checker_of_128_bits sheet parametric_run room (number + 1)) (by_verdict v (interval_of first part) rest))
-      by Checked passes = fine_map {Y = Run} (λ (r : Run). (interval_of first part ∷ r.0, r.1)) run more (run_in checker_of_128_bits sheet parametric_run room (number + 1) part.to rest) later
+      by : (v : Verdict) → Passes v →
+          IsFine (interval_of first part ∷ run.0, run.1) more
+          (onward (run_in checker_of_128_bits sheet parametric_run room (number + 1)) (by_verdict v (interval_of first part) rest))
+      by Checked passes =
+          fine_map {Y = Run} (λ (r : Run). (interval_of first part ∷ r.0, r.1)) run more
+          (run_in checker_of_128_bits sheet parametric_run room (number + 1) part.to rest) later
       by (Failed one two) passes = absurd (passes.never one two refl)
       by (Unchecked refused) passes = fine_refused
 
@@ -191,41 +223,56 @@ module _ (problem : Problem ℕ) (lp : LinearProgram) (parametric_run : Parametr
   tail_past part [] long = tt
   tail_past part (next ∷ parts) long = All-tail (λ (later : Part). later.from <ℚ later.to) next parts long
 
-  body_more : (number : ℕ) (part : Part) (parts : List Part) (end : ChainEnd) → body number (part ∷ parts) end ≡ interval_text (number, interval_of first part) ++ body (number + 1) parts end
-  body_more number part parts end = append_assoc (interval_text (number, interval_of first part)) (flat_map interval_text (enumerate_from (number + 1) (map (interval_of first) parts))) (chain_end_text solver end ++ more)
+  body_more : (number : ℕ) (part : Part) (parts : List Part) (end : ChainEnd) →
+      body number (part ∷ parts) end ≡ interval_text (number, interval_of first part) ++ body (number + 1) parts end
+  body_more number part parts end =
+      append_assoc (interval_text (number, interval_of first part)) (flat_map interval_text (enumerate_from (number + 1) (map (interval_of first) parts)))
+      (chain_end_text solver end ++ more)
 
   abbrev run_of : List Part → PastBreakpoint → Run
   run_of parts past = (map (interval_of first) parts, end_of first parametric_run.to past)
 
   abbrev Fine : List ℕ → ℕ → ℚ → List Part → PastBreakpoint → Type 0
-  Fine room number last parts past = IsFine (run_of parts past) more (run_in checker_of_128_bits sheet parametric_run room number last (body number parts (end_of first parametric_run.to past)))
+  Fine room number last parts past =
+      IsFine (run_of parts past) more
+      (run_in checker_of_128_bits sheet parametric_run room number last (body number parts (end_of first parametric_run.to past)))
 
   -- an interval before a run that is fine
-  one_more : (room : List ℕ) (number : ℕ) (last : ℚ) (s : List Status) (part : Part) (parts : List Part) (past : PastBreakpoint) → length parts + 2 ≤ length room → IsPart family last parametric_run.to s part → IsTruePart family parametric_run.to part →
-      (nat_eq number 1 ≡ true) ⊎ (part.from <ℚ part.to) → TermsFit part.to → LinesFit (interval_of first part).lines → ((left : List ℕ) → length parts + 1 ≤ length left → Fine left (number + 1) part.to parts past) →
+  one_more : (room : List ℕ) (number : ℕ) (last : ℚ) (s : List Status) (part : Part) (parts : List Part) (past : PastBreakpoint) →
+      length parts + 2 ≤ length room → IsPart family last parametric_run.to s part → IsTruePart family parametric_run.to part →
+      (nat_eq number 1 ≡ true) ⊎ (part.from <ℚ part.to) → TermsFit part.to → LinesFit (interval_of first part).lines →
+      ((left : List ℕ) → length parts + 1 ≤ length left → Fine left (number + 1) part.to parts past) →
       Fine room number last (part ∷ parts) past
   one_more [] number last s part parts past enough is truth long fit lines_fit later = absurd (omega (arith, enough))
   one_more (byte ∷ room) number last s part parts past enough is truth long fit lines_fit later =
-      subst (λ (text : List ℕ). IsFine (run_of (part ∷ parts) past) more (run_in checker_of_128_bits sheet parametric_run (byte ∷ room) number last text)) (sym (body_more number part parts (end_of first parametric_run.to past)))
+      subst (λ (text : List ℕ). IsFine (run_of (part ∷ parts) past) more (run_in checker_of_128_bits sheet parametric_run (byte ∷ room) number last text))
+      (sym (body_more number part parts (end_of first parametric_run.to past)))
       (part_fine byte room number last part (body (number + 1) parts (end_of first parametric_run.to past)) (run_of parts past) is.begins
-      (part_passes sheet parametric_run.changing lawful free parametric_run.to part truth last s is parametric_run.from (nat_eq number 1) long) fit lines_fit (later room (omega (arith, enough))))
+      (part_passes sheet parametric_run.changing lawful free parametric_run.to part truth last s is parametric_run.from (nat_eq number 1) long) fit lines_fit
+      (later room (omega (arith, enough))))
 
-  pub chain_fine : (room : List ℕ) (number : ℕ) (last : ℚ) (s : List Status) (parts : List Part) (past : PastBreakpoint) (path : List (List Status)) → length parts + 1 ≤ length room → 0 < number →
-      IsChain family (IsFace sheet parametric_run.changing) parametric_run.to last s parts past path → All (IsTruePart family parametric_run.to) parts → IsLongEnough number parts → AreLongPast parts → IsTrueEnd family parametric_run.to (last_end last parts) past →
+  pub chain_fine : (room : List ℕ) (number : ℕ) (last : ℚ) (s : List Status) (parts : List Part) (past : PastBreakpoint) (path : List (List Status)) →
+      length parts + 1 ≤ length room → 0 < number →
+      IsChain family (IsFace sheet parametric_run.changing) parametric_run.to last s parts past path → All (IsTruePart family parametric_run.to) parts →
+      IsLongEnough number parts → AreLongPast parts → IsTrueEnd family parametric_run.to (last_end last parts) past →
       IntervalsFit (map (interval_of first) parts) → EndFits (end_of first parametric_run.to past) → Fine room number last parts past
   chain_fine room number last s _ _ _ enough some (at_max {part = part} is is_max) truths long past_long end fit end_fit =
       let truth = All-head (IsTruePart family parametric_run.to) part [] truths in
       one_more room number last s part [] AtMax (omega (arith, enough)) is truth long fit.0.0 fit.0.1 (λ left room_left.
-      close_fine left (number + 1) part.to _ AtMax (omega (arith, room_left)) (later_number number some) (truth.solved part.to truth.forward (le_refl part.to)).best tt end end_fit)
+      close_fine left (number + 1) part.to _ AtMax (omega (arith, room_left)) (later_number number some)
+      (truth.solved part.to truth.forward (le_refl part.to)).best tt end end_fit)
   chain_fine room number last s _ _ _ enough some (past_breakpoint {part = part} {end = past} is faces) truths long past_long end fit end_fit =
       let truth = All-head (IsTruePart family parametric_run.to) part [] truths in
       one_more room number last s part [] past (omega (arith, enough)) is truth long fit.0.0 fit.0.1 (λ left room_left.
-      close_fine left (number + 1) part.to _ past (omega (arith, room_left)) (later_number number some) (truth.solved part.to truth.forward (le_refl part.to)).best
+      close_fine left (number + 1) part.to _ past (omega (arith, room_left)) (later_number number some)
+      (truth.solved part.to truth.forward (le_refl part.to)).best
       (face_kind sheet parametric_run.changing part.to _ past faces.last) end end_fit)
-  chain_fine room number last s _ _ _ enough some (goes_on {part = part} {parts = parts} {end = past} {bases = bases} {later = later} is faces rest) truths long past_long end fit end_fit =
+  chain_fine room number last s _ _ _ enough some
+      (goes_on {part = part} {parts = parts} {end = past} {bases = bases} {later = later} is faces rest) truths long past_long end fit end_fit =
       let truth = All-head (IsTruePart family parametric_run.to) part parts truths in
       one_more room number last s part parts past (omega (arith, enough)) is truth long fit.0.0 fit.0.1 (λ left room_left.
-      chain_fine left (number + 1) part.to (last_of s bases) parts past later room_left (omega (arith, some)) rest (All-tail (IsTruePart family parametric_run.to) part parts truths)
+      chain_fine left (number + 1) part.to (last_of s bases) parts past later room_left (omega (arith, some)) rest
+      (All-tail (IsTruePart family parametric_run.to) part parts truths)
       (tail_long number part parts past_long) (tail_past part parts past_long) end fit.1 end_fit)
 
   some_interval : (number : ℕ) (interval : ParametricInterval) → 1 ≤ length (interval_text (number, interval))
@@ -243,7 +290,8 @@ module _ (problem : Problem ℕ) (lp : LinearProgram) (parametric_run : Parametr
 
 -- ---- the whole run
 
-as_chain : (who from start change name end intervals close more : List ℕ) → (who ++ (from ++ (start ++ (change ++ (name ++ (end ++ (intervals ++ (close ++ [])))))))) ++ more ≡
+as_chain : (who from start change name end intervals close more : List ℕ) →
+    (who ++ (from ++ (start ++ (change ++ (name ++ (end ++ (intervals ++ (close ++ [])))))))) ++ more ≡
     (who ++ (from ++ (start ++ (change ++ (name ++ end))))) ++ (intervals ++ (close ++ more))
 as_chain who from start change name end intervals close more = simp (append_assoc, append-nil)
 
@@ -256,11 +304,13 @@ same_end own (Set name) theta max AtMax = refl
 same_end own (Set name) theta max (PastUnbounded past z d) = refl
 same_end own (Set name) theta max (PastInfeasible past w) = refl
 
-true_run : (sheet : Sheet) (changing : Changing) → IsLinearProgram sheet.lp → ChangesFreely sheet changing → HasTrueRuns sheet.lp (family_of sheet changing) (IsFace sheet changing)
+true_run : (sheet : Sheet) (changing : Changing) → IsLinearProgram sheet.lp → ChangesFreely sheet changing →
+    HasTrueRuns sheet.lp (family_of sheet changing) (IsFace sheet changing)
 true_run sheet (Row name) lawful free = objective_runs sheet.lp (row_of sheet.problem name) lawful free.0 free.1
 true_run sheet (Set name) lawful free = rhs_runs sheet.lp (shifts_of sheet.problem name) lawful
 
-module _ (problem : Problem ℕ) (lp : LinearProgram) (parametric_run : ParametricRun) (lawful : IsLinearProgram lp) (free : ChangesFreely (record { problem = problem; lp = lp }) parametric_run.changing) (basis : Basis) (at : IsNonsingularBasis lp basis)
+module _ (problem : Problem ℕ) (lp : LinearProgram) (parametric_run : ParametricRun) (lawful : IsLinearProgram lp)
+    (free : ChangesFreely (record { problem = problem; lp = lp }) parametric_run.changing) (basis : Basis) (at : IsNonsingularBasis lp basis)
     (bases : List Basis) (intervals : List ParametricInterval) (end : ChainEnd) (more : List ℕ) where
   abbrev sheet_here : Sheet
   sheet_here = record { problem = problem; lp = lp }
@@ -268,12 +318,17 @@ module _ (problem : Problem ℕ) (lp : LinearProgram) (parametric_run : Parametr
   abbrev body_here : List ℕ
   body_here = flat_map interval_text (enumerate_from 1 intervals) ++ (chain_end_text (parametric_solver parametric_run.changing) end ++ more)
 
-  run_fine : IsChained sheet_here basis parametric_run bases intervals end → begins_table_line more ≡ false → IntervalsFit intervals → EndFits end → IsFine (intervals, end) more (run_in checker_of_128_bits sheet_here parametric_run body_here 1 parametric_run.from body_here)
+  run_fine : IsChained sheet_here basis parametric_run bases intervals end → begins_table_line more ≡ false → IntervalsFit intervals → EndFits end →
+      IsFine (intervals, end) more (run_in checker_of_128_bits sheet_here parametric_run body_here 1 parametric_run.from body_here)
   run_fine chained plain fits end_fits =
-      subst (λ (is : List ParametricInterval). IsFine (is, end) more (run_in checker_of_128_bits sheet_here parametric_run (text_of is end) 1 parametric_run.from (text_of is end))) (sym chained.are_intervals)
-      (subst (λ (e : ChainEnd). IsFine (all, e) more (run_in checker_of_128_bits sheet_here parametric_run (text_of all e) 1 parametric_run.from (text_of all e))) (sym end_is)
-      (chain_fine problem lp parametric_run lawful free more plain (text_of all close) 1 parametric_run.from (last_of basis chained.is_run.opening) chained.parts chained.past chained.is_run.faces
-      (room_enough problem lp parametric_run lawful free more plain 1 chained.parts close) (omega arith) chained.is_run.chain truth.intervals (first_long chained.parts) truth.long truth.closes
+      subst (λ (is : List ParametricInterval). IsFine (is, end) more
+      (run_in checker_of_128_bits sheet_here parametric_run (text_of is end) 1 parametric_run.from (text_of is end))) (sym chained.are_intervals)
+      (subst (λ (e : ChainEnd). IsFine (all, e) more
+      (run_in checker_of_128_bits sheet_here parametric_run (text_of all e) 1 parametric_run.from (text_of all e))) (sym end_is)
+      (chain_fine problem lp parametric_run lawful free more plain (text_of all close) 1 parametric_run.from
+      (last_of basis chained.is_run.opening) chained.parts chained.past chained.is_run.faces
+      (room_enough problem lp parametric_run lawful free more plain 1 chained.parts close) (omega arith) chained.is_run.chain truth.intervals
+      (first_long chained.parts) truth.long truth.closes
       (subst IntervalsFit chained.are_intervals fits) (subst EndFits end_is end_fits)))
     where
       text_of : List ParametricInterval → ChainEnd → List ℕ
@@ -291,34 +346,45 @@ module _ (problem : Problem ℕ) (lp : LinearProgram) (parametric_run : Parametr
       end_is : end ≡ end_of (sheet_at (record { problem = problem; lp = lp }) parametric_run.changing parametric_run.from) parametric_run.to chained.past
       end_is = chained.is_end ∙ same_end (record { problem = problem; lp = lp }) parametric_run.changing parametric_run.from parametric_run.to chained.past
 
-      truth : IsTrueRun (family_of (record { problem = problem; lp = lp }) parametric_run.changing) parametric_run.from parametric_run.to chained.parts chained.past
-      truth = true_run (record { problem = problem; lp = lp }) parametric_run.changing lawful free parametric_run.from parametric_run.to basis (Chain chained.parts chained.past) bases at chained.is_run
+      truth : IsTrueRun
+          (family_of (record { problem = problem; lp = lp }) parametric_run.changing) parametric_run.from parametric_run.to chained.parts chained.past
+      truth =
+          true_run (record { problem = problem; lp = lp }) parametric_run.changing lawful free parametric_run.from parametric_run.to basis
+          (Chain chained.parts chained.past) bases at chained.is_run
 
       first_long : (parts : List Part) → IsLongEnough problem lp parametric_run lawful free more plain 1 parts
       first_long [] = tt
       first_long (part ∷ parts) = inl refl
 
   -- a parametric run is read of its text
-  pub answer_fine : (rest : List ℕ) → rest ≡ chain_text (parametric_solver parametric_run.changing) (chain_of parametric_run intervals end) ++ more → IsChained sheet_here basis parametric_run bases intervals end → begins_table_line more ≡ false →
-      IntervalsFit intervals → EndFits end → IsFine (Chained [] intervals end) more (judged checker_of_128_bits (OfParametricRun parametric_run) sheet_here rest)
+  pub answer_fine : (rest : List ℕ) → rest ≡ chain_text (parametric_solver parametric_run.changing) (chain_of parametric_run intervals end) ++ more →
+      IsChained sheet_here basis parametric_run bases intervals end → begins_table_line more ≡ false →
+      IntervalsFit intervals → EndFits end →
+      IsFine (Chained [] intervals end) more (judged checker_of_128_bits (OfParametricRun parametric_run) sheet_here rest)
   answer_fine rest is chained plain fits end_fits =
-      subst (λ (o : Option (List ℕ)). IsFine (Chained [] intervals end) more (parametric_run_in checker_of_128_bits sheet_here parametric_run rest o)) (sym head)
-      (fine_map f (intervals, end) more (run_in checker_of_128_bits sheet_here parametric_run body_here 1 parametric_run.from body_here) (run_fine chained plain fits end_fits))
+      subst (λ (o : Option (List ℕ)). IsFine (Chained [] intervals end) more (parametric_run_in checker_of_128_bits sheet_here parametric_run rest o))
+      (sym head)
+      (fine_map f (intervals, end) more (run_in checker_of_128_bits sheet_here parametric_run body_here 1 parametric_run.from body_here)
+      (run_fine chained plain fits end_fits))
     where
       f : Run → ParametricRunEnd
       f run = Chained [] run.0 run.1
 
       head : left_after (parametric_run_head parametric_run) rest ≡ Some body_here
       head =
-          ap (left_after (parametric_run_head parametric_run)) (is ∙ as_chain (solver_text (parametric_solver parametric_run.changing)) (codes " FROM ") (rational_text parametric_run.from) (codes " CHANGE ") (changing_name parametric_run.changing) (codes "\n")
-          (flat_map interval_text (enumerate_from 1 intervals)) (chain_end_text (parametric_solver parametric_run.changing) end) more) ∙ stands (parametric_run_head parametric_run) body_here
+          ap (left_after (parametric_run_head parametric_run))
+          (is ∙ as_chain (solver_text (parametric_solver parametric_run.changing)) (codes " FROM ") (rational_text parametric_run.from) (codes " CHANGE ")
+          (changing_name parametric_run.changing) (codes "\n")
+          (flat_map interval_text (enumerate_from 1 intervals)) (chain_end_text (parametric_solver parametric_run.changing) end) more)
+          ∙ stands (parametric_run_head parametric_run) body_here
 
 -- no test fails
 pub fine_passes : {X : Type 0} (x : X) (rest : List ℕ) (j : Judged X) → IsFine x rest j → IsNoFailure j
 fine_passes x rest _ fine_right = tt
 fine_passes x rest _ fine_refused = tt
 
-module _ (w : Walker) (s : State) (opening : Basis) (steps : List Basis) (limits : steps_allowed s.cells ≤ max_count) (card : ℕ) (parametric_run : ParametricRun) (present : Present) (lp : LinearProgram) (lawful : IsLinearProgram lp)
+module _ (w : Walker) (s : State) (opening : Basis) (steps : List Basis) (limits : steps_allowed s.cells ≤ max_count) (card : ℕ)
+    (parametric_run : ParametricRun) (present : Present) (lp : LinearProgram) (lawful : IsLinearProgram lp)
     (free : ChangesFreely (record { problem = present.problem; lp = lp }) parametric_run.changing) (at : IsNonsingularBasis lp (present_basis present)) where
   abbrev sheet_walked : Sheet
   sheet_walked = record { problem = present.problem; lp = lp }
@@ -336,11 +402,14 @@ module _ (w : Walker) (s : State) (opening : Basis) (steps : List Basis) (limits
   own = after_parametric_run card parametric_run present (counted s)
 
   module _ (bases : List Basis) (intervals : List ParametricInterval) (end : ChainEnd) (more : List ℕ) where
-    fine_lands : (j : Judged ParametricRunEnd) → IsFine (Chained [] intervals end) more j → Lands (own (Chained bases intervals end)) more (answered checker_of_128_bits w (OfParametricRun parametric_run) sheet_walked go j)
+    fine_lands : (j : Judged ParametricRunEnd) → IsFine (Chained [] intervals end) more j →
+        Lands (own (Chained bases intervals end)) more (answered checker_of_128_bits w (OfParametricRun parametric_run) sheet_walked go j)
     fine_lands _ fine_right = record { like = record { opening = opening; steps = steps ++ []; is = refl; limits = limits }; is_rest = refl; waits = tt }
     fine_lands _ fine_refused = tt
 
-    pub chain_lands : IsChained sheet_walked (present_basis present) parametric_run bases intervals end → ParametricRunLands w s opening steps limits card parametric_run present lp (Chained bases intervals end) more
+    pub chain_lands : IsChained sheet_walked (present_basis present) parametric_run bases intervals end →
+        ParametricRunLands w s opening steps limits card parametric_run present lp (Chained bases intervals end) more
     chain_lands chained given =
         fine_lands (judged checker_of_128_bits (OfParametricRun parametric_run) sheet_walked w.rest)
-        (answer_fine present.problem lp parametric_run lawful free (present_basis present) at bases intervals end more w.rest given.text chained given.plain given.fits.0 given.fits.1)
+        (answer_fine present.problem lp parametric_run lawful free
+        (present_basis present) at bases intervals end more w.rest given.text chained given.plain given.fits.0 given.fits.1)

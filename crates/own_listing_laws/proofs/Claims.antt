@@ -40,7 +40,8 @@ positive_apart k some = grind (arith, nat_tests, some)
 
 -- two numbers in each line
 pub pairs_read : (sheet : Sheet) (point direction : List ℚ) (rest : List ℕ) → LinesFit (pair_lines sheet point direction) →
-    table_in (fraction_in checker_of_128_bits) sheet pair_slots (variables sheet.lp.matrix) (table_text (pair_lines sheet point direction) ++ rest) ≡ Some (pair_lines sheet point direction, rest)
+    table_in (fraction_in checker_of_128_bits) sheet pair_slots (variables sheet.lp.matrix) (table_text (pair_lines sheet point direction) ++ rest) ≡ Some
+    (pair_lines sheet point direction, rest)
 pairs_read sheet point direction rest fit =
     table_read sheet pair_slots (λ k. Number (value_at point k) ∷ Number (value_at direction k) ∷ []) (variables sheet.lp.matrix) rest
     (matched_of sheet pair_slots (λ k. Number (value_at point k) ∷ Number (value_at direction k) ∷ []) (λ k fits. fits) (variables sheet.lp.matrix) fit)
@@ -59,14 +60,18 @@ module _ (sheet : Sheet) (check : Check) (check_fits : CheckFits check) (after :
   optimal_next steps = with_text (codes " OBJECTIVE ") (with_word (fraction_in checker_of_128_bits) (optimal_last steps))
 
   abbrev optimal_text : ℕ → ℚ → List ℕ
-  optimal_text steps objective = codes "OPTIMAL STEPS " ++ (digits steps ++ (codes " OBJECTIVE " ++ (rational_text objective ++ (codes " " ++ checked check after))))
+  optimal_text steps objective =
+      codes "OPTIMAL STEPS " ++ (digits steps ++ (codes " OBJECTIVE " ++ (rational_text objective ++ (codes " " ++ checked check after))))
 
-  optimal_read : (steps : ℕ) (objective : ℚ) → steps ≤ max_count → TermsFit objective → Gives (optimal_in (fraction_in checker_of_128_bits) sheet) (optimal_text steps objective) (Some ((OptimalAt steps objective, check), after))
+  optimal_read : (steps : ℕ) (objective : ℚ) → steps ≤ max_count → TermsFit objective →
+      Gives (optimal_in (fraction_in checker_of_128_bits) sheet) (optimal_text steps objective) (Some ((OptimalAt steps objective, check), after))
   optimal_read steps objective small fit =
       text_first (codes "OPTIMAL STEPS ") (with_word (count_in max_count) optimal_next) _ _ (count_first max_count steps 32 _ optimal_next _ small refl
-      (text_first (codes " OBJECTIVE ") (with_word (fraction_in checker_of_128_bits) (optimal_last steps)) _ _ (fraction_first objective 32 _ (optimal_last steps) _ fit refl
+      (text_first (codes " OBJECTIVE ") (with_word (fraction_in checker_of_128_bits) (optimal_last steps)) _ _
+      (fraction_first objective 32 _ (optimal_last steps) _ fit refl
       (text_first (codes " ") (with_check (λ check rest. Some ((OptimalAt steps objective, check), rest))) _ _
-      (check_first check (λ check rest. Some ((OptimalAt steps objective, check), rest)) after ((OptimalAt steps objective, check), after) check_fits (done (λ rest. Some ((OptimalAt steps objective, check), rest)) after))))))
+      (check_first check (λ check rest. Some ((OptimalAt steps objective, check), rest)) after ((OptimalAt steps objective, check), after) check_fits
+      (done (λ rest. Some ((OptimalAt steps objective, check), rest)) after))))))
 
   -- ---- crossed
 
@@ -81,7 +86,8 @@ module _ (sheet : Sheet) (check : Check) (check_fits : CheckFits check) (after :
 
   crossed_read : (k : ℕ) → 0 < k → k ≤ size sheet.lp.matrix → Gives (crossed_in sheet) (crossed_text k) (Some ((CrossedAt k, check), after))
   crossed_read k some small =
-      text_first (codes "INFEASIBLE STEPS 0 CROSSED ") (with_word (count_in (size sheet.lp.matrix)) crossed_next) _ _ (count_first (size sheet.lp.matrix) k 32 _ crossed_next _ small refl
+      text_first (codes "INFEASIBLE STEPS 0 CROSSED ") (with_word (count_in (size sheet.lp.matrix)) crossed_next) _ _
+      (count_first (size sheet.lp.matrix) k 32 _ crossed_next _ small refl
       (text_first (codes " ") (with_check (crossed_last k)) _ _
       (check_first check (crossed_last k) after ((CrossedAt k, check), after) check_fits
       (record { of = ap (λ b. if b then None else Some ((CrossedAt k, check), after)) (positive_apart k some) }))))
@@ -89,7 +95,8 @@ module _ (sheet : Sheet) (check : Check) (check_fits : CheckFits check) (after :
   -- ---- infeasible
 
   abbrev infeasible_last : ℕ → Check → List ℕ → Parsed Claim
-  infeasible_last steps check rest = option_map (λ got. ((InfeasibleBy steps got.0, check), got.1)) (ray_in (fraction_in checker_of_128_bits) sheet (variables sheet.lp.matrix) rest)
+  infeasible_last steps check rest =
+      option_map (λ got. ((InfeasibleBy steps got.0, check), got.1)) (ray_in (fraction_in checker_of_128_bits) sheet (variables sheet.lp.matrix) rest)
 
   abbrev infeasible_next : ℕ → List ℕ → Parsed Claim
   infeasible_next steps = with_text (codes " RAY ") (with_check (infeasible_last steps))
@@ -98,17 +105,24 @@ module _ (sheet : Sheet) (check : Check) (check_fits : CheckFits check) (after :
   infeasible_text steps lines = codes "INFEASIBLE STEPS " ++ (digits steps ++ (codes " RAY " ++ checked check (table_text lines ++ after)))
 
   infeasible_read : (steps : ℕ) (ray : List ℚ) → steps ≤ max_count → LinesFit (ray_lines sheet ray) → begins_table_line after ≡ false →
-      Gives (infeasible_in (fraction_in checker_of_128_bits) sheet) (infeasible_text steps (ray_lines sheet ray)) (Some ((InfeasibleBy steps (ray_lines sheet ray), check), after))
+      Gives (infeasible_in (fraction_in checker_of_128_bits) sheet) (infeasible_text steps (ray_lines sheet ray))
+      (Some ((InfeasibleBy steps (ray_lines sheet ray), check), after))
   infeasible_read steps ray small fit other =
       text_first (codes "INFEASIBLE STEPS ") (with_word (count_in max_count) infeasible_next) _ _ (count_first max_count steps 32 _ infeasible_next _ small refl
       (text_first (codes " RAY ") (with_check (infeasible_last steps)) _ _
-      (check_first check (infeasible_last steps) (table_text (ray_lines sheet ray) ++ after) ((InfeasibleBy steps (ray_lines sheet ray), check), after) check_fits
-      (record { of = ap (option_map (λ (got : List Line × List ℕ). ((InfeasibleBy steps got.0, check), got.1))) (multipliers_read sheet ray after fit other) }))))
+      (check_first check (infeasible_last steps) (table_text (ray_lines sheet ray) ++ after)
+      ((InfeasibleBy steps (ray_lines sheet ray), check), after) check_fits
+      (record {
+        of = ap (option_map (λ (got : List Line × List ℕ). ((InfeasibleBy steps got.0, check), got.1)))
+            (multipliers_read sheet ray after fit other);
+      }))))
 
   -- ---- unbounded
 
   abbrev unbounded_last : ℕ → ℚ → Check → List ℕ → Parsed Claim
-  unbounded_last steps objective check rest = option_map (λ got. ((UnboundedBy steps objective got.0, check), got.1)) (table_in (fraction_in checker_of_128_bits) sheet pair_slots (variables sheet.lp.matrix) rest)
+  unbounded_last steps objective check rest =
+      option_map (λ got. ((UnboundedBy steps objective got.0, check), got.1))
+      (table_in (fraction_in checker_of_128_bits) sheet pair_slots (variables sheet.lp.matrix) rest)
 
   abbrev unbounded_then : ℕ → ℚ → List ℕ → Parsed Claim
   unbounded_then steps objective = with_text (codes " ") (with_check (unbounded_last steps objective))
@@ -117,16 +131,25 @@ module _ (sheet : Sheet) (check : Check) (check_fits : CheckFits check) (after :
   unbounded_next steps = with_text (codes " OBJECTIVE ") (with_word (fraction_in checker_of_128_bits) (unbounded_then steps))
 
   abbrev unbounded_text : ℕ → ℚ → List Line → List ℕ
-  unbounded_text steps objective lines = codes "UNBOUNDED STEPS " ++ (digits steps ++ (codes " OBJECTIVE " ++ (rational_text objective ++ (codes " " ++ checked check (table_text lines ++ after)))))
+  unbounded_text steps objective lines =
+      codes "UNBOUNDED STEPS " ++
+      (digits steps ++ (codes " OBJECTIVE " ++ (rational_text objective ++ (codes " " ++ checked check (table_text lines ++ after)))))
 
-  unbounded_read : (steps : ℕ) (objective : ℚ) (point direction : List ℚ) → steps ≤ max_count → TermsFit objective → LinesFit (pair_lines sheet point direction) →
-      Gives (unbounded_in (fraction_in checker_of_128_bits) sheet) (unbounded_text steps objective (pair_lines sheet point direction)) (Some ((UnboundedBy steps objective (pair_lines sheet point direction), check), after))
+  unbounded_read : (steps : ℕ) (objective : ℚ) (point direction : List ℚ) → steps ≤ max_count → TermsFit objective →
+      LinesFit (pair_lines sheet point direction) →
+      Gives (unbounded_in (fraction_in checker_of_128_bits) sheet) (unbounded_text steps objective (pair_lines sheet point direction))
+      (Some ((UnboundedBy steps objective (pair_lines sheet point direction), check), after))
   unbounded_read steps objective point direction small fit lines_fit =
       text_first (codes "UNBOUNDED STEPS ") (with_word (count_in max_count) unbounded_next) _ _ (count_first max_count steps 32 _ unbounded_next _ small refl
-      (text_first (codes " OBJECTIVE ") (with_word (fraction_in checker_of_128_bits) (unbounded_then steps)) _ _ (fraction_first objective 32 _ (unbounded_then steps) _ fit refl
+      (text_first (codes " OBJECTIVE ") (with_word (fraction_in checker_of_128_bits) (unbounded_then steps)) _ _
+      (fraction_first objective 32 _ (unbounded_then steps) _ fit refl
       (text_first (codes " ") (with_check (unbounded_last steps objective)) _ _
-      (check_first check (unbounded_last steps objective) (table_text (pair_lines sheet point direction) ++ after) ((UnboundedBy steps objective (pair_lines sheet point direction), check), after) check_fits
-      (record { of = ap (option_map (λ (got : List Line × List ℕ). ((UnboundedBy steps objective got.0, check), got.1))) (pairs_read sheet point direction after lines_fit) }))))))
+      (check_first check (unbounded_last steps objective) (table_text (pair_lines sheet point direction) ++ after)
+      ((UnboundedBy steps objective (pair_lines sheet point direction), check), after) check_fits
+      (record {
+        of = ap (option_map (λ (got : List Line × List ℕ). ((UnboundedBy steps objective got.0, check), got.1)))
+            (pairs_read sheet point direction after lines_fit);
+      }))))))
 
   -- ---- any of them
 
@@ -144,8 +167,11 @@ module _ (sheet : Sheet) (check : Check) (check_fits : CheckFits check) (after :
       by None e = refl
       by (Some left) e =
           let both : digits steps ++ 32 ∷ more ≡ codes "0" ++ 32 ∷ (codes "CROSSED " ++ left) =
-          append_cancel_left (codes "INFEASIBLE STEPS ") (digits steps ++ 32 ∷ more) (codes "0" ++ 32 ∷ (codes "CROSSED " ++ left)) (is_text (codes "INFEASIBLE STEPS 0 CROSSED ") (infeasible_text steps lines) left e) in
-          let rest = (cut is_blank (digits steps) (codes "0") 32 32 more (codes "CROSSED " ++ left) (weaker is_digit (λ x. not (is_blank x)) (digits steps) digit_is_no_blank (digits_are steps)) refl refl refl both).1 in
+          append_cancel_left (codes "INFEASIBLE STEPS ") (digits steps ++ 32 ∷ more) (codes "0" ++ 32 ∷ (codes "CROSSED " ++ left))
+          (is_text (codes "INFEASIBLE STEPS 0 CROSSED ") (infeasible_text steps lines) left e) in
+          let rest =
+          (cut is_blank (digits steps) (codes "0") 32 32 more (codes "CROSSED " ++ left)
+          (weaker is_digit (λ x. not (is_blank x)) (digits steps) digit_is_no_blank (digits_are steps)) refl refl refl both).1 in
           absurd (begin_otherwise 2 (32 ∷ more) (32 ∷ (codes "CROSSED " ++ left)) refl rest)
 
   abbrev later_claims : List ℕ → Parsed Claim
@@ -172,88 +198,118 @@ module _ (sheet : Sheet) (check : Check) (check_fits : CheckFits check) (after :
   unproved_crossed : (k : ℕ) → 0 < k → k ≤ size sheet.lp.matrix → Read unproved_claims (crossed_text k) (CrossedAt k)
   unproved_crossed k some small = or_first (crossed_in sheet) later_claims (crossed_text k) _ (crossed_read k some small)
 
-  unproved_unbounded : (steps : ℕ) (objective : ℚ) (point direction : List ℚ) → steps ≤ max_count → TermsFit objective → LinesFit (pair_lines sheet point direction) →
+  unproved_unbounded : (steps : ℕ) (objective : ℚ) (point direction : List ℚ) → steps ≤ max_count → TermsFit objective →
+      LinesFit (pair_lines sheet point direction) →
       Read unproved_claims (unbounded_text steps objective (pair_lines sheet point direction)) (UnboundedBy steps objective (pair_lines sheet point direction))
   unproved_unbounded steps objective point direction small fit lines_fit =
       let text = unbounded_text steps objective (pair_lines sheet point direction) in
       or_else (crossed_in sheet) later_claims text _ (crossed_after text refl)
-      (or_else (infeasible_in (fraction_in checker_of_128_bits) sheet) (unbounded_in (fraction_in checker_of_128_bits) sheet) text _ (infeasible_after text refl) (unbounded_read steps objective point direction small fit lines_fit))
+      (or_else (infeasible_in (fraction_in checker_of_128_bits) sheet) (unbounded_in (fraction_in checker_of_128_bits) sheet) text _
+      (infeasible_after text refl) (unbounded_read steps objective point direction small fit lines_fit))
 
   abbrev claim_text : PathVerdict → List ℕ
   claim_text verdict = verdict_head verdict ++ (codes " " ++ checked check (table_text (verdict_lines verdict) ++ after))
 
-  as_optimal : (first steps word objective rest : List ℕ) → (first ++ (steps ++ (word ++ (objective ++ [])))) ++ rest ≡ first ++ (steps ++ (word ++ (objective ++ rest)))
+  as_optimal : (first steps word objective rest : List ℕ) →
+      (first ++ (steps ++ (word ++ (objective ++ [])))) ++ rest ≡ first ++ (steps ++ (word ++ (objective ++ rest)))
   as_optimal first steps word objective rest = simp (append_assoc, append-nil)
 
   as_infeasible : (first steps ray rest : List ℕ) → (first ++ (steps ++ (ray ++ []))) ++ (codes " " ++ rest) ≡ first ++ (steps ++ (ray ++ (codes " " ++ rest)))
   as_infeasible first steps ray rest = simp (append_assoc, append-nil)
 
   -- the lines are those of a ray, or of a point and a direction
-  ray_alone : (steps : ℕ) (lines : List Line) → IsRayOf sheet steps lines → LinesFit lines → begins_table_line after ≡ false → Read (infeasible_in (fraction_in checker_of_128_bits) sheet) (infeasible_text steps lines) (InfeasibleBy steps lines)
+  ray_alone : (steps : ℕ) (lines : List Line) → IsRayOf sheet steps lines → LinesFit lines → begins_table_line after ≡ false →
+      Read (infeasible_in (fraction_in checker_of_128_bits) sheet) (infeasible_text steps lines) (InfeasibleBy steps lines)
   ray_alone steps lines printed fit other =
-      subst (λ (ls : List Line). Read (infeasible_in (fraction_in checker_of_128_bits) sheet) (infeasible_text steps ls) (InfeasibleBy steps ls)) (sym printed.are_lines) (infeasible_read steps printed.ray printed.small (subst LinesFit printed.are_lines fit) other)
+      subst (λ (ls : List Line). Read (infeasible_in (fraction_in checker_of_128_bits) sheet) (infeasible_text steps ls) (InfeasibleBy steps ls))
+      (sym printed.are_lines) (infeasible_read steps printed.ray printed.small (subst LinesFit printed.are_lines fit) other)
 
-  ray_case : (steps : ℕ) (lines : List Line) → IsRayOf sheet steps lines → LinesFit lines → begins_table_line after ≡ false → Read unproved_claims (infeasible_text steps lines) (InfeasibleBy steps lines)
+  ray_case : (steps : ℕ) (lines : List Line) → IsRayOf sheet steps lines → LinesFit lines → begins_table_line after ≡ false →
+      Read unproved_claims (infeasible_text steps lines) (InfeasibleBy steps lines)
   ray_case steps lines printed fit other =
       or_else (crossed_in sheet) later_claims (infeasible_text steps lines) _ (crossed_after (infeasible_text steps lines) (no_crossed steps lines))
-      (or_first (infeasible_in (fraction_in checker_of_128_bits) sheet) (unbounded_in (fraction_in checker_of_128_bits) sheet) (infeasible_text steps lines) _ (ray_alone steps lines printed fit other))
+      (or_first (infeasible_in (fraction_in checker_of_128_bits) sheet) (unbounded_in (fraction_in checker_of_128_bits) sheet) (infeasible_text steps lines) _
+      (ray_alone steps lines printed fit other))
 
-  pair_case : (steps : ℕ) (objective : ℚ) (lines : List Line) → IsPairOf sheet steps lines → TermsFit objective → LinesFit lines → Read unproved_claims (unbounded_text steps objective lines) (UnboundedBy steps objective lines)
+  pair_case : (steps : ℕ) (objective : ℚ) (lines : List Line) → IsPairOf sheet steps lines → TermsFit objective → LinesFit lines →
+      Read unproved_claims (unbounded_text steps objective lines) (UnboundedBy steps objective lines)
   pair_case steps objective lines printed fit lines_fit =
       subst (λ (ls : List Line). Read unproved_claims (unbounded_text steps objective ls) (UnboundedBy steps objective ls)) (sym printed.are_lines)
       (unproved_unbounded steps objective printed.point printed.direction printed.small fit (subst LinesFit printed.are_lines lines_fit))
 
-  claim_read : (solver : Solver) (verdict : PathVerdict) → IsReadable solver verdict → IsPrinted sheet verdict → VerdictFits verdict → begins_table_line after ≡ false → Read (claim_in (fraction_in checker_of_128_bits) sheet solver) (claim_text verdict) verdict
+  claim_read : (solver : Solver) (verdict : PathVerdict) → IsReadable solver verdict → IsPrinted sheet verdict → VerdictFits verdict →
+      begins_table_line after ≡ false → Read (claim_in (fraction_in checker_of_128_bits) sheet solver) (claim_text verdict) verdict
   claim_read Primal (OptimalAt steps objective) is printed fit other =
-      same_rest (claim_in (fraction_in checker_of_128_bits) sheet Primal) _ (optimal_text steps objective) _ (as_optimal (codes "OPTIMAL STEPS ") (digits steps) (codes " OBJECTIVE ") (rational_text objective) (codes " " ++ checked check after))
-      (or_first (optimal_in (fraction_in checker_of_128_bits) sheet) unproved_claims (optimal_text steps objective) _ (optimal_read steps objective printed fit))
+      same_rest (claim_in (fraction_in checker_of_128_bits) sheet Primal) _ (optimal_text steps objective) _
+      (as_optimal (codes "OPTIMAL STEPS ") (digits steps) (codes " OBJECTIVE ") (rational_text objective) (codes " " ++ checked check after))
+      (or_first (optimal_in (fraction_in checker_of_128_bits) sheet) unproved_claims (optimal_text steps objective) _
+      (optimal_read steps objective printed fit))
   claim_read Primal (CrossedAt k) is printed fit other =
-      same_rest (claim_in (fraction_in checker_of_128_bits) sheet Primal) _ (crossed_text k) _ (append_assoc (codes "INFEASIBLE STEPS 0 CROSSED ") (digits k) (codes " " ++ checked check after))
-      (or_else (optimal_in (fraction_in checker_of_128_bits) sheet) unproved_claims (crossed_text k) _ (no_optimal (crossed_text k) refl) (unproved_crossed k printed.0 printed.1))
+      same_rest (claim_in (fraction_in checker_of_128_bits) sheet Primal) _ (crossed_text k) _
+      (append_assoc (codes "INFEASIBLE STEPS 0 CROSSED ") (digits k) (codes " " ++ checked check after))
+      (or_else (optimal_in (fraction_in checker_of_128_bits) sheet) unproved_claims (crossed_text k) _ (no_optimal (crossed_text k) refl)
+      (unproved_crossed k printed.0 printed.1))
   claim_read Primal (InfeasibleBy steps lines) is printed fit other =
       let same = as_infeasible (codes "INFEASIBLE STEPS ") (digits steps) (codes " RAY") (checked check (table_text lines ++ after)) in
       same_rest (claim_in (fraction_in checker_of_128_bits) sheet Primal) _ (infeasible_text steps lines) _ same
-      (or_else (optimal_in (fraction_in checker_of_128_bits) sheet) unproved_claims (infeasible_text steps lines) _ (no_optimal (infeasible_text steps lines) refl) (ray_case steps lines printed fit other))
+      (or_else (optimal_in (fraction_in checker_of_128_bits) sheet) unproved_claims (infeasible_text steps lines) _
+      (no_optimal (infeasible_text steps lines) refl) (ray_case steps lines printed fit other))
   claim_read Primal (UnboundedBy steps objective lines) is printed fit other =
       same_rest (claim_in (fraction_in checker_of_128_bits) sheet Primal) _ (unbounded_text steps objective lines) _
-      (as_optimal (codes "UNBOUNDED STEPS ") (digits steps) (codes " OBJECTIVE ") (rational_text objective) (codes " " ++ checked check (table_text lines ++ after)))
-      (or_else (optimal_in (fraction_in checker_of_128_bits) sheet) unproved_claims (unbounded_text steps objective lines) _ (no_optimal (unbounded_text steps objective lines) refl) (pair_case steps objective lines printed fit.0 fit.1))
+      (as_optimal (codes "UNBOUNDED STEPS ") (digits steps) (codes " OBJECTIVE ") (rational_text objective)
+      (codes " " ++ checked check (table_text lines ++ after)))
+      (or_else (optimal_in (fraction_in checker_of_128_bits) sheet) unproved_claims (unbounded_text steps objective lines) _
+      (no_optimal (unbounded_text steps objective lines) refl) (pair_case steps objective lines printed fit.0 fit.1))
   claim_read Dual (OptimalAt steps objective) is printed fit other =
-      same_rest (claim_in (fraction_in checker_of_128_bits) sheet Dual) _ (optimal_text steps objective) _ (as_optimal (codes "OPTIMAL STEPS ") (digits steps) (codes " OBJECTIVE ") (rational_text objective) (codes " " ++ checked check after))
+      same_rest (claim_in (fraction_in checker_of_128_bits) sheet Dual) _ (optimal_text steps objective) _
+      (as_optimal (codes "OPTIMAL STEPS ") (digits steps) (codes " OBJECTIVE ") (rational_text objective) (codes " " ++ checked check after))
       (or_first (optimal_in (fraction_in checker_of_128_bits) sheet) bounded_claims (optimal_text steps objective) _ (optimal_read steps objective printed fit))
   claim_read Dual (CrossedAt k) is printed fit other =
-      same_rest (claim_in (fraction_in checker_of_128_bits) sheet Dual) _ (crossed_text k) _ (append_assoc (codes "INFEASIBLE STEPS 0 CROSSED ") (digits k) (codes " " ++ checked check after))
-      (or_else (optimal_in (fraction_in checker_of_128_bits) sheet) bounded_claims (crossed_text k) _ (no_optimal (crossed_text k) refl) (or_first (crossed_in sheet) (infeasible_in (fraction_in checker_of_128_bits) sheet) (crossed_text k) _ (crossed_read k printed.0 printed.1)))
+      same_rest (claim_in (fraction_in checker_of_128_bits) sheet Dual) _ (crossed_text k) _
+      (append_assoc (codes "INFEASIBLE STEPS 0 CROSSED ") (digits k) (codes " " ++ checked check after))
+      (or_else (optimal_in (fraction_in checker_of_128_bits) sheet) bounded_claims (crossed_text k) _ (no_optimal (crossed_text k) refl)
+      (or_first (crossed_in sheet) (infeasible_in (fraction_in checker_of_128_bits) sheet) (crossed_text k) _ (crossed_read k printed.0 printed.1)))
   claim_read Dual (InfeasibleBy steps lines) is printed fit other =
       let same = as_infeasible (codes "INFEASIBLE STEPS ") (digits steps) (codes " RAY") (checked check (table_text lines ++ after)) in
       same_rest (claim_in (fraction_in checker_of_128_bits) sheet Dual) _ (infeasible_text steps lines) _ same
-      (or_else (optimal_in (fraction_in checker_of_128_bits) sheet) bounded_claims (infeasible_text steps lines) _ (no_optimal (infeasible_text steps lines) refl)
-      (or_else (crossed_in sheet) (infeasible_in (fraction_in checker_of_128_bits) sheet) (infeasible_text steps lines) _ (crossed_after (infeasible_text steps lines) (no_crossed steps lines)) (ray_alone steps lines printed fit other)))
+      (or_else (optimal_in (fraction_in checker_of_128_bits) sheet) bounded_claims (infeasible_text steps lines) _
+      (no_optimal (infeasible_text steps lines) refl)
+      (or_else (crossed_in sheet) (infeasible_in (fraction_in checker_of_128_bits) sheet) (infeasible_text steps lines) _
+      (crossed_after (infeasible_text steps lines) (no_crossed steps lines)) (ray_alone steps lines printed fit other)))
   claim_read Dual (UnboundedBy steps objective lines) is printed fit other = absurd is
   claim_read Paraobj (OptimalAt steps objective) is printed fit other = absurd is
   claim_read Paraobj (CrossedAt k) is printed fit other =
-      same_rest (claim_in (fraction_in checker_of_128_bits) sheet Paraobj) _ (crossed_text k) _ (append_assoc (codes "INFEASIBLE STEPS 0 CROSSED ") (digits k) (codes " " ++ checked check after)) (unproved_crossed k printed.0 printed.1)
+      same_rest (claim_in (fraction_in checker_of_128_bits) sheet Paraobj) _ (crossed_text k) _
+      (append_assoc (codes "INFEASIBLE STEPS 0 CROSSED ") (digits k) (codes " " ++ checked check after)) (unproved_crossed k printed.0 printed.1)
   claim_read Paraobj (InfeasibleBy steps lines) is printed fit other =
       let same = as_infeasible (codes "INFEASIBLE STEPS ") (digits steps) (codes " RAY") (checked check (table_text lines ++ after)) in
       same_rest (claim_in (fraction_in checker_of_128_bits) sheet Paraobj) _ (infeasible_text steps lines) _ same (ray_case steps lines printed fit other)
   claim_read Paraobj (UnboundedBy steps objective lines) is printed fit other =
       same_rest (claim_in (fraction_in checker_of_128_bits) sheet Paraobj) _ (unbounded_text steps objective lines) _
-      (as_optimal (codes "UNBOUNDED STEPS ") (digits steps) (codes " OBJECTIVE ") (rational_text objective) (codes " " ++ checked check (table_text lines ++ after))) (pair_case steps objective lines printed fit.0 fit.1)
+      (as_optimal (codes "UNBOUNDED STEPS ") (digits steps) (codes " OBJECTIVE ") (rational_text objective)
+      (codes " " ++ checked check (table_text lines ++ after))) (pair_case steps objective lines printed fit.0 fit.1)
   claim_read Pararhs (OptimalAt steps objective) is printed fit other = absurd is
   claim_read Pararhs (CrossedAt k) is printed fit other =
-      same_rest (claim_in (fraction_in checker_of_128_bits) sheet Pararhs) _ (crossed_text k) _ (append_assoc (codes "INFEASIBLE STEPS 0 CROSSED ") (digits k) (codes " " ++ checked check after)) (unproved_crossed k printed.0 printed.1)
+      same_rest (claim_in (fraction_in checker_of_128_bits) sheet Pararhs) _ (crossed_text k) _
+      (append_assoc (codes "INFEASIBLE STEPS 0 CROSSED ") (digits k) (codes " " ++ checked check after)) (unproved_crossed k printed.0 printed.1)
   claim_read Pararhs (InfeasibleBy steps lines) is printed fit other =
       let same = as_infeasible (codes "INFEASIBLE STEPS ") (digits steps) (codes " RAY") (checked check (table_text lines ++ after)) in
       same_rest (claim_in (fraction_in checker_of_128_bits) sheet Pararhs) _ (infeasible_text steps lines) _ same (ray_case steps lines printed fit other)
   claim_read Pararhs (UnboundedBy steps objective lines) is printed fit other =
       same_rest (claim_in (fraction_in checker_of_128_bits) sheet Pararhs) _ (unbounded_text steps objective lines) _
-      (as_optimal (codes "UNBOUNDED STEPS ") (digits steps) (codes " OBJECTIVE ") (rational_text objective) (codes " " ++ checked check (table_text lines ++ after))) (pair_case steps objective lines printed fit.0 fit.1)
+      (as_optimal (codes "UNBOUNDED STEPS ") (digits steps) (codes " OBJECTIVE ") (rational_text objective)
+      (codes " " ++ checked check (table_text lines ++ after))) (pair_case steps objective lines printed fit.0 fit.1)
 
-  as_verdict : (solver head check lines : List ℕ) → (solver ++ (codes " " ++ (head ++ (codes " " ++ (check ++ (codes "\n" ++ (lines ++ []))))))) ++ after ≡ (solver ++ codes " ") ++ (head ++ (codes " " ++ (check ++ (codes "\n" ++ (lines ++ after)))))
+  as_verdict : (solver head check lines : List ℕ) →
+      (solver ++ (codes " " ++ (head ++ (codes " " ++ (check ++ (codes "\n" ++ (lines ++ []))))))) ++ after ≡ (solver ++ codes " ") ++
+      (head ++ (codes " " ++ (check ++ (codes "\n" ++ (lines ++ after)))))
   as_verdict solver head check lines = simp (append_assoc, append-nil)
 
-  pub verdict_read : (solver : Solver) (verdict : PathVerdict) → IsReadable solver verdict → IsPrinted sheet verdict → VerdictFits verdict → begins_table_line after ≡ false →
+  pub verdict_read : (solver : Solver) (verdict : PathVerdict) → IsReadable solver verdict → IsPrinted sheet verdict → VerdictFits verdict →
+      begins_table_line after ≡ false →
       verdict_in (fraction_in checker_of_128_bits) sheet solver (verdict_text solver verdict check ++ after) ≡ Some ((verdict, check), after)
   verdict_read solver verdict is printed fit other =
-      ap (verdict_in (fraction_in checker_of_128_bits) sheet solver) (as_verdict (solver_text solver) (verdict_head verdict) (check_text check) (table_text (verdict_lines verdict)))
-      ∙ (text_first (solver_text solver ++ codes " ") (claim_in (fraction_in checker_of_128_bits) sheet solver) (claim_text verdict) _ (claim_read solver verdict is printed fit other)).of
+      ap (verdict_in (fraction_in checker_of_128_bits) sheet solver)
+      (as_verdict (solver_text solver) (verdict_head verdict) (check_text check) (table_text (verdict_lines verdict)))
+      ∙ (text_first (solver_text solver ++ codes " ") (claim_in (fraction_in checker_of_128_bits) sheet solver) (claim_text verdict) _
+      (claim_read solver verdict is printed fit other)).of

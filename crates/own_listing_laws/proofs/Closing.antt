@@ -64,7 +64,8 @@ past_zero a b t past at_t = (not_above (lt_or_le zero_ℚ (a +ℚ t *ℚ b)), fa
             let both : zero_ℚ +ℚ zero_ℚ ≤ℚ (a +ℚ t *ℚ b) +ℚ b = add-le-add no_less above in
             let none : zero_ℚ +ℚ zero_ℚ ≡ zero_ℚ = by_ring1 a (λ a. number (pos 0) ⊕ number (pos 0) ≐ number (pos 0)) refl in
             let next : (a +ℚ t *ℚ b) +ℚ b ≡ a +ℚ (t +ℚ one_ℚ) *ℚ b = by_ring3 a b t (λ a b t. a ⊕ t ⊗ b ⊕ b ≐ a ⊕ (t ⊕ number (pos 1)) ⊗ b) refl in
-            absurd (lt_not_le (past (t +ℚ one_ℚ) one_past) (subst (λ (x : ℚ). x ≤ℚ a +ℚ (t +ℚ one_ℚ) *ℚ b) none (subst (λ (x : ℚ). zero_ℚ +ℚ zero_ℚ ≤ℚ x) next both)))
+            absurd (lt_not_le (past (t +ℚ one_ℚ) one_past)
+            (subst (λ (x : ℚ). x ≤ℚ a +ℚ (t +ℚ one_ℚ) *ℚ b) none (subst (λ (x : ℚ). zero_ℚ +ℚ zero_ℚ ≤ℚ x) next both)))
 
     not_above : (zero_ℚ <ℚ a +ℚ t *ℚ b) ⊎ (a +ℚ t *ℚ b ≤ℚ zero_ℚ) → a +ℚ t *ℚ b ≤ℚ zero_ℚ
     not_above (inr below) = below
@@ -76,12 +77,14 @@ past_zero a b t past at_t = (not_above (lt_or_le zero_ℚ (a +ℚ t *ℚ b)), fa
         let later : t <ℚ t +ℚ q = lt_by_one q_positive (by_ring2 t q (λ t q. t ⊕ q ≐ t ⊕ (q ⊖ number (pos 0))) refl) in
         let back : q *ℚ c ≡ a +ℚ t *ℚ b = div-mul_cancel (a +ℚ t *ℚ b) c (apart_from_above positive) in
         let zero : a +ℚ (t +ℚ q) *ℚ b ≡ zero_ℚ =
-        same_by_one (neg_ℚ one_ℚ) back (by_ring4 a b t q (λ a b t q. a ⊕ (t ⊕ q) ⊗ b ≐ number (pos 0) ⊕ opposite (number (pos 1)) ⊗ (q ⊗ opposite b ⊖ (a ⊕ t ⊗ b))) refl) in
+        same_by_one (neg_ℚ one_ℚ) back
+        (by_ring4 a b t q (λ a b t q. a ⊕ (t ⊕ q) ⊗ b ≐ number (pos 0) ⊕ opposite (number (pos 1)) ⊗ (q ⊗ opposite b ⊖ (a ⊕ t ⊗ b))) refl) in
         absurd (lt_irrefl (subst (λ (x : ℚ). x <ℚ zero_ℚ) zero (past (t +ℚ q) later)))
 
 -- ---- a direction
 
-module _ (p : LinearProgram) (h : ℕ) (lawful : IsLinearProgram p) (row : IsRow p.matrix h) (t : ℚ) (point direction : List ℚ) (v : Vector) (best : IsBest (objective_family p h t) v)
+module _ (p : LinearProgram) (h : ℕ) (lawful : IsLinearProgram p) (row : IsRow p.matrix h) (t : ℚ) (point direction : List ℚ) (v : Vector)
+    (best : IsBest (objective_family p h t) v)
     (unbounded_end : (theta : ℚ) → t <ℚ theta → IsUnboundedBy (objective_family p h theta) (value_at point) (value_at direction)) where
   -- as they are printed
   abbrev pub printed_point : Vector
@@ -103,7 +106,8 @@ module _ (p : LinearProgram) (h : ℕ) (lawful : IsLinearProgram p) (row : IsRow
   changing = for_min p.sense (value_at direction h)
 
   negative : (x : ℚ) → t <ℚ x → own +ℚ x *ℚ changing <ℚ zero_ℚ
-  negative x past = subst (λ (y : ℚ). y <ℚ zero_ℚ) (for_min-add p.sense (value_at direction p.objective) x (value_at direction h)) (unbounded_end x past).proof.improves
+  negative x past =
+      subst (λ (y : ℚ). y <ℚ zero_ℚ) (for_min-add p.sense (value_at direction p.objective) x (value_at direction h)) (unbounded_end x past).proof.improves
 
   -- there is a best point at t
   not_at_end : own +ℚ t *ℚ changing <ℚ zero_ℚ → ⊥
@@ -132,28 +136,38 @@ module _ (p : LinearProgram) (h : ℕ) (lawful : IsLinearProgram p) (row : IsRow
 
   not_worse : for_min p.sense (printed_direction p.objective +ℚ t *ℚ printed_direction h) ≤ℚ zero_ℚ
   not_worse =
-      subst (λ (y : ℚ). y ≤ℚ zero_ℚ) (sym (ap₂ (λ (a b : ℚ). for_min p.sense (a +ℚ t *ℚ b)) objective_is change_is ∙ for_min-add p.sense (value_at direction p.objective) t (value_at direction h))) at_end.0
+      subst (λ (y : ℚ). y ≤ℚ zero_ℚ)
+      (sym (ap₂ (λ (a b : ℚ). for_min p.sense (a +ℚ t *ℚ b)) objective_is change_is
+      ∙ for_min-add p.sense (value_at direction p.objective) t (value_at direction h))) at_end.0
 
   improves : for_min p.sense (printed_direction h) <ℚ zero_ℚ
   improves = subst (λ (y : ℚ). y <ℚ zero_ℚ) (sym (ap (for_min p.sense) change_is)) at_end.1
 
-  pub unbounded_passes : (problem : Problem ℕ) (changed : Changing) → Passes (unbounded_past checker_of_128_bits (record { problem = problem; lp = p }) changed h t printed_point printed_direction)
+  pub unbounded_passes : (problem : Problem ℕ) (changed : Changing) →
+      Passes (unbounded_past checker_of_128_bits (record { problem = problem; lp = p }) changed h t printed_point printed_direction)
   unbounded_passes problem changed =
       (pass_then (verdict_of (feasible_point p printed_point)) _ (passes_steps _ (never_point p printed_point
-      (IsFeasible-same p (value_at point) printed_point (λ k is. sym (same point k is)) (record { keeps = proof.feasible.keeps; within = proof.feasible.within }))))
-      (pass_then (verdict_of (equations p 3 printed_direction)) _ (passes_steps _ (never_equations p 3 printed_direction (KeepsEquations-same p.matrix (value_at direction) printed_direction (λ k is. sym (same direction k is)) proof.keeps)))
+      (IsFeasible-same p (value_at point) printed_point (λ k is. sym (same point k is))
+      (record { keeps = proof.feasible.keeps; within = proof.feasible.within }))))
+      (pass_then (verdict_of (equations p 3 printed_direction)) _
+      (passes_steps _
+      (never_equations p 3 printed_direction
+      (KeepsEquations-same p.matrix (value_at direction) printed_direction (λ k is. sym (same direction k is)) proof.keeps)))
       (pass_then (verdict_of (free_direction p printed_direction)) _ (passes_steps _ (never_free p printed_direction (record {
         falls = λ k is below. proof.falls k is (subst (λ (y : ℚ). y <ℚ zero_ℚ) (same direction k is) below);
         rises = λ k is above. proof.rises k is (subst (λ (y : ℚ). zero_ℚ <ℚ y) (same direction k is) above);
       })))
-      (pass_then (verdict_of (sum_steps (printed_direction p.objective) (record { left = t; right = printed_direction h } ∷ []))) _ (passes_steps _ (never_sum (printed_direction p.objective) (record { left = t; right = printed_direction h } ∷ [])))
-      (pass_then (asked (le_ℚ (for_min p.sense (printed_direction p.objective +ℚ t *ℚ printed_direction h)) zero_ℚ)) _ (passes_asked _ (test_from_le _ _ not_worse))
+      (pass_then (verdict_of (sum_steps (printed_direction p.objective) (record { left = t; right = printed_direction h } ∷ []))) _
+      (passes_steps _ (never_sum (printed_direction p.objective) (record { left = t; right = printed_direction h } ∷ [])))
+      (pass_then (asked (le_ℚ (for_min p.sense (printed_direction p.objective +ℚ t *ℚ printed_direction h)) zero_ℚ)) _
+      (passes_asked _ (test_from_le _ _ not_worse))
       (pass_then (asked (lt_ℚ (for_min p.sense (printed_direction h)) zero_ℚ)) [] (passes_asked _ (test_from_lt _ _ improves)) pass_none)))))).passes
 
 -- ---- a ray
 
 -- a multiplier times a limit at a value
-met : (w slope theta : ℚ) (limit : Option ℚ) → (w ≡ zero_ℚ) ⊎ IsSome limit → w *ℚ unwrap_or (moved theta slope limit) zero_ℚ ≡ w *ℚ unwrap_or limit zero_ℚ +ℚ theta *ℚ (w *ℚ slope)
+met : (w slope theta : ℚ) (limit : Option ℚ) → (w ≡ zero_ℚ) ⊎ IsSome limit →
+    w *ℚ unwrap_or (moved theta slope limit) zero_ℚ ≡ w *ℚ unwrap_or limit zero_ℚ +ℚ theta *ℚ (w *ℚ slope)
 met w slope theta (Some l) is = by_ring4 w slope theta l (λ w s x l. w ⊗ (l ⊕ x ⊗ s) ≐ w ⊗ l ⊕ x ⊗ (w ⊗ s)) refl
 met w slope theta None (inl e) =
     ap (λ y. y *ℚ zero_ℚ) e ∙ by_ring2 slope theta (λ s x. number (pos 0) ⊗ number (pos 0) ≐ number (pos 0) ⊗ number (pos 0) ⊕ x ⊗ (number (pos 0) ⊗ s)) refl
@@ -171,10 +185,13 @@ still_there slope theta (Some l) is = refl
 
 module _ (p : LinearProgram) (shift : List ℚ) (w : Vector) where
   -- which limit a multiplier meets doesn't depend on the value
-  against_is : (theta : ℚ) (k : ℕ) → IsVariable p.matrix k → limit_against (rhs_family p shift theta) w k ≡ moved theta (shift_of p.matrix shift k) (limit_against p w k)
+  against_is : (theta : ℚ) (k : ℕ) → IsVariable p.matrix k →
+      limit_against (rhs_family p shift theta) w k ≡ moved theta (shift_of p.matrix shift k) (limit_against p w k)
   against_is theta k is = by (lt_ℚ zero_ℚ (w k))
     where
-      by : (test : Bool) → cond test (upper_of (rhs_family p shift theta) k) (lower_of (rhs_family p shift theta) k) ≡ moved theta (shift_of p.matrix shift k) (cond test (upper_of p k) (lower_of p k))
+      by : (test : Bool) →
+          cond test (upper_of (rhs_family p shift theta) k) (lower_of (rhs_family p shift theta) k) ≡ moved theta (shift_of p.matrix shift k)
+          (cond test (upper_of p k) (lower_of p k))
       by true = upper_is p shift theta k is
       by false = lower_is p shift theta k is
 
@@ -213,21 +230,24 @@ module _ (p : LinearProgram) (shift : List ℚ) (w : Vector) where
         (λ k. w (suc k) *ℚ unwrap_or (limit_against p w (suc k)) zero_ℚ +ℚ theta *ℚ (w (suc k) *ℚ shift_of p.matrix shift (suc k)))
         (λ k below. ap (λ limit. w (suc k) *ℚ unwrap_or limit zero_ℚ) (against_is theta (suc k) (variable k below))
         ∙ met (w (suc k)) (shift_of p.matrix shift (suc k)) theta (limit_against p w (suc k)) (meets (suc k) (variable k below)))
-        ∙ sum_to-add (size p.matrix) (λ k. w (suc k) *ℚ unwrap_or (limit_against p w (suc k)) zero_ℚ) (λ k. theta *ℚ (w (suc k) *ℚ shift_of p.matrix shift (suc k)))
+        ∙ sum_to-add (size p.matrix) (λ k. w (suc k) *ℚ unwrap_or (limit_against p w (suc k)) zero_ℚ)
+        (λ k. theta *ℚ (w (suc k) *ℚ shift_of p.matrix shift (suc k)))
         ∙ ap (λ s. sum_to (size p.matrix) (λ k. w (suc k) *ℚ unwrap_or (limit_against p w (suc k)) zero_ℚ) +ℚ s)
         (sum_to-mul_left (size p.matrix) theta (λ k. w (suc k) *ℚ shift_of p.matrix shift (suc k)) ∙ ap (λ s. theta *ℚ s) of_rows)
       where
         variable : (k : ℕ) → k < size p.matrix → IsVariable p.matrix (suc k)
         variable k below = (omega arith, omega (arith, below))
 
-module _ (p : LinearProgram) (shift : List ℚ) (lawful : (theta : ℚ) → IsLinearProgram (rhs_family p shift theta)) (t : ℚ) (ray : List ℚ) (v : Vector) (feasible : IsFeasible (rhs_family p shift t) v)
+module _ (p : LinearProgram) (shift : List ℚ) (lawful : (theta : ℚ) → IsLinearProgram (rhs_family p shift theta)) (t : ℚ) (ray : List ℚ) (v : Vector)
+    (feasible : IsFeasible (rhs_family p shift t) v)
     (refuted : (theta : ℚ) → t <ℚ theta → IsRefutedBy (rhs_family p shift theta) (value_at ray)) where
   -- as it is printed
   abbrev pub printed_ray : Vector
   printed_ray = value_at (listed p.matrix (value_at ray))
 
   ray_at : (theta : ℚ) → t <ℚ theta → IsRay (rhs_family p shift theta) printed_ray
-  ray_at theta past = IsRay-same (rhs_family p shift theta) (value_at ray) printed_ray (λ k is. sym (value_at-listed p.matrix (value_at ray) k is)) (refuted theta past).ray
+  ray_at theta past =
+      IsRay-same (rhs_family p shift theta) (value_at ray) printed_ray (λ k is. sym (value_at-listed p.matrix (value_at ray) k is)) (refuted theta past).ray
 
   one_past : t <ℚ t +ℚ one_ℚ
   one_past = lt_by_one zero_below_one (by_ring1 t (λ t. t ⊕ number (pos 1) ≐ t ⊕ (number (pos 1) ⊖ number (pos 0))) refl)
@@ -236,16 +256,19 @@ module _ (p : LinearProgram) (shift : List ℚ) (lawful : (theta : ℚ) → IsLi
   later = ray_at (t +ℚ one_ℚ) one_past
 
   has_upper : (k : ℕ) → IsVariable p.matrix k → zero_ℚ <ℚ printed_ray k → IsSome (upper_of p k)
-  has_upper k is positive = there (shift_of p.matrix shift k) (t +ℚ one_ℚ) (upper_of p k) (subst IsSome (upper_is p shift (t +ℚ one_ℚ) k is) (later.meets_upper k is positive))
+  has_upper k is positive =
+      there (shift_of p.matrix shift k) (t +ℚ one_ℚ) (upper_of p k) (subst IsSome (upper_is p shift (t +ℚ one_ℚ) k is) (later.meets_upper k is positive))
 
   has_lower : (k : ℕ) → IsVariable p.matrix k → printed_ray k <ℚ zero_ℚ → IsSome (lower_of p k)
-  has_lower k is below = there (shift_of p.matrix shift k) (t +ℚ one_ℚ) (lower_of p k) (subst IsSome (lower_is p shift (t +ℚ one_ℚ) k is) (later.meets_lower k is below))
+  has_lower k is below =
+      there (shift_of p.matrix shift k) (t +ℚ one_ℚ) (lower_of p k) (subst IsSome (lower_is p shift (t +ℚ one_ℚ) k is) (later.meets_lower k is below))
 
   -- each multiplier is 0 or meets a limit
   meets : (k : ℕ) → IsVariable p.matrix k → (printed_ray k ≡ zero_ℚ) ⊎ IsSome (limit_against p printed_ray k)
   meets k is = by (lt_or_le zero_ℚ (printed_ray k)) (lt_or_le (printed_ray k) zero_ℚ)
     where
-      by : (zero_ℚ <ℚ printed_ray k) ⊎ (printed_ray k ≤ℚ zero_ℚ) → (printed_ray k <ℚ zero_ℚ) ⊎ (zero_ℚ ≤ℚ printed_ray k) → (printed_ray k ≡ zero_ℚ) ⊎ IsSome (limit_against p printed_ray k)
+      by : (zero_ℚ <ℚ printed_ray k) ⊎ (printed_ray k ≤ℚ zero_ℚ) → (printed_ray k <ℚ zero_ℚ) ⊎ (zero_ℚ ≤ℚ printed_ray k) →
+          (printed_ray k ≡ zero_ℚ) ⊎ IsSome (limit_against p printed_ray k)
       by (inl positive) _ = inr (subst IsSome (sym (limit_of_positive p printed_ray k positive)) (has_upper k is positive))
       by (inr not_positive) (inl below) = inr (subst IsSome (sym (limit_of_negative p printed_ray k below)) (has_lower k is below))
       by (inr not_positive) (inr not_negative) = inl (le_antisymm not_positive not_negative)
@@ -267,12 +290,13 @@ module _ (p : LinearProgram) (shift : List ℚ) (lawful : (theta : ℚ) → IsLi
 
   -- there is a feasible point at t
   at_end_too : (limits +ℚ t *ℚ shifts ≤ℚ zero_ℚ) × (shifts <ℚ zero_ℚ)
-  at_end_too = past_zero limits shifts t (λ x past. subst (λ (y : ℚ). y <ℚ zero_ℚ) (sums x) (ray_at x past).negative) (λ below. infeasible_by_ray (rhs_family p shift t) printed_ray (record {
-    vanishes = later.vanishes;
-    meets_upper = upper_here;
-    meets_lower = lower_here;
-    negative = subst (λ (y : ℚ). y <ℚ zero_ℚ) (sym (sums t)) below;
-  }) v feasible)
+  at_end_too = past_zero limits shifts t (λ x past. subst (λ (y : ℚ). y <ℚ zero_ℚ) (sums x) (ray_at x past).negative)
+      (λ below. infeasible_by_ray (rhs_family p shift t) printed_ray (record {
+        vanishes = later.vanishes;
+        meets_upper = upper_here;
+        meets_lower = lower_here;
+        negative = subst (λ (y : ℚ). y <ℚ zero_ℚ) (sym (sums t)) below;
+      }) v feasible)
 
   met_sum : sum_of zero_ℚ (map (limit_product (rhs_family p shift t) printed_ray) (multiplied (rhs_family p shift t) printed_ray)) ≤ℚ zero_ℚ
   met_sum = subst (λ (y : ℚ). y ≤ℚ zero_ℚ) (sym (sum_of_met (rhs_family p shift t) printed_ray ∙ sums t)) at_end_too.0
@@ -280,13 +304,15 @@ module _ (p : LinearProgram) (shift : List ℚ) (lawful : (theta : ℚ) → IsLi
   shift_sum : sum_of zero_ℚ (map (λ i. record { left = printed_ray i; right = value_at shift i }) (numbers_from 1 p.rows)) <ℚ zero_ℚ
   shift_sum = subst (λ (y : ℚ). y <ℚ zero_ℚ) (sym (sum_of-all (λ i. record { left = printed_ray i; right = value_at shift i }) p.rows)) at_end_too.1
 
-  pub infeasible_passes : (problem : Problem ℕ) (name : Name) → shifts_of problem name ≡ shift → Passes (infeasible_past checker_of_128_bits (record { problem = problem; lp = p }) (Set name) shift t printed_ray)
+  pub infeasible_passes : (problem : Problem ℕ) (name : Name) → shifts_of problem name ≡ shift →
+      Passes (infeasible_past checker_of_128_bits (record { problem = problem; lp = p }) (Set name) shift t printed_ray)
   infeasible_passes problem name is = subst (λ (own : LinearProgram). Passes (test_at own)) (ap (λ (own : List ℚ). rhs_family p own t) (sym is))
       (pass_then _ _ (passes_steps _ (never_making sheet (Set name) t))
       (pass_then (verdict_of (ray_columns here printed_ray)) _ (passes_steps _ (never_columns here (lawful t).is_matrix printed_ray later.vanishes))
       (pass_then _ _ (passes_steps _ (never_limits_met here printed_ray (record { meets_upper = upper_here; meets_lower = lower_here })))
       (pass_then (asked _) _ (passes_asked _ (test_from_le _ _ met_sum))
-      (pass_then _ _ (passes_steps _ (never_sum zero_ℚ (shift_products sheet (Set name) shift printed_ray))) (pass_then (asked _) [] (passes_asked _ (test_from_lt _ _ shift_sum)) pass_none)))))).passes
+      (pass_then _ _ (passes_steps _ (never_sum zero_ℚ (shift_products sheet (Set name) shift printed_ray)))
+      (pass_then (asked _) [] (passes_asked _ (test_from_lt _ _ shift_sum)) pass_none)))))).passes
     where
       sheet : Sheet
       sheet = record { problem = problem; lp = p }
@@ -296,6 +322,8 @@ module _ (p : LinearProgram) (shift : List ℚ) (lawful : (theta : ℚ) → IsLi
 
       test_at : LinearProgram → Verdict
       test_at own = in_turn (
-          verdict_of (making_steps sheet (Set name) t) ∷ verdict_of (ray_columns own printed_ray) ∷ verdict_of (ray_limits own printed_ray zero_ℚ (multiplied own printed_ray)) ∷
+          verdict_of (making_steps sheet (Set name) t) ∷ verdict_of (ray_columns own printed_ray) ∷ verdict_of
+          (ray_limits own printed_ray zero_ℚ (multiplied own printed_ray)) ∷
           asked (le_ℚ (sum_of zero_ℚ (map (limit_product own printed_ray) (multiplied own printed_ray))) zero_ℚ) ∷
-          verdict_of (sum_steps zero_ℚ (shift_products sheet (Set name) shift printed_ray)) ∷ asked (lt_ℚ (sum_of zero_ℚ (shift_products sheet (Set name) shift printed_ray)) zero_ℚ) ∷ [])
+          verdict_of (sum_steps zero_ℚ (shift_products sheet (Set name) shift printed_ray)) ∷ asked
+          (lt_ℚ (sum_of zero_ℚ (shift_products sheet (Set name) shift printed_ray)) zero_ℚ) ∷ [])

@@ -47,11 +47,14 @@ module _ (sheet : Sheet) (values : ℕ → List Value) (place : ℕ) where
 
 pub first_of_pairs : (sheet : Sheet) (point direction : List ℚ) → length point ≡ size sheet.lp.matrix → column_of 0 (pair_lines sheet point direction) ≡ point
 first_of_pairs sheet point direction counted =
-    column_is sheet (λ k. Number (value_at point k) ∷ Number (value_at direction k) ∷ []) 0 (variables sheet.lp.matrix) ∙ listed_again sheet.lp.matrix point counted
+    column_is sheet (λ k. Number (value_at point k) ∷ Number (value_at direction k) ∷ []) 0 (variables sheet.lp.matrix)
+    ∙ listed_again sheet.lp.matrix point counted
 
-pub second_of_pairs : (sheet : Sheet) (point direction : List ℚ) → length direction ≡ size sheet.lp.matrix → column_of 1 (pair_lines sheet point direction) ≡ direction
+pub second_of_pairs : (sheet : Sheet) (point direction : List ℚ) → length direction ≡ size sheet.lp.matrix →
+    column_of 1 (pair_lines sheet point direction) ≡ direction
 second_of_pairs sheet point direction counted =
-    column_is sheet (λ k. Number (value_at point k) ∷ Number (value_at direction k) ∷ []) 1 (variables sheet.lp.matrix) ∙ listed_again sheet.lp.matrix direction counted
+    column_is sheet (λ k. Number (value_at point k) ∷ Number (value_at direction k) ∷ []) 1 (variables sheet.lp.matrix)
+    ∙ listed_again sheet.lp.matrix direction counted
 
 -- ---- rays
 
@@ -78,9 +81,12 @@ module _ (sheet : Sheet) (w : ℕ → ℚ) where
   search_in k ks = find (λ line. nat_eq line.number k) (lines_of sheet (one_value sheet w) ks)
 
   -- a line in front, of this number or of another one
-  in_front : (k first : ℕ) (more : List ℕ) (b : Bool) → nat_eq first k ≡ b → numbered k (lines_of sheet (one_value sheet w) (first ∷ more)) ≡ cond b (w first) (numbered k (lines_of sheet (one_value sheet w) more))
-  in_front k first more true e = ap (λ b. found_in (cond b (Some (record { number = first; name = name_of sheet first; values = one_value sheet w first })) (search_in k more))) e
-  in_front k first more false e = ap (λ b. found_in (cond b (Some (record { number = first; name = name_of sheet first; values = one_value sheet w first })) (search_in k more))) e
+  in_front : (k first : ℕ) (more : List ℕ) (b : Bool) → nat_eq first k ≡ b →
+      numbered k (lines_of sheet (one_value sheet w) (first ∷ more)) ≡ cond b (w first) (numbered k (lines_of sheet (one_value sheet w) more))
+  in_front k first more true e =
+      ap (λ b. found_in (cond b (Some (record { number = first; name = name_of sheet first; values = one_value sheet w first })) (search_in k more))) e
+  in_front k first more false e =
+      ap (λ b. found_in (cond b (Some (record { number = first; name = name_of sheet first; values = one_value sheet w first })) (search_in k more))) e
 
   none_before : (first n k : ℕ) → k < first → numbered k (lines_from first n) ≡ zero_ℚ
   none_before first zero k below = refl
@@ -89,18 +95,21 @@ module _ (sheet : Sheet) (w : ℕ → ℚ) where
       more : List ℕ
       more = among sheet w (numbers_from (suc first) n)
 
-      by : (b : Bool) → numbered k (lines_of sheet (one_value sheet w) more) ≡ zero_ℚ → numbered k (lines_of sheet (one_value sheet w) (cond b (first ∷ more) more)) ≡ zero_ℚ
+      by : (b : Bool) → numbered k (lines_of sheet (one_value sheet w) more) ≡ zero_ℚ →
+          numbered k (lines_of sheet (one_value sheet w) (cond b (first ∷ more) more)) ≡ zero_ℚ
       by true later = in_front k first more false (other_numbers first k below) ∙ later
       by false later = later
 
   number_is : (first n k : ℕ) → first ≤ k → k < first + n → numbered k (lines_from first n) ≡ w k
   number_is first zero k low high = absurd (omega (arith, low, high))
-  number_is first (suc n) k low high = by (eq_ℚ (w first) zero_ℚ) refl (nat_eq first k) refl (λ other. number_is (suc first) n k (later_number first k other low) (omega (arith, high)))
+  number_is first (suc n) k low high =
+      by (eq_ℚ (w first) zero_ℚ) refl (nat_eq first k) refl (λ other. number_is (suc first) n k (later_number first k other low) (omega (arith, high)))
     where
       more : List ℕ
       more = among sheet w (numbers_from (suc first) n)
 
-      by : (b : Bool) → eq_ℚ (w first) zero_ℚ ≡ b → (c : Bool) → nat_eq first k ≡ c → (nat_eq first k ≡ false → numbered k (lines_of sheet (one_value sheet w) more) ≡ w k) →
+      by : (b : Bool) → eq_ℚ (w first) zero_ℚ ≡ b → (c : Bool) → nat_eq first k ≡ c →
+          (nat_eq first k ≡ false → numbered k (lines_of sheet (one_value sheet w) more) ≡ w k) →
           numbered k (lines_of sheet (one_value sheet w) (cond (not b) (first ∷ more) more)) ≡ w k
       by true zero_is true same later =
           let is : first ≡ k = equal_numbers first k same in
@@ -111,7 +120,8 @@ module _ (sheet : Sheet) (w : ℕ → ℚ) where
 
 pub numbers_of_ray : (sheet : Sheet) (ray : List ℚ) → multipliers sheet (ray_lines sheet ray) ≡ listed sheet.lp.matrix (value_at ray)
 numbers_of_ray sheet ray =
-    map_same (λ k. numbered k (ray_lines sheet ray)) (value_at ray) (size sheet.lp.matrix) 1 (λ k low high. number_is sheet (value_at ray) 1 (size sheet.lp.matrix) k low high)
+    map_same (λ k. numbered k (ray_lines sheet ray)) (value_at ray) (size sheet.lp.matrix) 1
+    (λ k low high. number_is sheet (value_at ray) 1 (size sheet.lp.matrix) k low high)
 
 pub multipliers_of_ray : (sheet : Sheet) (ray : List ℚ) → length ray ≡ size sheet.lp.matrix → multipliers sheet (ray_lines sheet ray) ≡ ray
 multipliers_of_ray sheet ray counted = numbers_of_ray sheet ray ∙ listed_again sheet.lp.matrix ray counted
@@ -122,7 +132,8 @@ module _ (sheet : Sheet) (s : Basis) (t : Tableau) where
   abbrev all_lines : List Line
   all_lines = (solution_lines sheet s t).rows ++ (solution_lines sheet s t).columns
 
-  both_columns : (place : ℕ) (f : Vector) → ((k : ℕ) → number_of (slice_get (solution_row sheet s t k) place) ≡ f k) → ((k : ℕ) → number_of (slice_get (solution_column sheet s t k) place) ≡ f k) →
+  both_columns : (place : ℕ) (f : Vector) → ((k : ℕ) → number_of (slice_get (solution_row sheet s t k) place) ≡ f k) →
+      ((k : ℕ) → number_of (slice_get (solution_column sheet s t k) place) ≡ f k) →
       column_of place all_lines ≡ listed sheet.lp.matrix f
   both_columns place f rows columns =
       let m = sheet.lp.matrix.rows in
@@ -130,8 +141,10 @@ module _ (sheet : Sheet) (s : Basis) (t : Tableau) where
       let first : m + 1 ≡ 1 + m = omega arith in
       map-append _ (solution_lines sheet s t).rows (solution_lines sheet s t).columns
       ∙ ap₂ (λ xs ys. xs ++ ys)
-      (column_is sheet (solution_row sheet s t) place (row_numbers sheet.lp) ∙ map_same (λ k. number_of (slice_get (solution_row sheet s t k) place)) f m 1 (λ k low high. rows k))
-      (column_is sheet (solution_column sheet s t) place (column_numbers sheet.lp) ∙ map_same (λ k. number_of (slice_get (solution_column sheet s t k) place)) f n (m + 1) (λ k low high. columns k)
+      (column_is sheet (solution_row sheet s t) place (row_numbers sheet.lp)
+      ∙ map_same (λ k. number_of (slice_get (solution_row sheet s t k) place)) f m 1 (λ k low high. rows k))
+      (column_is sheet (solution_column sheet s t) place (column_numbers sheet.lp)
+      ∙ map_same (λ k. number_of (slice_get (solution_column sheet s t k) place)) f n (m + 1) (λ k low high. columns k)
       ∙ ap (λ from. map f (numbers_from from n)) first)
       ∙ sym (map-append f (numbers_from 1 m) (numbers_from (1 + m) n)) ∙ ap (map f) (sym (numbers_from-append 1 m n))
 

@@ -55,15 +55,22 @@ steps_small (pos n) d = by (d == 1) (nat_le n MAX_STEPS) refl
 limit_small : (argument : List ℕ) → IfSome (limit_argument argument) (λ limit. IfSome limit (λ steps. steps ≤ max_count))
 limit_small argument = by (bytes_eq argument (codes "'NONE'"))
   where
-    some : (o : Option ℕ) → IfSome o (λ steps. steps ≤ max_count) → IfSome (option_map {U = Option ℕ} (λ steps. Some steps) o) (λ limit. IfSome limit (λ steps. steps ≤ max_count))
+    some : (o : Option ℕ) → IfSome o (λ steps. steps ≤ max_count) →
+        IfSome (option_map {U = Option ℕ} (λ steps. Some steps) o) (λ limit. IfSome limit (λ steps. steps ≤ max_count))
     some None holds = tt
     some (Some n) holds = holds
 
-    by : (b : Bool) → IfSome {T = Option ℕ} (if b then Some None else option_map {U = Option ℕ} (λ steps. Some steps) (steps_argument argument)) (λ limit. IfSome limit (λ steps. steps ≤ max_count))
+    by : (b : Bool) →
+        IfSome {T = Option ℕ} (if b then Some None else option_map {U = Option ℕ} (λ steps. Some steps) (steps_argument argument))
+        (λ limit. IfSome limit (λ steps. steps ≤ max_count))
     by true = tt
-    by false = some (steps_argument argument) (then_holds (λ steps. steps ≤ max_count) (λ value. steps_of value.numerator value.denominator) (number_argument argument) (λ value. steps_small value.numerator value.denominator))
+    by false =
+        some (steps_argument argument)
+        (then_holds (λ steps. steps ≤ max_count) (λ value. steps_of value.numerator value.denominator) (number_argument argument)
+        (λ value. steps_small value.numerator value.denominator))
 
-limit_moved : (o : Option (Option ℕ)) → IfSome o (λ limit. IfSome limit (λ steps. steps ≤ max_count)) → IfSome {T = Verb (List ℕ)} (option_map (λ limit. MoveLimit limit) o) MovesSmall
+limit_moved : (o : Option (Option ℕ)) → IfSome o (λ limit. IfSome limit (λ steps. steps ≤ max_count)) →
+    IfSome {T = Verb (List ℕ)} (option_map (λ limit. MoveLimit limit) o) MovesSmall
 limit_moved None holds = tt
 limit_moved (Some limit) holds = holds
 
@@ -76,16 +83,19 @@ abbrev AloneSmall : VerbWord → Type 0
 AloneSmall (Alone verb) = MovesSmall verb
 AloneSmall _ = Unit {0}
 
-line_holds : {X : Type 0} (P : X → Type 0) (table : List (List ℕ × X)) (word : List ℕ) → AllByRecursion (λ (line : List ℕ × X). P line.1) table → IfSome (named table word) P
+line_holds : {X : Type 0} (P : X → Type 0) (table : List (List ℕ × X)) (word : List ℕ) → AllByRecursion (λ (line : List ℕ × X). P line.1) table →
+    IfSome (named table word) P
 line_holds P [] word each = tt
 line_holds P (line ∷ table) word each = by (bytes_eq line.0 word) (line_holds P table word each.1)
   where
-    by : (b : Bool) → IfSome (named table word) P → IfSome (option_map (λ (l : List ℕ × _). l.1) (cond b (Some line) (find (λ (l : List ℕ × _). bytes_eq l.0 word) table))) P
+    by : (b : Bool) → IfSome (named table word) P →
+        IfSome (option_map (λ (l : List ℕ × _). l.1) (cond b (Some line) (find (λ (l : List ℕ × _). bytes_eq l.0 word) table))) P
     by true rest = each.0
     by false rest = rest
 
 words_small : (word : List ℕ) → IfSome (named verb_words word) AloneSmall
-words_small word = line_holds AloneSmall verb_words word (tt, (tt, (tt, (tt, (tt, (tt, (tt, (tt, (tt, (tt, (tt, (tt, (tt, (tt, (tt, (tt, (tt, (tt, (tt, tt)))))))))))))))))))
+words_small word =
+    line_holds AloneSmall verb_words word (tt, (tt, (tt, (tt, (tt, (tt, (tt, (tt, (tt, (tt, (tt, (tt, (tt, (tt, (tt, (tt, (tt, (tt, (tt, tt)))))))))))))))))))
 
 with_small : (word : VerbWord) (arguments : Arguments) → AloneSmall word → IfSome (verb_with word arguments) MovesSmall
 with_small (Alone verb) Without alone = alone
@@ -100,14 +110,16 @@ with_small TakesCell Without alone = tt
 with_small TakesCell Malformed alone = tt
 with_small TakesCell (With []) alone = tt
 with_small TakesCell (With (cell ∷ [])) alone = tt
-with_small TakesCell (With (cell ∷ value ∷ [])) alone = then_holds MovesSmall (λ known. moved known value) (named cell_words cell) (λ known. moved_small known value)
+with_small TakesCell (With (cell ∷ value ∷ [])) alone =
+    then_holds MovesSmall (λ known. moved known value) (named cell_words cell) (λ known. moved_small known value)
 with_small TakesCell (With (cell ∷ value ∷ next ∷ parts)) alone = tt
 with_small TakesDemand Without alone = tt
 with_small TakesDemand Malformed alone = tt
 with_small TakesDemand (With []) alone = tt
 with_small TakesDemand (With (demand ∷ [])) alone = tt
 with_small TakesDemand (With (demand ∷ label ∷ [])) alone =
-    then_holds MovesSmall (λ known. option_map (λ text. Mvadr known text) (label_text label)) (named demand_words demand) (λ known. mapped MovesSmall (λ text. Mvadr known text) (label_text label) (λ text. tt))
+    then_holds MovesSmall (λ known. option_map (λ text. Mvadr known text) (label_text label)) (named demand_words demand)
+    (λ known. mapped MovesSmall (λ text. Mvadr known text) (label_text label) (λ text. tt))
 with_small TakesDemand (With (demand ∷ label ∷ next ∷ parts)) alone = tt
 with_small TakesLabel Without alone = tt
 with_small TakesLabel Malformed alone = tt
@@ -188,7 +200,8 @@ AreSmall program = AllByRecursion IsSmall program.statements
 statement_small : (cards : List Card) (card : Card) → card.number ≤ max_count → IfSome (statement_on cards card) IsSmall
 statement_small cards card small = by (verb_of card.bytes) (said_small card.bytes)
   where
-    by : (o : Option (Verb (List ℕ))) → IfSome o MovesSmall → IfSome (option_map (λ verb. record { card = card.number; verb = positioned cards verb }) o) IsSmall
+    by : (o : Option (Verb (List ℕ))) → IfSome o MovesSmall →
+        IfSome (option_map (λ verb. record { card = card.number; verb = positioned cards verb }) o) IsSmall
     by None holds = tt
     by (Some verb) holds = (small, by_small _ verb holds)
 
@@ -196,7 +209,8 @@ gathered_small : (all cards : List Card) → HasSmallCards cards → AllByRecurs
 gathered_small all [] each = tt
 gathered_small all (card ∷ cards) each = by (statement_on all card) (statement_small all card each.0) (gathered_small all cards each.1)
   where
-    by : (o : Option (Statement ℕ)) → IfSome o IsSmall → AllByRecursion IsSmall (filter_map (statement_on all) cards) → AllByRecursion IsSmall (cons_option o (filter_map (statement_on all) cards))
+    by : (o : Option (Statement ℕ)) → IfSome o IsSmall → AllByRecursion IsSmall (filter_map (statement_on all) cards) →
+        AllByRecursion IsSmall (cons_option o (filter_map (statement_on all) cards))
     by None first rest = rest
     by (Some statement) first rest = (first, rest)
 
@@ -209,7 +223,9 @@ unfolding compiled
 compiled_small cards program few e =
     let all = cards_to_pend (live (numbered_cards cards)) in
     subst AreSmall (made (control_fault cards) program (program_of all) e)
-    (gathered_small all all (to_pend_small (live (numbered_cards cards)) (filtered_small (λ card. not (is_skipped card.bytes)) (numbered_cards cards) (numbered_small 1 cards (omega (arith, few))))))
+    (gathered_small all all
+    (to_pend_small (live (numbered_cards cards))
+    (filtered_small (λ card. not (is_skipped card.bytes)) (numbered_cards cards) (numbered_small 1 cards (omega (arith, few))))))
 
 -- a job without a fault has so many cards at most
 few_cards : (bytes : List ℕ) → job_fault bytes ≡ None → length (cards_of bytes) ≤ 200000
@@ -219,7 +235,8 @@ few_cards bytes none = by (nat_lt MAX_JOB_BYTES (length bytes)) (nat_lt MAX_JOB_
     not_more : (n : ℕ) → nat_lt 200000 n ≡ false → n ≤ 200000
     not_more n e = grind (arith, nat_tests, e)
 
-    by : (a b : Bool) → nat_lt MAX_JOB_CARDS (length (cards_of bytes)) ≡ b → first_fault (((a || b) ⟹ TooLong) ∷ map card_fault (numbered_cards (cards_of bytes))) ≡ None → length (cards_of bytes) ≤ 200000
+    by : (a b : Bool) → nat_lt MAX_JOB_CARDS (length (cards_of bytes)) ≡ b →
+        first_fault (((a || b) ⟹ TooLong) ∷ map card_fault (numbered_cards (cards_of bytes))) ≡ None → length (cards_of bytes) ≤ 200000
     by true b e none = absurd (cc none)
     by false true e none = absurd (cc none)
     by false false e none = not_more (length (cards_of bytes)) e
@@ -232,12 +249,14 @@ element_holds P [] i x each e = absurd (cc e)
 element_holds P (y ∷ xs) zero x each e = subst P (same_Some y x e) each.0
 element_holds P (y ∷ xs) (suc i) x each e = element_holds P xs i x each.1 e
 
-pub statement_at : (program : Program) (place : ℕ) (statement : Statement ℕ) → AreSmall program → slice_get program.statements place ≡ Some statement → (statement.card ≤ max_count) × MovesSmall statement.verb
+pub statement_at : (program : Program) (place : ℕ) (statement : Statement ℕ) → AreSmall program → slice_get program.statements place ≡ Some statement →
+    (statement.card ≤ max_count) × MovesSmall statement.verb
 statement_at program place statement small e = element_holds IsSmall program.statements place statement small e
 
 -- ---- variables
 
-pub few_variables : (problem : Problem ℕ) (choice : Choice) (lp : LinearProgram) → IsProblem problem → selected problem choice ≡ Ok lp → size lp.matrix ≤ max_count
+pub few_variables : (problem : Problem ℕ) (choice : Choice) (lp : LinearProgram) → IsProblem problem → selected problem choice ≡ Ok lp →
+    size lp.matrix ≤ max_count
 few_variables problem choice lp is e =
     let names = selected_has_names problem choice lp e in
     let rows : length problem.rows ≤ 1000 = is.few_rows in

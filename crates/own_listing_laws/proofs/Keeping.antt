@@ -29,7 +29,8 @@ use Rattle.own_listing_laws.proofs.Tests.{never-append, never_comparison, never_
 stands_there : (limit : Option ℚ) (v : ℚ) → limit ≡ Some v → is_at limit v ≡ true
 stands_there limit v e = ap (λ (o : Option ℚ). is_at o v) e ∙ test_from_same v v refl
 
-sign_holds : (x : ℚ) (negative positive : Bool) → (x <ℚ zero_ℚ → negative ≡ true) → (zero_ℚ <ℚ x → positive ≡ true) → by_sign (compare_ℚ x zero_ℚ) negative positive ≡ true
+sign_holds : (x : ℚ) (negative positive : Bool) → (x <ℚ zero_ℚ → negative ≡ true) → (zero_ℚ <ℚ x → positive ≡ true) →
+    by_sign (compare_ℚ x zero_ℚ) negative positive ≡ true
 sign_holds x negative positive below above = at (compare_ℚ x zero_ℚ) (λ less. below (lt_from_compare less)) (λ greater. above (gt_from_compare greater))
   where
     at : (o : Ordering) → (o ≡ Less → negative ≡ true) → (o ≡ Greater → positive ≡ true) → by_sign o negative positive ≡ true
@@ -39,14 +40,16 @@ sign_holds x negative positive below above = at (compare_ℚ x zero_ℚ) (λ les
 
 -- ---- a nonbasic stands at the same limit
 
-lower_kept : (st : Status) (low0 high0 low1 high1 : Option ℚ) (z0 z1 : ℚ) → StandsAt st low0 high0 z0 → StandsAt st low1 high1 z1 → IsAllowed st low0 high0 → (st ≡ Bs → ⊥) →
+lower_kept : (st : Status) (low0 high0 low1 high1 : Option ℚ) (z0 z1 : ℚ) → StandsAt st low0 high0 z0 → StandsAt st low1 high1 z1 → IsAllowed st low0 high0 →
+    (st ≡ Bs → ⊥) →
     ((v : ℚ) → low0 ≡ Some v → high0 ≡ Some v → (w : ℚ) × (low1 ≡ Some w) × (high1 ≡ Some w)) → low0 ≡ Some z0 → low1 ≡ Some z1
 lower_kept Bs low0 high0 low1 high1 z0 z1 first second allowed out ties e = absurd (out refl)
 lower_kept Ll low0 high0 low1 high1 z0 z1 first second allowed out ties e = second
 lower_kept Ul low0 high0 low1 high1 z0 z1 first second allowed out ties e = let fixed = ties z0 e first in fixed.1 ∙ sym fixed.2 ∙ second
 lower_kept Fr low0 high0 low1 high1 z0 z1 first second allowed out ties e = let none = allowed.0 in absurd (cc (none, e))
 
-upper_kept : (st : Status) (low0 high0 low1 high1 : Option ℚ) (z0 z1 : ℚ) → StandsAt st low0 high0 z0 → StandsAt st low1 high1 z1 → IsAllowed st low0 high0 → (st ≡ Bs → ⊥) →
+upper_kept : (st : Status) (low0 high0 low1 high1 : Option ℚ) (z0 z1 : ℚ) → StandsAt st low0 high0 z0 → StandsAt st low1 high1 z1 → IsAllowed st low0 high0 →
+    (st ≡ Bs → ⊥) →
     ((v : ℚ) → low0 ≡ Some v → high0 ≡ Some v → (w : ℚ) × (low1 ≡ Some w) × (high1 ≡ Some w)) → high0 ≡ Some z0 → high1 ≡ Some z1
 upper_kept Bs low0 high0 low1 high1 z0 z1 first second allowed out ties e = absurd (out refl)
 upper_kept Ul low0 high0 low1 high1 z0 z1 first second allowed out ties e = second
@@ -56,7 +59,8 @@ upper_kept Fr low0 high0 low1 high1 z0 z1 first second allowed out ties e = let 
 abbrev pub TiesLimits : (ℚ → LinearProgram) → Matrix → Type 0
 TiesLimits family a = (theta x : ℚ) (k : ℕ) → IsVariable a k → IsFixed (family theta) k → IsFixed (family x) k
 
-module _ (family : ℚ → LinearProgram) (a : Matrix) (sense : Sense) (matrix_is : (theta : ℚ) → (family theta).matrix ≡ a) (sense_is : (theta : ℚ) → (family theta).sense ≡ sense) (ties : TiesLimits family a)
+module _ (family : ℚ → LinearProgram) (a : Matrix) (sense : Sense) (matrix_is : (theta : ℚ) → (family theta).matrix ≡ a)
+    (sense_is : (theta : ℚ) → (family theta).sense ≡ sense) (ties : TiesLimits family a)
     (from max : ℚ) (s : List Status) (part : Part) (is : IsPart family from max s part) (truth : IsTruePart family max part) where
   abbrev z : ℚ → Vector
   z theta = along theta part.value part.value_rate
@@ -82,7 +86,8 @@ module _ (family : ℚ → LinearProgram) (a : Matrix) (sense : Sense) (matrix_i
 
     lower_at_both : (x : ℚ) → zero_ℚ <ℚ for_min sense (y theta k) → (lower_of (family theta) k ≡ Some (z theta k)) × (lower_of (family x) k ≡ Some (z x k))
     lower_at_both x positive =
-        let here = (truth.solved theta low high).certificate.at_lower k (there theta) (subst (λ (own : Sense). zero_ℚ <ℚ for_min own (y theta k)) (sym (sense_is theta)) positive) in (
+        let here = (truth.solved theta low high).certificate.at_lower k (there theta)
+        (subst (λ (own : Sense). zero_ℚ <ℚ for_min own (y theta k)) (sym (sense_is theta)) positive) in (
           here,
           lower_kept (status_of s k) (lower_of (family theta) k) (upper_of (family theta) k) (lower_of (family x) k) (upper_of (family x) k) (z theta k) (z x k)
               ((is.values theta).placed k (there theta)) ((is.values x).placed k (there x)) (optimal.is_basis.allowed k (there theta))
@@ -92,7 +97,8 @@ module _ (family : ℚ → LinearProgram) (a : Matrix) (sense : Sense) (matrix_i
 
     upper_at_both : (x : ℚ) → for_min sense (y theta k) <ℚ zero_ℚ → (upper_of (family theta) k ≡ Some (z theta k)) × (upper_of (family x) k ≡ Some (z x k))
     upper_at_both x negative =
-        let here = (truth.solved theta low high).certificate.at_upper k (there theta) (subst (λ (own : Sense). for_min own (y theta k) <ℚ zero_ℚ) (sym (sense_is theta)) negative) in (
+        let here = (truth.solved theta low high).certificate.at_upper k (there theta)
+        (subst (λ (own : Sense). for_min own (y theta k) <ℚ zero_ℚ) (sym (sense_is theta)) negative) in (
           here,
           upper_kept (status_of s k) (lower_of (family theta) k) (upper_of (family theta) k) (lower_of (family x) k) (upper_of (family x) k) (z theta k) (z x k)
               ((is.values theta).placed k (there theta)) ((is.values x).placed k (there x)) (optimal.is_basis.allowed k (there theta))

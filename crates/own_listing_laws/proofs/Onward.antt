@@ -53,20 +53,28 @@ report_closed (Parametric Paraobj chain) more = refl
 report_closed (Parametric Pararhs chain) more = refl
 
 -- where nothing is open, the answer that the listing gives is due
-asked : (w : Walker) (question : Question) (sheet : Sheet) (present : Present) (go : AnswerTo question → StatementOutcome) (j : Judged (AnswerTo question)) → open_question w question sheet go ≡ None →
-    judged checker_of_128_bits question sheet w.rest ≡ j → walk_move checker_of_128_bits w (asks question sheet present go) ≡ answered checker_of_128_bits w question sheet go j
+asked : (w : Walker) (question : Question) (sheet : Sheet) (present : Present) (go : AnswerTo question → StatementOutcome) (j : Judged (AnswerTo question)) →
+    open_question w question sheet go ≡ None →
+    judged checker_of_128_bits question sheet w.rest ≡ j →
+    walk_move checker_of_128_bits w (asks question sheet present go) ≡ answered checker_of_128_bits w question sheet go j
 asked w question sheet present go j none is =
-    ap (λ (o : Option Found). unless_found o (answered checker_of_128_bits w question sheet go (judged checker_of_128_bits question sheet w.rest))) none ∙ ap (answered checker_of_128_bits w question sheet go) is
+    ap (λ (o : Option Found). unless_found o (answered checker_of_128_bits w question sheet go (judged checker_of_128_bits question sheet w.rest))) none
+    ∙ ap (answered checker_of_128_bits w question sheet go) is
 
-verdict_passed : (w : Walker) (present : Present) (go : PathEnd → StatementOutcome) (solver : Solver) (sheet : Sheet) (s : Basis) (limit : Option ℕ) (bases : List Basis) (verdict : PathVerdict) (after : List ℕ) →
-    w.pending ≡ None → w.rest ≡ verdict_text solver verdict reports.Checked ++ after → IsSolvedBy solver sheet s limit (Reached bases verdict reports.Checked) → VerdictFits verdict → begins_table_line after ≡ false →
-    walk_move checker_of_128_bits w (asks (OfPath solver limit) sheet present go) ≡ follows (record (passed after 1 w) { pending = pending_after w.rest verdict reports.Checked }) (go (Reached [] verdict reports.Checked))
+verdict_passed : (w : Walker) (present : Present) (go : PathEnd → StatementOutcome) (solver : Solver) (sheet : Sheet) (s : Basis) (limit : Option ℕ)
+    (bases : List Basis) (verdict : PathVerdict) (after : List ℕ) →
+    w.pending ≡ None → w.rest ≡ verdict_text solver verdict reports.Checked ++ after → IsSolvedBy solver sheet s limit (Reached bases verdict reports.Checked) →
+    VerdictFits verdict → begins_table_line after ≡ false →
+    walk_move checker_of_128_bits w (asks (OfPath solver limit) sheet present go) ≡ follows
+    (record (passed after 1 w) { pending = pending_after w.rest verdict reports.Checked }) (go (Reached [] verdict reports.Checked))
 verdict_passed w present go solver sheet s limit bases verdict after settled text solved fits plain =
     asked w (OfPath solver limit) sheet present go _
-    (ap₂ (λ b (p : Option Pending). option_or (open_if b w) (pending_found p)) (ap is_open_stop text ∙ report_closed (Solved solver verdict reports.Checked) after) settled)
+    (ap₂ (λ b (p : Option Pending). option_or (open_if b w) (pending_found p))
+    (ap is_open_stop text ∙ report_closed (Solved solver verdict reports.Checked) after) settled)
     (ap (judged checker_of_128_bits (OfPath solver limit) sheet) text ∙ judged_right.verdict solver sheet s limit bases verdict after solved fits plain)
 
-module _ (w : Walker) (solver : Solver) (sheet : Sheet) (s : Basis) (limit : Option ℕ) (bases : List Basis) (steps : ℕ) (objective : ℚ) (lines : SolutionLines) (at : List ℕ)
+module _ (w : Walker) (solver : Solver) (sheet : Sheet) (s : Basis) (limit : Option ℕ) (bases : List Basis) (steps : ℕ) (objective : ℚ) (lines : SolutionLines)
+    (at : List ℕ)
     (is : IsShownChecked solver sheet s limit bases steps objective lines) (turn : WalkTurn) where
   abbrev shown_objective : ℚ
   shown_objective = point_of sheet lines sheet.lp.objective
@@ -80,9 +88,12 @@ module _ (w : Walker) (solver : Solver) (sheet : Sheet) (s : Basis) (limit : Opt
       ap (λ (p : Option Pending). settled checker_of_128_bits w p shown_objective turn) some
       ∙ ap (λ b. if b then turn else Finds (Wrong at)) (judged_right.settled solver sheet s limit bases steps objective lines at is)
 
-solution_passed : (w : Walker) (present : Present) (go : SolutionLines → StatementOutcome) (solver : Solver) (sheet : Sheet) (s : Basis) (limit : Option ℕ) (bases : List Basis) (steps : ℕ) (objective : ℚ) (lines : SolutionLines)
-    (at after : List ℕ) → (w.pending ≡ None) ⊎ (w.pending ≡ Some (record { rest = at; objective = objective; check = reports.Checked })) → w.rest ≡ solution_text Optimal lines ++ after →
-    IsShownChecked solver sheet s limit bases steps objective lines → walk_move checker_of_128_bits w (asks (OfSolution Optimal) sheet present go) ≡ follows (record (passed after 1 w) { pending = None }) (go lines)
+solution_passed : (w : Walker) (present : Present) (go : SolutionLines → StatementOutcome) (solver : Solver) (sheet : Sheet) (s : Basis) (limit : Option ℕ)
+    (bases : List Basis) (steps : ℕ) (objective : ℚ) (lines : SolutionLines)
+    (at after : List ℕ) → (w.pending ≡ None) ⊎ (w.pending ≡ Some (record { rest = at; objective = objective; check = reports.Checked })) →
+    w.rest ≡ solution_text Optimal lines ++ after →
+    IsShownChecked solver sheet s limit bases steps objective lines →
+    walk_move checker_of_128_bits w (asks (OfSolution Optimal) sheet present go) ≡ follows (record (passed after 1 w) { pending = None }) (go lines)
 solution_passed w present go solver sheet s limit bases steps objective lines at after waits text is =
     asked w (OfSolution Optimal) sheet present go _
     (ap (λ b. open_if b w) (ap is_open_stop text ∙ report_closed (Solution Optimal lines) after))
@@ -91,7 +102,8 @@ solution_passed w present go solver sheet s limit bases steps objective lines at
 
 -- ---- nothing is asked
 
-unmarked : (w : Walker) (pending : Option Pending) (mark : Option Mark) → (pending ≡ None) ⊎ (is_none mark ≡ false) → (if is_none mark then pending_found pending else None) ≡ None
+unmarked : (w : Walker) (pending : Option Pending) (mark : Option Mark) → (pending ≡ None) ⊎ (is_none mark ≡ false) →
+    (if is_none mark then pending_found pending else None) ≡ None
 unmarked w pending None (inl none) = ap pending_found none
 unmarked w pending None (inr stands) = absurd (cc stands)
 unmarked w pending (Some mark) kept = refl
@@ -104,7 +116,8 @@ module _ (w : Walker) (closed : is_open_stop w.rest ≡ false) where
   nothing_open (Goes (Prints report) after) kept = ap₂ (λ b (o : Option Found). option_or (open_if b w) o) closed (unmarked w w.pending after.mark kept)
   nothing_open (Goes (Punches report cards) after) kept = ap₂ (λ b (o : Option Found). option_or (open_if b w) o) closed (unmarked w w.pending after.mark kept)
 
-does_on : (C : Checker) (w : Walker) (outcome : StatementOutcome) (more : List ℕ) → (w.pending ≡ None) ⊎ KeepsMark outcome → w.rest ≡ gain_text (gain_of outcome) ++ more → is_open_stop w.rest ≡ false →
+does_on : (C : Checker) (w : Walker) (outcome : StatementOutcome) (more : List ℕ) → (w.pending ≡ None) ⊎ KeepsMark outcome →
+    w.rest ≡ gain_text (gain_of outcome) ++ more → is_open_stop w.rest ≡ false →
     walk_move C w (Does outcome) ≡ follows (passed more (length (printed_by (gain_of outcome))) w) outcome
 does_on C w outcome more kept text closed =
     ap (λ (o : Option Found). unless_found o (taken w outcome (left_after (gain_text (gain_of outcome)) w.rest))) (nothing_open w closed outcome kept)
@@ -114,22 +127,32 @@ both_parts : (a b : Bool) → (not a || b) ≡ false → (a ≡ true) × (b ≡ 
 both_parts true b e = (refl, e)
 both_parts false b e = absurd (cc e)
 
-selects_on : (C : Checker) (w : Walker) (problem : Problem ℕ) (choice : Choice) (move : StatementMove) → is_made problem choice ≡ true → walk_move C w (MayStop (InSelection problem choice) move) ≡ walk_move C w move
-selects_on C w problem choice move made = ap (λ b. unless_found (opened w move) (if not b || refuses_selection move then Finds (Unchecked w.rest) else due C w move)) made
+selects_on : (C : Checker) (w : Walker) (problem : Problem ℕ) (choice : Choice) (move : StatementMove) → is_made problem choice ≡ true →
+    walk_move C w (MayStop (InSelection problem choice) move) ≡ walk_move C w move
+selects_on C w problem choice move made =
+    ap (λ b. unless_found (opened w move) (if not b || refuses_selection move then Finds (Unchecked w.rest) else due C w move)) made
 
-settled_on : (C : Checker) (w : Walker) (card : ℕ) (move : StatementMove) (outcome : StatementOutcome) (more : List ℕ) → DecidesAlone card move outcome → refuses_selection move ≡ false → (w.pending ≡ None) ⊎ KeepsMark outcome →
-    w.rest ≡ gain_text (gain_of outcome) ++ more → is_open_stop w.rest ≡ false → walk_move C w move ≡ follows (passed more (length (printed_by (gain_of outcome))) w) outcome
-settled_on C w card (Does own) outcome more settled made kept text closed = ap (λ (o : StatementOutcome). walk_move C w (Does o)) (sym settled) ∙ does_on C w outcome more kept text closed
+settled_on : (C : Checker) (w : Walker) (card : ℕ) (move : StatementMove) (outcome : StatementOutcome) (more : List ℕ) → DecidesAlone card move outcome →
+    refuses_selection move ≡ false → (w.pending ≡ None) ⊎ KeepsMark outcome →
+    w.rest ≡ gain_text (gain_of outcome) ++ more → is_open_stop w.rest ≡ false →
+    walk_move C w move ≡ follows (passed more (length (printed_by (gain_of outcome))) w) outcome
+settled_on C w card (Does own) outcome more settled made kept text closed =
+    ap (λ (o : StatementOutcome). walk_move C w (Does o)) (sym settled) ∙ does_on C w outcome more kept text closed
 settled_on C w card (MayStop (InSelection problem choice) move) outcome more settled made kept text closed =
     let parts = both_parts (is_made problem choice) (refuses_selection move) made in
     selects_on C w problem choice move parts.0 ∙ settled_on C w card move outcome more settled parts.1 kept text closed
-settled_on C w card (MayStop (InAnswer question sheet bases) move) outcome more settled made kept text closed = settled_on C w card move outcome more settled made kept text closed
+settled_on C w card (MayStop (InAnswer question sheet bases) move) outcome more settled made kept text closed =
+    settled_on C w card move outcome more settled made kept text closed
 settled_on C w card (Asks question sheet s go) outcome more settled made kept text closed = absurd settled
 
-ends_attested : (w : Walker) (ending : Ending) → w.pending ≡ None → w.rest ≡ ending_text ending → is_open_stop w.rest ≡ false → closes w ending ≡ Finds (Attested w.reports)
+ends_attested : (w : Walker) (ending : Ending) → w.pending ≡ None → w.rest ≡ ending_text ending → is_open_stop w.rest ≡ false →
+    closes w ending ≡ Finds (Attested w.reports)
 ends_attested w ending none text closed =
-    ap (λ (o : Option Found). unless_found o (Finds (ended w (left_after (ending_text ending) w.rest)))) (ap₂ (λ b (p : Option Pending). option_or (open_if b w) (pending_found p)) closed none)
-    ∙ ap (λ (left : Option (List ℕ)). Finds (ended w left)) (ap (left_after (ending_text ending)) (text ∙ sym (append-nil (ending_text ending))) ∙ stands (ending_text ending) [])
+    ap (λ (o : Option Found). unless_found o (Finds (ended w (left_after (ending_text ending) w.rest))))
+    (ap₂ (λ b (p : Option Pending). option_or (open_if b w) (pending_found p)) closed none)
+    ∙ ap (λ (left : Option (List ℕ)). Finds (ended w left))
+    (ap (left_after (ending_text ending)) (text ∙ sym (append-nil (ending_text ending))) ∙ stands (ending_text ending) [])
 
 pub walks_on : WalksOn
-walks_on = record { report = report_closed; verdict = verdict_passed; solution = solution_passed; statement = settled_on; selects = selects_on; end = ends_attested }
+walks_on =
+    record { report = report_closed; verdict = verdict_passed; solution = solution_passed; statement = settled_on; selects = selects_on; end = ends_attested }

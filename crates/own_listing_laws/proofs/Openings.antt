@@ -49,7 +49,8 @@ never_moving sheet theta by (Some limit) = never_sum limit (record { left = thet
 pub never_making : (sheet : Sheet) (changing : Changing) (theta : ℚ) → NeverFails (making_steps sheet changing theta)
 never_making sheet (Row name) theta = never_none
 never_making sheet (Set name) theta = never_each both 1 sheet.lp.rows (λ i low high.
-    never-append (moving_steps sheet theta (by i) (lower_of sheet.lp i)) (moving_steps sheet theta (by i) (upper_of sheet.lp i)) (never_moving sheet theta (by i) (lower_of sheet.lp i)) (never_moving sheet theta (by i) (upper_of sheet.lp i)))
+    never-append (moving_steps sheet theta (by i) (lower_of sheet.lp i)) (moving_steps sheet theta (by i) (upper_of sheet.lp i))
+    (never_moving sheet theta (by i) (lower_of sheet.lp i)) (never_moving sheet theta (by i) (upper_of sheet.lp i)))
   where
     by : ℕ → ℚ
     by i = value_at (shifts_of sheet.problem name) i
@@ -60,17 +61,21 @@ never_making sheet (Set name) theta = never_each both 1 sheet.lp.rows (λ i low 
 -- ---- the verdict of an opening
 
 -- the linear program at a value has the same variables
-same_lines : (sheet : Sheet) (changing : Changing) (theta : ℚ) (verdict : PathVerdict) → IsPrinted (sheet_at sheet changing theta) verdict → IsPrinted sheet verdict
+same_lines : (sheet : Sheet) (changing : Changing) (theta : ℚ) (verdict : PathVerdict) → IsPrinted (sheet_at sheet changing theta) verdict →
+    IsPrinted sheet verdict
 same_lines sheet (Row name) theta (OptimalAt steps objective) printed = printed
 same_lines sheet (Row name) theta (CrossedAt k) printed = printed
 same_lines sheet (Row name) theta (InfeasibleBy steps lines) printed = record { small = printed.small; ray = printed.ray; are_lines = printed.are_lines }
-same_lines sheet (Row name) theta (UnboundedBy steps objective lines) printed = record { small = printed.small; point = printed.point; direction = printed.direction; are_lines = printed.are_lines }
+same_lines sheet (Row name) theta (UnboundedBy steps objective lines) printed =
+    record { small = printed.small; point = printed.point; direction = printed.direction; are_lines = printed.are_lines }
 same_lines sheet (Set name) theta (OptimalAt steps objective) printed = printed
 same_lines sheet (Set name) theta (CrossedAt k) printed = printed
 same_lines sheet (Set name) theta (InfeasibleBy steps lines) printed = record { small = printed.small; ray = printed.ray; are_lines = printed.are_lines }
-same_lines sheet (Set name) theta (UnboundedBy steps objective lines) printed = record { small = printed.small; point = printed.point; direction = printed.direction; are_lines = printed.are_lines }
+same_lines sheet (Set name) theta (UnboundedBy steps objective lines) printed =
+    record { small = printed.small; point = printed.point; direction = printed.direction; are_lines = printed.are_lines }
 
-failure_readable : (sheet : Sheet) (changing : Changing) (n : ℕ) (ending : PathEnding) → IsFailure ending → IsReadable (parametric_solver changing) (verdicts.verdict_of sheet n ending)
+failure_readable : (sheet : Sheet) (changing : Changing) (n : ℕ) (ending : PathEnding) → IsFailure ending →
+    IsReadable (parametric_solver changing) (verdicts.verdict_of sheet n ending)
 failure_readable sheet changing n (EndsOptimal z y) fails = absurd fails
 failure_readable sheet (Row name) n (EndsCrossed k) fails = tt
 failure_readable sheet (Row name) n (EndsInfeasible w) fails = tt
@@ -86,13 +91,17 @@ no_from rest left (CrossedAt k) e = begin_otherwise 1 _ _ refl e
 no_from rest left (InfeasibleBy steps lines) e = begin_otherwise 1 _ _ refl e
 no_from rest left (UnboundedBy steps objective lines) e = begin_otherwise 1 _ _ refl e
 
-as_head : (solver from change left : List ℕ) → (solver ++ (codes " FROM " ++ (from ++ change))) ++ left ≡ (solver ++ codes " ") ++ (codes "FROM " ++ (from ++ (change ++ left)))
+as_head : (solver from change left : List ℕ) →
+    (solver ++ (codes " FROM " ++ (from ++ change))) ++ left ≡ (solver ++ codes " ") ++ (codes "FROM " ++ (from ++ (change ++ left)))
 as_head solver from change left = simp append_assoc
 
-as_verdict : (solver head check lines more : List ℕ) → (solver ++ (codes " " ++ (head ++ (codes " " ++ (check ++ (codes "\n" ++ (lines ++ []))))))) ++ more ≡ (solver ++ codes " ") ++ (head ++ (codes " " ++ (check ++ (codes "\n" ++ (lines ++ more)))))
+as_verdict : (solver head check lines more : List ℕ) →
+    (solver ++ (codes " " ++ (head ++ (codes " " ++ (check ++ (codes "\n" ++ (lines ++ []))))))) ++ more ≡ (solver ++ codes " ") ++
+    (head ++ (codes " " ++ (check ++ (codes "\n" ++ (lines ++ more)))))
 as_verdict solver head check lines more = simp (append_assoc, append-nil)
 
-no_chain : (parametric_run : ParametricRun) (verdict : PathVerdict) (check : Check) (more : List ℕ) → left_after (parametric_run_head parametric_run) (verdict_text (parametric_solver parametric_run.changing) verdict check ++ more) ≡ None
+no_chain : (parametric_run : ParametricRun) (verdict : PathVerdict) (check : Check) (more : List ℕ) →
+    left_after (parametric_run_head parametric_run) (verdict_text (parametric_solver parametric_run.changing) verdict check ++ more) ≡ None
 no_chain parametric_run verdict check more = by (left_after (parametric_run_head parametric_run) text) refl
   where
     solver : List ℕ
@@ -108,11 +117,13 @@ no_chain parametric_run verdict check more = by (left_after (parametric_run_head
         let after = codes " " ++ (check_text check ++ (codes "\n" ++ (table_text (verdict_lines verdict) ++ more))) in
         absurd (no_from after (rational_text parametric_run.from ++ (change ++ left)) verdict
         (append_cancel_left (solver ++ codes " ") (codes "FROM " ++ (rational_text parametric_run.from ++ (change ++ left))) (verdict_head verdict ++ after)
-        (sym (as_head solver (rational_text parametric_run.from) change left) ∙ sym (is_text (parametric_run_head parametric_run) text left e) ∙ as_verdict solver (verdict_head verdict) (check_text check) (table_text (verdict_lines verdict)) more)))
+        (sym (as_head solver (rational_text parametric_run.from) change left) ∙ sym (is_text (parametric_run_head parametric_run) text left e)
+        ∙ as_verdict solver (verdict_head verdict) (check_text check) (table_text (verdict_lines verdict)) more)))
 
 -- ---- the question of a parametric run
 
-module _ (w : Walker) (s : State) (opening : Basis) (steps : List Basis) (limits : steps_allowed s.cells ≤ max_count) (card : ℕ) (parametric_run : ParametricRun) (present : Present) (lp : LinearProgram) where
+module _ (w : Walker) (s : State) (opening : Basis) (steps : List Basis) (limits : steps_allowed s.cells ≤ max_count) (card : ℕ)
+    (parametric_run : ParametricRun) (present : Present) (lp : LinearProgram) where
   abbrev sheet : Sheet
   sheet = record { problem = present.problem; lp = lp }
 
@@ -135,12 +146,15 @@ module _ (w : Walker) (s : State) (opening : Basis) (steps : List Basis) (limits
   question = OfParametricRun parametric_run
 
   abbrev pub ParametricRunLands : ParametricRunEnd → List ℕ → Type 0
-  ParametricRunLands end more = IsDue w (own end) more → Lands (own end) more (answered checker_of_128_bits w question sheet go (judged checker_of_128_bits question sheet w.rest))
+  ParametricRunLands end more =
+      IsDue w (own end) more → Lands (own end) more (answered checker_of_128_bits w question sheet go (judged checker_of_128_bits question sheet w.rest))
 
-  opening_lands : (bases : List Basis) (verdict : PathVerdict) (check : Check) (more : List ℕ) → FailsToOpen sheet (present_basis present) parametric_run bases verdict check → ParametricRunLands (Opening bases verdict check) more
+  opening_lands : (bases : List Basis) (verdict : PathVerdict) (check : Check) (more : List ℕ) →
+      FailsToOpen sheet (present_basis present) parametric_run bases verdict check → ParametricRunLands (Opening bases verdict check) more
   opening_lands bases verdict check more failed given =
       subst (λ (o : Option (List ℕ)). LandsSo (parametric_run_in checker_of_128_bits sheet parametric_run w.rest o)) (sym none)
-      (subst (λ (parsed : Parsed Claim). LandsSo (judged_map f (tested test parsed))) (sym read) (judged_so (test (verdict, check)) (verdict, check) more (λ j. LandsSo (judged_map f j)) passes (λ checked. right) tt))
+      (subst (λ (parsed : Parsed Claim). LandsSo (judged_map f (tested test parsed))) (sym read)
+      (judged_so (test (verdict, check)) (verdict, check) more (λ j. LandsSo (judged_map f j)) passes (λ checked. right) tt))
     where
       f : Claim → ParametricRunEnd
       f claim = Opening [] claim.0 claim.1
@@ -149,7 +163,8 @@ module _ (w : Walker) (s : State) (opening : Basis) (steps : List Basis) (limits
       first = sheet_at sheet parametric_run.changing parametric_run.from
 
       test : Claim → Verdict
-      test claim = in_turn (verdict_of (making_steps sheet parametric_run.changing parametric_run.from) ∷ verdict_test checker_of_128_bits first claim.0 claim.1 ∷ [])
+      test claim =
+          in_turn (verdict_of (making_steps sheet parametric_run.changing parametric_run.from) ∷ verdict_test checker_of_128_bits first claim.0 claim.1 ∷ [])
 
       after : State
       after = record (counted s) { setup = Some (gone_through bases present); mark = None }
@@ -167,41 +182,60 @@ module _ (w : Walker) (s : State) (opening : Basis) (steps : List Basis) (limits
       there = last_of (present_basis present) bases
 
       none : left_after (parametric_run_head parametric_run) w.rest ≡ None
-      none = ap (left_after (parametric_run_head parametric_run)) (given.text ∙ ap (λ (g : Gain). gain_text g ++ more) gain) ∙ no_chain parametric_run verdict check more
+      none =
+          ap (left_after (parametric_run_head parametric_run)) (given.text ∙ ap (λ (g : Gain). gain_text g ++ more) gain)
+          ∙ no_chain parametric_run verdict check more
 
       of : IsOf first.lp there failed.opens.opens.ends.tableau failed.ending
       of = end_is first.lp there failed.opens.opens.ends.tableau failed.ending failed.opens.opens.ends.turns
 
       readable : IsReadable (parametric_solver parametric_run.changing) verdict
-      readable = subst (IsReadable (parametric_solver parametric_run.changing)) (sym failed.is_verdict.is_verdict) (failure_readable first parametric_run.changing (length bases) failed.ending failed.opens.is_failure)
+      readable =
+          subst (IsReadable (parametric_solver parametric_run.changing)) (sym failed.is_verdict.is_verdict)
+          (failure_readable first parametric_run.changing (length bases) failed.ending failed.opens.is_failure)
 
       printed : IsPrinted sheet verdict
-      printed = same_lines sheet parametric_run.changing parametric_run.from verdict (verdict_printed first there failed.opens.opens.ends.tableau (length bases) failed.ending verdict of failed.is_verdict.is_verdict)
+      printed =
+          same_lines sheet parametric_run.changing parametric_run.from verdict
+          (verdict_printed first there failed.opens.opens.ends.tableau (length bases) failed.ending verdict of failed.is_verdict.is_verdict)
 
       read : verdict_in (fraction_in checker_of_128_bits) sheet (parametric_solver parametric_run.changing) w.rest ≡ Some ((verdict, check), more)
       read =
-          ap (verdict_in (fraction_in checker_of_128_bits) sheet (parametric_solver parametric_run.changing)) (given.text ∙ ap (λ (g : Gain). gain_text g ++ more) gain)
+          ap (verdict_in (fraction_in checker_of_128_bits) sheet (parametric_solver parametric_run.changing))
+          (given.text ∙ ap (λ (g : Gain). gain_text g ++ more) gain)
           ∙ verdict_read sheet check fits.1 more (parametric_solver parametric_run.changing) verdict readable printed fits.0 given.plain
 
       passes : Passes (test (verdict, check))
-      passes = (pass_then (verdict_of (making_steps sheet parametric_run.changing parametric_run.from)) _ (passes_steps _ (never_making sheet parametric_run.changing parametric_run.from))
-          (pass_then (verdict_test checker_of_128_bits first verdict check) [] (verdict_passes first there failed.opens.opens.ends.tableau (length bases) failed.ending verdict check of failed.is_verdict) pass_none)).passes
+      passes =
+          (pass_then (verdict_of (making_steps sheet parametric_run.changing parametric_run.from)) _
+          (passes_steps _ (never_making sheet parametric_run.changing parametric_run.from))
+          (pass_then (verdict_test checker_of_128_bits first verdict check) []
+          (verdict_passes first there failed.opens.opens.ends.tableau (length bases) failed.ending verdict check of failed.is_verdict) pass_none)).passes
 
       right : LandsSo (Right (Opening [] verdict check) more)
       right = follows_lands (record (passed more 1 w) { pending = None }) (go (Opening [] verdict check)) (own (Opening bases verdict check)) more
-          (verdict_alike (Solved (parametric_solver parametric_run.changing) verdict check) after opening (steps ++ []) limits (mark_of verdict)) refl given.ends (verdict_waits None (Solved (parametric_solver parametric_run.changing) verdict check) after tt (mark_of verdict))
+          (verdict_alike (Solved (parametric_solver parametric_run.changing) verdict check) after opening (steps ++ []) limits
+          (mark_of verdict)) refl given.ends
+          (verdict_waits None (Solved (parametric_solver parametric_run.changing) verdict check) after tt (mark_of verdict))
 
-  pub parametric_run_followed : ((bases : List Basis) (intervals : List ParametricInterval) (end : ChainEnd) (more : List ℕ) → IsChained sheet (present_basis present) parametric_run bases intervals end → ParametricRunLands (Chained bases intervals end) more) →
+  pub parametric_run_followed :
+      ((bases : List Basis) (intervals : List ParametricInterval) (end : ChainEnd) (more : List ℕ) →
+      IsChained sheet (present_basis present) parametric_run bases intervals end → ParametricRunLands (Chained bases intervals end) more) →
       IsFollowed w card (asks question sheet set_up go) (asks question sheet present own)
   parametric_run_followed chained =
-      may_stop w card (Asks question sheet (present_basis set_up) go) (Asks question sheet (present_basis present) own) (InAnswer question sheet (path_of set_up)) (InAnswer question sheet (path_of present)) tt
+      may_stop w card (Asks question sheet (present_basis set_up) go) (Asks question sheet (present_basis present) own)
+      (InAnswer question sheet (path_of set_up)) (InAnswer question sheet (path_of present)) tt
       (asked_lands w card question sheet (present_basis set_up) (present_basis present) go own lands)
     where
-      lands : card ≤ max_count → (answer : ParametricRunEnd) (more : List ℕ) → IsRight linear_programming question sheet (present_basis present) answer → IsDue w (own answer) more → open_question w question sheet go ≡ None →
+      lands : card ≤ max_count → (answer : ParametricRunEnd) (more : List ℕ) → IsRight linear_programming question sheet (present_basis present) answer →
+          IsDue w (own answer) more → open_question w question sheet go ≡ None →
           Lands (own answer) more (answered checker_of_128_bits w question sheet go (judged checker_of_128_bits question sheet w.rest))
       lands small (Opening bases verdict check) more right given none =
-          opening_lands bases verdict check more (knows_linear_programming.parametric_runs sheet (present_basis present) parametric_run (Opening bases verdict check) right) given
+          opening_lands bases verdict check more
+          (knows_linear_programming.parametric_runs sheet (present_basis present) parametric_run (Opening bases verdict check) right) given
       lands small (Chained bases intervals end) more right given none =
-          chained bases intervals end more (knows_linear_programming.parametric_runs sheet (present_basis present) parametric_run (Chained bases intervals end) right) given
+          chained bases intervals end more
+          (knows_linear_programming.parametric_runs sheet (present_basis present) parametric_run (Chained bases intervals end) right) given
       lands small ParametricRunLimit more right given none =
-          absurd (never_stopped w card question sheet (present_basis set_up) (present_basis present) go own none (ap is_open_stop (given.text ∙ given.ends) ∙ open_limit _ limits small))
+          absurd (never_stopped w card question sheet (present_basis set_up) (present_basis present) go own none
+          (ap is_open_stop (given.text ∙ given.ends) ∙ open_limit _ limits small))

@@ -56,7 +56,8 @@ module _ (w : Walker) (s : State) (opening : Basis) (steps : List Basis) (card :
 
   pub ranges_followed : IsFollowed w card (asks OfRanges sheet set_up (ranges_at walked)) (asks OfRanges sheet present (ranges_at s))
   ranges_followed =
-      may_stop w card (Asks OfRanges sheet (present_basis set_up) (ranges_at walked)) (Asks OfRanges sheet (present_basis present) (ranges_at s)) (InAnswer OfRanges sheet (path_of set_up)) (InAnswer OfRanges sheet (path_of present)) tt
+      may_stop w card (Asks OfRanges sheet (present_basis set_up) (ranges_at walked)) (Asks OfRanges sheet (present_basis present) (ranges_at s))
+      (InAnswer OfRanges sheet (path_of set_up)) (InAnswer OfRanges sheet (path_of present)) tt
       (asked_lands w card OfRanges sheet (present_basis set_up) (present_basis present) (ranges_at walked) (ranges_at s)
       (λ small answer more right given none. absurd (alone_open w (is_ranges w.rest) (ap is_ranges given.text ∙ ranges_stand answer more) none)))
 
@@ -69,7 +70,9 @@ module _ (w : Walker) (s : State) (opening : Basis) (steps : List Basis) (card :
   pub punch_followed : IsFollowed w card (Asks OfPunch sheet (present_basis set_up) (punch_at walked)) (Asks OfPunch sheet (present_basis present) (punch_at s))
   punch_followed =
       asked_lands w card OfPunch sheet (present_basis set_up) (present_basis present) (punch_at walked) (punch_at s) (λ small answer more right given none.
-      absurd (alone_open w (is_punched present.problem.name w.rest) (ap (is_punched present.problem.name) given.text ∙ punched_stands present.problem.name (min (length answer) max_counted) more (least_count (length answer))) none))
+      absurd (alone_open w (is_punched present.problem.name w.rest)
+      (ap (is_punched present.problem.name) given.text
+      ∙ punched_stands present.problem.name (min (length answer) max_counted) more (least_count (length answer))) none))
 
   module _ (t : Basis) (taken : List Card × List (List Card)) (few : size lp.matrix ≤ max_count) where
     abbrev install_go : InstallEnd → StatementOutcome
@@ -80,7 +83,8 @@ module _ (w : Walker) (s : State) (opening : Basis) (steps : List Basis) (card :
 
     pub install_followed : IsFollowed w card (asks (OfInstall t) sheet set_up install_go) (asks (OfInstall t) sheet present install_own)
     install_followed =
-        may_stop w card (Asks (OfInstall t) sheet (present_basis set_up) install_go) (Asks (OfInstall t) sheet (present_basis present) install_own) (InAnswer (OfInstall t) sheet (path_of set_up)) (InAnswer (OfInstall t) sheet (path_of present)) tt
+        may_stop w card (Asks (OfInstall t) sheet (present_basis set_up) install_go) (Asks (OfInstall t) sheet (present_basis present) install_own)
+        (InAnswer (OfInstall t) sheet (path_of set_up)) (InAnswer (OfInstall t) sheet (path_of present)) tt
         (asked_lands w card (OfInstall t) sheet (present_basis set_up) (present_basis present) install_go install_own lands)
       where
         few_basic : length (basic_columns lp t) ≤ max_count
@@ -92,9 +96,13 @@ module _ (w : Walker) (s : State) (opening : Basis) (steps : List Basis) (card :
         name : Name
         name = deck_name (live taken.0)
 
-        lands : card ≤ max_count → (answer : InstallEnd) (more : List ℕ) → IsRight linear_programming (OfInstall t) sheet (present_basis present) answer → IsDue w (install_own answer) more → open_question w (OfInstall t) sheet install_go ≡ None →
-            Lands (install_own answer) more (answered checker_of_128_bits w (OfInstall t) sheet install_go (judged checker_of_128_bits (OfInstall t) sheet w.rest))
+        lands : card ≤ max_count → (answer : InstallEnd) (more : List ℕ) → IsRight linear_programming (OfInstall t) sheet (present_basis present) answer →
+            IsDue w (install_own answer) more → open_question w (OfInstall t) sheet install_go ≡ None →
+            Lands (install_own answer) more
+            (answered checker_of_128_bits w (OfInstall t) sheet install_go (judged checker_of_128_bits (OfInstall t) sheet w.rest))
         lands small Installed more right given none =
-            absurd (stands_open w (is_inserted name w.rest) (open_pending w) (ap (is_inserted name) given.text ∙ inserted_stands name (length (basic_columns lp t)) more few_basic) none)
+            absurd (stands_open w (is_inserted name w.rest) (open_pending w)
+            (ap (is_inserted name) given.text ∙ inserted_stands name (length (basic_columns lp t)) more few_basic) none)
         lands small (DependsBy lines) more right given none =
-            absurd (never_stopped w card (OfInstall t) sheet (present_basis set_up) (present_basis present) install_go install_own none (ap is_open_stop (given.text ∙ given.ends) ∙ open_singular _ small))
+            absurd (never_stopped w card (OfInstall t) sheet (present_basis set_up) (present_basis present) install_go install_own none
+            (ap is_open_stop (given.text ∙ given.ends) ∙ open_singular _ small))

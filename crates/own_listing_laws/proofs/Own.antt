@@ -89,27 +89,38 @@ module _ (program : Program) where
   -- what a run still reports from a state on, and how it ends
   data RunsOn : State → List Report → Ending → Type 0 where
     over : (s : State) (ending : Ending) → IsKnown s → IsOver linear_programming_of_128_bits program s ending → RunsOn s [] ending
-    ends : (s : State) (gain : Gain) (ending : Ending) → IsKnown s → Step linear_programming_of_128_bits program s (Ends gain ending) → RunsOn s (printed_by gain) ending
-    goes : (s : State) (gain : Gain) (after : State) (reports : List Report) (ending : Ending) → IsKnown s → Step linear_programming_of_128_bits program s (Goes gain after) → RunsOn after reports ending →
+    ends : (s : State) (gain : Gain) (ending : Ending) → IsKnown s → Step linear_programming_of_128_bits program s (Ends gain ending) →
+        RunsOn s (printed_by gain) ending
+    goes : (s : State) (gain : Gain) (after : State) (reports : List Report) (ending : Ending) → IsKnown s →
+        Step linear_programming_of_128_bits program s (Goes gain after) → RunsOn after reports ending →
         RunsOn s (printed_by gain ++ reports) ending
 
   module _ (bytes : List ℕ) (is_program : IsProgramOf bytes program) where
-    known_at : (reports : List Report) (cards : List (List ℕ)) (s : State) → Reaches linear_programming_of_128_bits program (job_decks program bytes) reports cards s → IsKnown s
+    known_at : (reports : List Report) (cards : List (List ℕ)) (s : State) →
+        Reaches linear_programming_of_128_bits program (job_decks program bytes) reports cards s → IsKnown s
     known_at reports cards s reaches = record {
-      lawful = has_problem linear_programming knows_linear_programming bytes program is_program reports cards s (reaches_too program (job_decks program bytes) reports cards s reaches);
-      knows = known linear_programming knows_linear_programming bytes program is_program reports cards s (reaches_too program (job_decks program bytes) reports cards s reaches);
+      lawful =
+          has_problem linear_programming knows_linear_programming bytes program is_program reports cards s
+          (reaches_too program (job_decks program bytes) reports cards s reaches);
+      knows =
+          known linear_programming knows_linear_programming bytes program is_program reports cards s
+          (reaches_too program (job_decks program bytes) reports cards s reaches);
     }
 
-    from_start : (reports : List Report) (cards : List (List ℕ)) (s : State) (more : List Report) (ending : Ending) → Reaches linear_programming_of_128_bits program (job_decks program bytes) reports cards s →
+    from_start : (reports : List Report) (cards : List (List ℕ)) (s : State) (more : List Report) (ending : Ending) →
+        Reaches linear_programming_of_128_bits program (job_decks program bytes) reports cards s →
         RunsOn s more ending → RunsOn (start (job_decks program bytes)) (reports ++ more) ending
     from_start _ _ _ more ending begun rest = rest
     from_start _ _ s more ending (stepped {reports} {cards} {state} gain after before step) rest =
         subst (λ (rs : List Report). RunsOn (start (job_decks program bytes)) rs ending) (sym (append_assoc reports (printed_by gain) more))
-        (from_start reports cards state (printed_by gain ++ more) ending before (goes state gain after more ending (known_at reports cards state before) step rest))
+        (from_start reports cards state (printed_by gain ++ more) ending before
+        (goes state gain after more ending (known_at reports cards state before) step rest))
 
-    whole_run : (reports : List Report) (cards : List (List ℕ)) (ending : Ending) → IsRun linear_programming_of_128_bits program (job_decks program bytes) reports cards ending → RunsOn (start (job_decks program bytes)) reports ending
+    whole_run : (reports : List Report) (cards : List (List ℕ)) (ending : Ending) →
+        IsRun linear_programming_of_128_bits program (job_decks program bytes) reports cards ending → RunsOn (start (job_decks program bytes)) reports ending
     whole_run _ _ ending (is_over {reports} {cards} {state} before is) =
-        subst (λ (rs : List Report). RunsOn (start (job_decks program bytes)) rs ending) (append-nil reports) (from_start reports cards state [] ending before (over state ending (known_at reports cards state before) is))
+        subst (λ (rs : List Report). RunsOn (start (job_decks program bytes)) rs ending) (append-nil reports)
+        (from_start reports cards state [] ending before (over state ending (known_at reports cards state before) is))
     whole_run _ _ ending (is_ended {reports} {cards} {state} gain before step) =
         from_start reports cards state (printed_by gain) ending before (ends state gain ending (known_at reports cards state before) step)
 
@@ -121,7 +132,8 @@ text_of_gain (Prints report) = append-nil (report_text report)
 text_of_gain (Punches report cards) = append-nil (report_text report)
 
 module _ (program : Program) (small : AreSmall program) where
-  small_at : (statement : Statement ℕ) (place : ℕ) → slice_get program.statements place ≡ Some statement → (statement.card ≤ max_count) × MovesSmall statement.verb
+  small_at : (statement : Statement ℕ) (place : ℕ) → slice_get program.statements place ≡ Some statement →
+      (statement.card ≤ max_count) × MovesSmall statement.verb
   small_at statement place is = statement_at program place statement small is
 
   -- the walk stands where the run does
@@ -149,16 +161,20 @@ module _ (program : Program) (small : AreSmall program) where
       executed_is : w.state.executed ≡ s.executed
       executed_is = ap (λ (st : State). st.executed) like.is
 
-      over_after : (ending : Ending) → IsOver linear_programming_of_128_bits program s ending → w.rest ≡ ending_text ending → StandsAfter (turn checker_of_128_bits program w)
+      over_after : (ending : Ending) → IsOver linear_programming_of_128_bits program s ending → w.rest ≡ ending_text ending →
+          StandsAfter (turn checker_of_128_bits program w)
       over_after _ (at_end past) rest =
-          subst StandsAfter (sym (turn_at_end program w (ap (λ n. nat_lt (length program.statements) n) position_is ∙ lt-ltb (length program.statements) s.position past)))
+          subst StandsAfter
+          (sym (turn_at_end program w (ap (λ n. nat_lt (length program.statements) n) position_is ∙ lt-ltb (length program.statements) s.position past)))
           (after_right (closes w (Ended 0)) (closes_right w (Ended 0) rest))
       over_after _ (at_limit within limit) rest =
-          subst StandsAfter (sym (turn_at_limit program w (ap (λ n. nat_lt (length program.statements) n) position_is ∙ le-ltb (length program.statements) s.position within)
+          subst StandsAfter
+          (sym (turn_at_limit program w (ap (λ n. nat_lt (length program.statements) n) position_is ∙ le-ltb (length program.statements) s.position within)
           (ap (λ n. nat_lt n max_executed) executed_is ∙ le-ltb s.executed max_executed limit)))
           (after_right (closes w StatementLimit) (closes_right w StatementLimit rest))
 
-      step_turn : (outcome : StatementOutcome) (step : Step linear_programming_of_128_bits program s outcome) → turn checker_of_128_bits program w ≡ walk_move checker_of_128_bits w (verb_move step.statement.verb step.statement.card (counted w.state))
+      step_turn : (outcome : StatementOutcome) (step : Step linear_programming_of_128_bits program s outcome) →
+          turn checker_of_128_bits program w ≡ walk_move checker_of_128_bits w (verb_move step.statement.verb step.statement.card (counted w.state))
       step_turn outcome step =
           let within : s.position - 1 < length program.statements = slice_get_within program.statements (s.position - 1) step.statement step.is_at_position in
           turn_at_statement program w step.statement
@@ -166,34 +182,43 @@ module _ (program : Program) (small : AreSmall program) where
           (ap (λ n. nat_lt n max_executed) executed_is ∙ lt-ltb s.executed max_executed step.is_within_limit)
           (ap (λ n. slice_get program.statements (n - 1)) position_is ∙ step.is_at_position)
 
-      step_lands : (outcome : StatementOutcome) (more : List ℕ) → Step linear_programming_of_128_bits program s outcome → IsDue w outcome more → Lands outcome more (turn checker_of_128_bits program w)
+      step_lands : (outcome : StatementOutcome) (more : List ℕ) → Step linear_programming_of_128_bits program s outcome → IsDue w outcome more →
+          Lands outcome more (turn checker_of_128_bits program w)
       step_lands outcome more step due =
           subst (Lands outcome more) (sym (step_turn outcome step))
-          (subst (λ (st : State). Lands outcome more (walk_move checker_of_128_bits w (verb_move step.statement.verb step.statement.card (counted st)))) (sym like.is)
-          ((verb_matched w s like.opening like.steps like.limits waits is_known.lawful is_known.knows step.statement.verb step.statement.card (small_at step.statement (s.position - 1) step.is_at_position).0 (small_at step.statement (s.position - 1) step.is_at_position).1).by outcome more step.gives due))
+          (subst (λ (st : State). Lands outcome more (walk_move checker_of_128_bits w (verb_move step.statement.verb step.statement.card (counted st))))
+          (sym like.is)
+          ((verb_matched w s like.opening like.steps like.limits waits is_known.lawful is_known.knows step.statement.verb step.statement.card
+          (small_at step.statement (s.position - 1) step.is_at_position).0
+          (small_at step.statement (s.position - 1) step.is_at_position).1).by outcome more step.gives due))
 
   ended_after : (w : Walker) (gain : Gain) (ending : Ending) (more : List ℕ) (t : WalkTurn) → Lands (Ends gain ending) more t → StandsAfter t
   ended_after w gain ending more (Walks v) lands = absurd lands
   ended_after w gain ending more (Finds found) lands = lands
 
-  gone_after : (gain : Gain) (after : State) (reports : List Report) (ending : Ending) → RunsOn program after reports ending → (t : WalkTurn) → Lands (Goes gain after) (listing reports ending) t → StandsAfter t
+  gone_after : (gain : Gain) (after : State) (reports : List Report) (ending : Ending) → RunsOn program after reports ending → (t : WalkTurn) →
+      Lands (Goes gain after) (listing reports ending) t → StandsAfter t
   gone_after gain after reports ending runs (Walks v) lands = record { state = after; reports = reports; ending = ending; runs = runs; pace = lands }
   gone_after gain after reports ending runs (Finds found) lands = lands
 
-  turn_stands : (w : Walker) (s : State) (reports : List Report) (ending : Ending) → RunsOn program s reports ending → KeepsPace w s (listing reports ending) → StandsAfter (turn checker_of_128_bits program w)
+  turn_stands : (w : Walker) (s : State) (reports : List Report) (ending : Ending) → RunsOn program s reports ending → KeepsPace w s (listing reports ending) →
+      StandsAfter (turn checker_of_128_bits program w)
   turn_stands w _ _ _ (over s ending is_known is) pace = over_after w s pace.like pace.waits is_known ending is pace.is_rest
   turn_stands w _ _ _ (ends s gain ending is_known step) pace =
-      ended_after w gain ending (ending_text ending) (turn checker_of_128_bits program w) (step_lands w s pace.like pace.waits is_known (Ends gain ending) (ending_text ending) step (record {
+      ended_after w gain ending (ending_text ending) (turn checker_of_128_bits program w)
+      (step_lands w s pace.like pace.waits is_known (Ends gain ending) (ending_text ending) step (record {
         text = pace.is_rest ∙ ap (λ (text : List ℕ). text ++ ending_text ending) (text_of_gain gain);
         plain = ending_plain ending;
         fits = step_fits program s (Ends gain ending) step;
         ends = refl;
       }))
   turn_stands w _ _ _ (goes s gain after reports ending is_known step rest) pace =
-      gone_after gain after reports ending rest (turn checker_of_128_bits program w) (step_lands w s pace.like pace.waits is_known (Goes gain after) (listing reports ending) step (record {
+      gone_after gain after reports ending rest (turn checker_of_128_bits program w)
+      (step_lands w s pace.like pace.waits is_known (Goes gain after) (listing reports ending) step (record {
         text =
             pace.is_rest ∙ ap (λ (text : List ℕ). text ++ ending_text ending) (flat_map-append report_text (printed_by gain) reports)
-            ∙ append_assoc (reports_text (printed_by gain)) (reports_text reports) (ending_text ending) ∙ ap (λ (text : List ℕ). text ++ listing reports ending) (text_of_gain gain);
+            ∙ append_assoc (reports_text (printed_by gain)) (reports_text reports) (ending_text ending)
+            ∙ ap (λ (text : List ℕ). text ++ listing reports ending) (text_of_gain gain);
         plain = listing_plain reports ending;
         fits = step_fits program s (Goes gain after) step;
         ends = tt;
@@ -207,7 +232,8 @@ module _ (program : Program) (small : AreSmall program) where
     walked_stands _ not_begun = first
     walked_stands v (walked {w} before is) = subst StandsAfter is (stands_after w (walked_stands w before))
 
-    found_right : (w : Walker) (found : Found) → Walked checker_of_128_bits program decks lines w → turn checker_of_128_bits program w ≡ Finds found → IsNotWrong found
+    found_right : (w : Walker) (found : Found) → Walked checker_of_128_bits program decks lines w → turn checker_of_128_bits program w ≡ Finds found →
+        IsNotWrong found
     found_right w found reaches is = subst StandsAfter is (stands_after w (walked_stands w reaches))
 
 -- ---- jobs
@@ -218,17 +244,21 @@ closed_right ending found is = subst IsFoundRight is (closes_right (first_walker
 pub never_wrong : NeverWrong
 never_wrong bytes _ _ _ found (card_fault fault is) (of_cards other is' finds) =
     let same : fault ≡ other = same_Some fault other (sym is ∙ is') in
-    closed_right (CardStop fault) found (subst (λ (f : CardFault). closes (first_walker [] (listing [] (CardStop fault))) (CardStop f) ≡ Finds found) (sym same) finds)
+    closed_right (CardStop fault) found
+    (subst (λ (f : CardFault). closes (first_walker [] (listing [] (CardStop fault))) (CardStop f) ≡ Finds found) (sym same) finds)
 never_wrong bytes _ _ _ found (card_fault fault is) (of_control other none is' finds) = let e : Some fault ≡ None = sym is ∙ none in absurd (cc e)
-never_wrong bytes _ _ _ found (card_fault fault is) (of_walk program w is_program reaches finds) = let e : Some fault ≡ None = sym is ∙ is_program.is_read in absurd (cc e)
+never_wrong bytes _ _ _ found (card_fault fault is) (of_walk program w is_program reaches finds) =
+    let e : Some fault ≡ None = sym is ∙ is_program.is_read in absurd (cc e)
 never_wrong bytes _ _ _ found (control_fault fault none is) (of_cards other is' finds) = let e : Some other ≡ None = sym is' ∙ none in absurd (cc e)
 never_wrong bytes _ _ _ found (control_fault fault none is) (of_control other none' is' finds) =
     let both : ◌≡◌ {A = Result Program ControlFault} (Err fault) (Err other) = sym is ∙ is' in
     let same : fault ≡ other = cc both in
-    closed_right (ControlStop fault) found (subst (λ (f : ControlFault). closes (first_walker [] (listing [] (ControlStop fault))) (ControlStop f) ≡ Finds found) (sym same) finds)
+    closed_right (ControlStop fault) found
+    (subst (λ (f : ControlFault). closes (first_walker [] (listing [] (ControlStop fault))) (ControlStop f) ≡ Finds found) (sym same) finds)
 never_wrong bytes _ _ _ found (control_fault fault none is) (of_walk program w is_program reaches finds) =
     let e : ◌≡◌ {A = Result Program ControlFault} (Err fault) (Ok program) = sym is ∙ is_program.is_compiled in absurd (cc e)
-never_wrong bytes reports cards ending found (run program is_program runs) (of_cards fault is finds) = let e : Some fault ≡ None = sym is ∙ is_program.is_read in absurd (cc e)
+never_wrong bytes reports cards ending found (run program is_program runs) (of_cards fault is finds) =
+    let e : Some fault ≡ None = sym is ∙ is_program.is_read in absurd (cc e)
 never_wrong bytes reports cards ending found (run program is_program runs) (of_control fault none is finds) =
     let e : ◌≡◌ {A = Result Program ControlFault} (Err fault) (Ok program) = sym is ∙ is_program.is_compiled in absurd (cc e)
 never_wrong bytes reports cards ending found (run program is_program runs) (of_walk other w is_other reaches finds) =
@@ -243,4 +273,5 @@ never_wrong bytes reports cards ending found (run program is_program runs) (of_w
       runs = whole_run program bytes is_program reports cards ending runs;
       pace = record { like = record { opening = []; steps = []; is = refl; limits = default_limits }; is_rest = refl; waits = tt };
     })
-    w found (subst (λ (p : Program). Walked checker_of_128_bits p (job_decks p bytes) lines w) same reaches) (subst (λ (p : Program). turn checker_of_128_bits p w ≡ Finds found) same finds)
+    w found (subst (λ (p : Program). Walked checker_of_128_bits p (job_decks p bytes) lines w) same reaches)
+    (subst (λ (p : Program). turn checker_of_128_bits p w ≡ Finds found) same finds)

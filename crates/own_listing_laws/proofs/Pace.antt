@@ -69,7 +69,8 @@ pub record Waits (pending : Pending) (setup : Option Present) (objective rhs : O
   pub tableau : Tableau
   pub is_tableau : IsTableau lp (present_basis present) tableau
   pub is_objective : pending.objective ≡ value_at (listed lp.matrix tableau.point) lp.objective
-  pub is_check : optimal_check lp (value_at (listed lp.matrix tableau.point)) (value_at (listed lp.matrix (price_at lp (basics_of (present_basis present)) tableau.rate))) ≡ found pending.check
+  pub is_check : optimal_check lp (value_at (listed lp.matrix tableau.point))
+      (value_at (listed lp.matrix (price_at lp (basics_of (present_basis present)) tableau.rate))) ≡ found pending.check
 
 abbrev pub WaitsFor : Option Pending → Option Present → Option Name → Option Name → Type 0
 WaitsFor None setup objective rhs = Unit {0}
@@ -138,16 +139,21 @@ never_stop w = never_if (is_open_stop w.rest) w
 never_outcome : (w : Walker) (outcome : StatementOutcome) → IsNeverWrong (open_outcome w outcome)
 never_outcome w (Ends gain ending) = never_either (open_stop w) (open_pending w) (never_stop w) (never_pending w.pending)
 never_outcome w (Goes Nothing after) = never_unmarked (is_none after.mark) w.pending
-never_outcome w (Goes (Prints report) after) = never_either (open_stop w) (if is_none after.mark then open_pending w else None) (never_stop w) (never_unmarked (is_none after.mark) w.pending)
-never_outcome w (Goes (Punches report cards) after) = never_either (open_stop w) (if is_none after.mark then open_pending w else None) (never_stop w) (never_unmarked (is_none after.mark) w.pending)
+never_outcome w (Goes (Prints report) after) =
+    never_either (open_stop w) (if is_none after.mark then open_pending w else None) (never_stop w) (never_unmarked (is_none after.mark) w.pending)
+never_outcome w (Goes (Punches report cards) after) =
+    never_either (open_stop w) (if is_none after.mark then open_pending w else None) (never_stop w) (never_unmarked (is_none after.mark) w.pending)
 
-never_question : (w : Walker) (question : Question) (sheet : Sheet) (go : AnswerTo question → StatementOutcome) → IsNeverWrong (open_question w question sheet go)
+never_question : (w : Walker) (question : Question) (sheet : Sheet) (go : AnswerTo question → StatementOutcome) →
+    IsNeverWrong (open_question w question sheet go)
 never_question w (OfSolution mark) sheet go = never_stop w
 never_question w OfRanges sheet go = never_either (open_stop w) (open_if (is_ranges w.rest) w) (never_stop w) (never_if (is_ranges w.rest) w)
-never_question w OfPunch sheet go = never_either (open_stop w) (open_if (is_punched sheet.problem.name w.rest) w) (never_stop w) (never_if (is_punched sheet.problem.name w.rest) w)
+never_question w OfPunch sheet go =
+    never_either (open_stop w) (open_if (is_punched sheet.problem.name w.rest) w) (never_stop w) (never_if (is_punched sheet.problem.name w.rest) w)
 never_question w (OfInstall basis) sheet go =
     never_either (open_stop w) (option_or (open_if (is_inserted_by (go Installed) w.rest) w) (open_pending w)) (never_stop w)
-    (never_either (open_if (is_inserted_by (go Installed) w.rest) w) (open_pending w) (never_if (is_inserted_by (go Installed) w.rest) w) (never_pending w.pending))
+    (never_either (open_if (is_inserted_by (go Installed) w.rest) w) (open_pending w) (never_if (is_inserted_by (go Installed) w.rest) w)
+    (never_pending w.pending))
 never_question w (OfPath solver limit) sheet go = never_either (open_stop w) (open_pending w) (never_stop w) (never_pending w.pending)
 never_question w (OfParametricRun parametric_run) sheet go = never_either (open_stop w) (open_pending w) (never_stop w) (never_pending w.pending)
 
@@ -166,7 +172,8 @@ marked true (Some q) p is none = absurd (cc none)
 marked false pending p is none = refl
 
 -- while something is pending the mark stands
-stays_marked : (w : Walker) (gain : Gain) (after : State) (p : Pending) → w.pending ≡ Some p → open_outcome w (Goes gain after) ≡ None → is_none after.mark ≡ false
+stays_marked : (w : Walker) (gain : Gain) (after : State) (p : Pending) → w.pending ≡ Some p → open_outcome w (Goes gain after) ≡ None →
+    is_none after.mark ≡ false
 stays_marked w Nothing after p is none = marked (is_none after.mark) w.pending p is none
 stays_marked w (Prints report) after p is none =
     marked (is_none after.mark) w.pending p is (none_either (open_stop w) (if is_none after.mark then open_pending w else None) none).1
@@ -195,7 +202,8 @@ abbrev pub WaitsAfter : Option Pending → StatementOutcome → Type 0
 WaitsAfter pending (Goes gain after) = WaitsAt pending after
 WaitsAfter pending (Ends gain ending) = Unit {0}
 
-pub follows_lands : (u : Walker) (walked run : StatementOutcome) (more : List ℕ) → AreAlike walked run → u.rest ≡ more → EndsSo run more → WaitsAfter u.pending run → Lands run more (follows u walked)
+pub follows_lands : (u : Walker) (walked run : StatementOutcome) (more : List ℕ) → AreAlike walked run → u.rest ≡ more → EndsSo run more →
+    WaitsAfter u.pending run → Lands run more (follows u walked)
 follows_lands u (Goes gain after) (Goes own other) more alike is ends waits = record { like = alike.1; is_rest = is; waits = waits }
 follows_lands u (Ends gain ending) (Ends own other) more alike is ends waits =
     lands_right (Ends own other) more (closes u ending) (closes_right u ending (is ∙ ends ∙ ap ending_text (sym alike.1)))
@@ -215,7 +223,8 @@ abbrev AreAlikeRefused : Refusals → Refusals → Type 0
 AreAlikeRefused refusals (InSelection problem choice) = refusals ≡ InSelection problem choice
 AreAlikeRefused refusals (InAnswer question sheet bases) = Unit {0}
 
-shown_fits : (question : Question) (sheet : Sheet) (bases : List Basis) (e : Evidence) (place : Option Place) → linear_programming_of_128_bits.Overflows question sheet bases e place → EvidenceFits e
+shown_fits : (question : Question) (sheet : Sheet) (bases : List Basis) (e : Evidence) (place : Option Place) →
+    linear_programming_of_128_bits.Overflows question sheet bases e place → EvidenceFits e
 unfolding linear_programming_of_128_bits
 shown_fits question sheet bases e place shown = shown.1
 
@@ -223,7 +232,8 @@ shown_fits question sheet bases e place shown = shown.1
 
 module _ (w : Walker) where
   pub record IsMatched (card : ℕ) (walked run : StatementMove) : Type 0 where
-    pub by : (outcome : StatementOutcome) (more : List ℕ) → Gives linear_programming_of_128_bits card run outcome → IsDue w outcome more → Lands outcome more (walk_move checker_of_128_bits w walked)
+    pub by : (outcome : StatementOutcome) (more : List ℕ) → Gives linear_programming_of_128_bits card run outcome → IsDue w outcome more →
+        Lands outcome more (walk_move checker_of_128_bits w walked)
 
   -- and it looks for stop texts first
   pub record IsFollowed (card : ℕ) (walked run : StatementMove) : Type 0 where
@@ -233,60 +243,77 @@ module _ (w : Walker) where
   stop_first : (o : Option Found) → is_open_stop w.rest ≡ true → option_or (open_stop w) o ≡ Some (Open w.rest)
   stop_first o is = ap (λ b. option_or (open_if b w) o) is
 
-  opened_lands : (outcome : StatementOutcome) (more : List ℕ) (walked : StatementMove) → opened w walked ≡ Some (Open w.rest) → Lands outcome more (walk_move checker_of_128_bits w walked)
+  opened_lands : (outcome : StatementOutcome) (more : List ℕ) (walked : StatementMove) → opened w walked ≡ Some (Open w.rest) →
+      Lands outcome more (walk_move checker_of_128_bits w walked)
   opened_lands outcome more walked is =
-      subst (λ (o : Option Found). Lands outcome more (unless_found o (if refuses_selection walked then Finds (Unchecked w.rest) else due checker_of_128_bits w walked))) (sym is) tt
+      subst (λ (o : Option Found). Lands outcome more
+      (unless_found o (if refuses_selection walked then Finds (Unchecked w.rest) else due checker_of_128_bits w walked))) (sym is) tt
 
   -- ---- an operation may be refused
 
-  module _ (card : ℕ) (walked run : StatementMove) (refusals others : Refusals) (alike : AreAlikeRefused refusals others) (followed : IsFollowed card walked run) where
-    refused_too : (outcome : StatementOutcome) (more : List ℕ) (o : Option Found) (refused other : Bool) (turn : WalkTurn) → Lands outcome more (unless_found o (if other then Finds (Unchecked w.rest) else turn)) →
+  module _ (card : ℕ) (walked run : StatementMove) (refusals others : Refusals) (alike : AreAlikeRefused refusals others)
+      (followed : IsFollowed card walked run) where
+    refused_too : (outcome : StatementOutcome) (more : List ℕ) (o : Option Found) (refused other : Bool) (turn : WalkTurn) →
+        Lands outcome more (unless_found o (if other then Finds (Unchecked w.rest) else turn)) →
         Lands outcome more (unless_found o (if refused || other then Finds (Unchecked w.rest) else turn))
     refused_too outcome more (Some found) refused other turn lands = lands
     refused_too outcome more None true other turn lands = tt
     refused_too outcome more None false other turn lands = lands
 
-    stops_too : (outcome : StatementOutcome) (more : List ℕ) → Lands outcome more (walk_move checker_of_128_bits w walked) → (r : Refusals) → Lands outcome more (walk_move checker_of_128_bits w (MayStop r walked))
-    stops_too outcome more lands (InSelection problem choice) = refused_too outcome more (opened w walked) (not (is_made problem choice)) (refuses_selection walked) (due checker_of_128_bits w walked) lands
+    stops_too : (outcome : StatementOutcome) (more : List ℕ) → Lands outcome more (walk_move checker_of_128_bits w walked) → (r : Refusals) →
+        Lands outcome more (walk_move checker_of_128_bits w (MayStop r walked))
+    stops_too outcome more lands (InSelection problem choice) =
+        refused_too outcome more (opened w walked) (not (is_made problem choice)) (refuses_selection walked) (due checker_of_128_bits w walked) lands
     stops_too outcome more lands (InAnswer question sheet bases) = lands
 
     -- where an operation of a selection is refused, the walk finds just that
-    refused_lands : (problem : Problem ℕ) (choice : Choice) (e : Evidence) → IsSelectionRefusal problem choice e → (outcome : StatementOutcome) (more : List ℕ) →
+    refused_lands : (problem : Problem ℕ) (choice : Choice) (e : Evidence) → IsSelectionRefusal problem choice e →
+        (outcome : StatementOutcome) (more : List ℕ) →
         Lands outcome more (walk_move checker_of_128_bits w (MayStop (InSelection problem choice) walked))
-    refused_lands problem choice e refused outcome more = by (is_made problem choice) (λ is. (made_iff problem choice).0 is e refused) (opened w walked) (never_opened w walked)
+    refused_lands problem choice e refused outcome more =
+        by (is_made problem choice) (λ is. (made_iff problem choice).0 is e refused) (opened w walked) (never_opened w walked)
       where
-        by : (made : Bool) → (made ≡ true → ⊥) → (o : Option Found) → IsNeverWrong o → Lands outcome more (unless_found o (if not made || refuses_selection walked then Finds (Unchecked w.rest) else due checker_of_128_bits w walked))
+        by : (made : Bool) → (made ≡ true → ⊥) → (o : Option Found) → IsNeverWrong o →
+            Lands outcome more (unless_found o (if not made || refuses_selection walked then Finds (Unchecked w.rest) else due checker_of_128_bits w walked))
         by true unmade o never = absurd (unmade refl)
         by false unmade (Some found) never = never
         by false unmade None never = tt
 
-    shown_lands : card ≤ max_count → (outcome : StatementOutcome) (more : List ℕ) (evidence : Evidence) (place : Option Place) → outcome ≡ stops (OverflowStop (record { evidence = evidence; place = place; card = card })) → IsDue w outcome more →
-        (r : Refusals) → AreAlikeRefused refusals r → Shows linear_programming_of_128_bits r evidence place → Lands outcome more (walk_move checker_of_128_bits w (MayStop refusals walked))
+    shown_lands : card ≤ max_count → (outcome : StatementOutcome) (more : List ℕ) (evidence : Evidence) (place : Option Place) →
+        outcome ≡ stops (OverflowStop (record { evidence = evidence; place = place; card = card })) → IsDue w outcome more →
+        (r : Refusals) → AreAlikeRefused refusals r → Shows linear_programming_of_128_bits r evidence place →
+        Lands outcome more (walk_move checker_of_128_bits w (MayStop refusals walked))
     shown_lands small outcome more evidence place is given (InSelection problem choice) same shown =
-        subst (λ (q : Refusals). Lands outcome more (walk_move checker_of_128_bits w (MayStop q walked))) (sym same) (refused_lands problem choice evidence shown.0 outcome more)
+        subst (λ (q : Refusals). Lands outcome more (walk_move checker_of_128_bits w (MayStop q walked))) (sym same)
+        (refused_lands problem choice evidence shown.0 outcome more)
     shown_lands small outcome more evidence place is given (InAnswer question sheet bases) same shown =
         let own : Overflow = record { evidence = evidence; place = place; card = card } in
         let due : IsDue w (stops (OverflowStop own)) more = subst (λ (o : StatementOutcome). IsDue w o more) is given in
-        opened_lands outcome more (MayStop refusals walked) (followed.looks (ap is_open_stop (due.text ∙ due.ends) ∙ open_overflow own (shown_fits question sheet bases evidence place shown) small))
+        opened_lands outcome more (MayStop refusals walked)
+        (followed.looks (ap is_open_stop (due.text ∙ due.ends) ∙ open_overflow own (shown_fits question sheet bases evidence place shown) small))
 
     pub may_stop : IsFollowed card (MayStop refusals walked) (MayStop others run)
     may_stop = record { matched = λ small. record { by = lands small }; looks = followed.looks }
       where
-        lands : card ≤ max_count → (outcome : StatementOutcome) (more : List ℕ) → Gives linear_programming_of_128_bits card (MayStop others run) outcome → IsDue w outcome more → Lands outcome more (walk_move checker_of_128_bits w (MayStop refusals walked))
+        lands : card ≤ max_count → (outcome : StatementOutcome) (more : List ℕ) → Gives linear_programming_of_128_bits card (MayStop others run) outcome →
+            IsDue w outcome more → Lands outcome more (walk_move checker_of_128_bits w (MayStop refusals walked))
         lands small outcome more (inl gives) given = stops_too outcome more ((followed.matched small).by outcome more gives given) refusals
         lands small outcome more (inr (evidence, place, shown, is)) given = shown_lands small outcome more evidence place is given others alike shown
 
   -- ---- nothing is asked
 
   module _ (card : ℕ) (walked run : StatementOutcome) (alike : AreAlike walked run) (waits : open_outcome w walked ≡ None → WaitsAfter w.pending run) where
-    taken_lands : (more : List ℕ) → IsDue w run more → open_outcome w walked ≡ None → Lands run more (taken w walked (left_after (gain_text (gain_of walked)) w.rest))
+    taken_lands : (more : List ℕ) → IsDue w run more → open_outcome w walked ≡ None →
+        Lands run more (taken w walked (left_after (gain_text (gain_of walked)) w.rest))
     taken_lands more given none =
         let there : left_after (gain_text (gain_of walked)) w.rest ≡ Some more =
-        ap (λ (gain : Gain). left_after (gain_text gain) w.rest) (gain_alike walked run alike) ∙ ap (left_after (gain_text (gain_of run))) given.text ∙ stands (gain_text (gain_of run)) more in
+        ap (λ (gain : Gain). left_after (gain_text gain) w.rest) (gain_alike walked run alike) ∙ ap (left_after (gain_text (gain_of run))) given.text
+        ∙ stands (gain_text (gain_of run)) more in
         subst (λ (left : Option (List ℕ)). Lands run more (taken w walked left)) (sym there)
         (follows_lands (passed more (length (printed_by (gain_of walked))) w) walked run more alike refl given.ends (waits none))
 
-    does_by : (more : List ℕ) → IsDue w run more → (o : Option Found) → open_outcome w walked ≡ o → IsNeverWrong o → Lands run more (unless_found o (taken w walked (left_after (gain_text (gain_of walked)) w.rest)))
+    does_by : (more : List ℕ) → IsDue w run more → (o : Option Found) → open_outcome w walked ≡ o → IsNeverWrong o →
+        Lands run more (unless_found o (taken w walked (left_after (gain_text (gain_of walked)) w.rest)))
     does_by more given (Some found) is never = never
     does_by more given None is never = taken_lands more given is
 
@@ -304,17 +331,20 @@ module _ (w : Walker) where
   pub prints_looks : (report : Report) (after : State) → is_open_stop w.rest ≡ true → opened w (Does (Goes (Prints report) after)) ≡ Some (Open w.rest)
   prints_looks report after is = stop_first (if is_none after.mark then open_pending w else None) is
 
-  pub punches_looks : (report : Report) (cards : List (List ℕ)) (after : State) → is_open_stop w.rest ≡ true → opened w (Does (Goes (Punches report cards) after)) ≡ Some (Open w.rest)
+  pub punches_looks : (report : Report) (cards : List (List ℕ)) (after : State) → is_open_stop w.rest ≡ true →
+      opened w (Does (Goes (Punches report cards) after)) ≡ Some (Open w.rest)
   punches_looks report cards after is = stop_first (if is_none after.mark then open_pending w else None) is
 
-  pub waits_on : (gain : Gain) (after : State) (setup : Option Present) (objective rhs : Option Name) (pending : Option Pending) → w.pending ≡ pending → open_outcome w (Goes gain after) ≡ None →
+  pub waits_on : (gain : Gain) (after : State) (setup : Option Present) (objective rhs : Option Name) (pending : Option Pending) → w.pending ≡ pending →
+      open_outcome w (Goes gain after) ≡ None →
       (is_none after.mark ≡ false → WaitsFor pending setup objective rhs) → WaitsFor pending setup objective rhs
   waits_on gain after setup objective rhs None is none waits = tt
   waits_on gain after setup objective rhs (Some p) is none waits = waits (stays_marked w gain after p is none)
 
   -- ---- faults
 
-  pub unless_fault : {X : Type 0} (card : ℕ) (fault : VerbFault) (o : Option X) (go own : X → StatementMove) → ((x : X) → o ≡ Some x → IsFollowed card (go x) (own x)) → IsFollowed card (or_fault card fault o go) (or_fault card fault o own)
+  pub unless_fault : {X : Type 0} (card : ℕ) (fault : VerbFault) (o : Option X) (go own : X → StatementMove) →
+      ((x : X) → o ≡ Some x → IsFollowed card (go x) (own x)) → IsFollowed card (or_fault card fault o go) (or_fault card fault o own)
   unless_fault card fault None go own followed = does_stop card _
   unless_fault card fault (Some x) go own followed = followed x refl
 
@@ -325,23 +355,28 @@ module _ (w : Walker) where
   unless_no_setup card fault opening steps None go own followed = does_stop card _
   unless_no_setup card fault opening steps (Some present) go own followed = followed present refl
 
-  pub unless_deck_fault : {X : Type 0} (card : ℕ) (r : Result X DeckFault) (go own : X → StatementMove) → ((x : X) → r ≡ Ok x → IsFollowed card (go x) (own x)) → IsFollowed card (or_deck_fault r go) (or_deck_fault r own)
+  pub unless_deck_fault : {X : Type 0} (card : ℕ) (r : Result X DeckFault) (go own : X → StatementMove) →
+      ((x : X) → r ≡ Ok x → IsFollowed card (go x) (own x)) → IsFollowed card (or_deck_fault r go) (or_deck_fault r own)
   unless_deck_fault card (Err fault) go own followed = does_stop card _
   unless_deck_fault card (Ok x) go own followed = followed x refl
 
-  pub unless_selection_fault : (card : ℕ) (r : Result LinearProgram SelectionFault) (go own : LinearProgram → StatementMove) → ((lp : LinearProgram) → r ≡ Ok lp → IsFollowed card (go lp) (own lp)) →
+  pub unless_selection_fault : (card : ℕ) (r : Result LinearProgram SelectionFault) (go own : LinearProgram → StatementMove) →
+      ((lp : LinearProgram) → r ≡ Ok lp → IsFollowed card (go lp) (own lp)) →
       IsFollowed card (or_selection_fault card r go) (or_selection_fault card r own)
   unless_selection_fault card (Err fault) go own followed = does_stop card _
   unless_selection_fault card (Ok lp) go own followed = followed lp refl
 
-  pub selecting : (card : ℕ) (problem : Problem ℕ) (choice : Choice) (go own : LinearProgram → StatementMove) → ((lp : LinearProgram) → selected problem choice ≡ Ok lp → IsFollowed card (go lp) (own lp)) →
+  pub selecting : (card : ℕ) (problem : Problem ℕ) (choice : Choice) (go own : LinearProgram → StatementMove) →
+      ((lp : LinearProgram) → selected problem choice ≡ Ok lp → IsFollowed card (go lp) (own lp)) →
       IsFollowed card (selects card problem choice go) (selects card problem choice own)
   selecting card problem choice go own followed =
-      unless_selection_fault card (selected problem choice) _ _ (λ lp e. may_stop card (go lp) (own lp) (InSelection problem choice) (InSelection problem choice) refl (followed lp e))
+      unless_selection_fault card (selected problem choice) _ _
+      (λ lp e. may_stop card (go lp) (own lp) (InSelection problem choice) (InSelection problem choice) refl (followed lp e))
 
   -- ---- questions
 
-  question_looks : (question : Question) (sheet : Sheet) (go : AnswerTo question → StatementOutcome) → is_open_stop w.rest ≡ true → open_question w question sheet go ≡ Some (Open w.rest)
+  question_looks : (question : Question) (sheet : Sheet) (go : AnswerTo question → StatementOutcome) → is_open_stop w.rest ≡ true →
+      open_question w question sheet go ≡ Some (Open w.rest)
   question_looks (OfSolution mark) sheet go is = ap (λ b. open_if b w) is
   question_looks OfRanges sheet go is = stop_first _ is
   question_looks OfPunch sheet go is = stop_first _ is
@@ -353,18 +388,22 @@ module _ (w : Walker) where
     abbrev pub LandsAnswered : AnswerTo question → List ℕ → Type 0
     LandsAnswered answer more = Lands (own answer) more (answered checker_of_128_bits w question sheet go (judged checker_of_128_bits question sheet w.rest))
 
-    pub asked_lands : (card ≤ max_count → (answer : AnswerTo question) (more : List ℕ) → IsRight linear_programming question sheet t answer → IsDue w (own answer) more → open_question w question sheet go ≡ None → LandsAnswered answer more) →
+    pub asked_lands :
+        (card ≤ max_count → (answer : AnswerTo question) (more : List ℕ) → IsRight linear_programming question sheet t answer → IsDue w (own answer) more →
+        open_question w question sheet go ≡ None → LandsAnswered answer more) →
         IsFollowed card (Asks question sheet s go) (Asks question sheet t own)
     asked_lands lands = record {
       matched = λ small. record {
         by = λ outcome more (answer, right, is) given.
             subst (λ (o : StatementOutcome). Lands o more (walk_move checker_of_128_bits w (Asks question sheet s go))) (sym is)
-            (by small answer more (right_too question sheet t answer right) (subst (λ (o : StatementOutcome). IsDue w o more) is given) (open_question w question sheet go) refl (never_question w question sheet go));
+            (by small answer more (right_too question sheet t answer right) (subst (λ (o : StatementOutcome). IsDue w o more) is given)
+            (open_question w question sheet go) refl (never_question w question sheet go));
       };
       looks = question_looks question sheet go;
     }
       where
-        by : card ≤ max_count → (answer : AnswerTo question) (more : List ℕ) → IsRight linear_programming question sheet t answer → IsDue w (own answer) more → (o : Option Found) → open_question w question sheet go ≡ o → IsNeverWrong o →
+        by : card ≤ max_count → (answer : AnswerTo question) (more : List ℕ) → IsRight linear_programming question sheet t answer → IsDue w (own answer) more →
+            (o : Option Found) → open_question w question sheet go ≡ o → IsNeverWrong o →
             Lands (own answer) more (unless_found o (answered checker_of_128_bits w question sheet go (judged checker_of_128_bits question sheet w.rest)))
         by small answer more right given (Some what) is never = never
         by small answer more right given None is never = lands small answer more right given is

@@ -54,7 +54,8 @@ record SelectsSame (cells moved : Cells) : Type 0 where
   pub objectives : moved.xobj ≡ cells.xobj
   pub rhs : moved.xrhs ≡ cells.xrhs
 
-named : (cell : NameCell) (name : Name) (cells : Cells) (mark : Option Mark) → is_none (mark_after cell mark) ≡ false → SelectsSame cells (move_name cell name cells)
+named : (cell : NameCell) (name : Name) (cells : Cells) (mark : Option Mark) → is_none (mark_after cell mark) ≡ false →
+    SelectsSame cells (move_name cell name cells)
 named Xdata name cells mark stands = record { objectives = refl; rhs = refl }
 named Xpbname name cells mark stands = record { objectives = refl; rhs = refl }
 named Xobj name cells mark stands = absurd (cc stands)
@@ -85,7 +86,8 @@ numbered_limits : (cell : NumberCell) (value : ℚ) (cells : Cells) → steps_al
 numbered_limits Xparam value cells limits = limits
 numbered_limits Xparmax value cells limits = limits
 
-demanded_limits : (demand : Demand) (position : ℕ) (cells : Cells) → steps_allowed cells ≤ max_count → steps_allowed (set_demand demand position cells) ≤ max_count
+demanded_limits : (demand : Demand) (position : ℕ) (cells : Cells) → steps_allowed cells ≤ max_count →
+    steps_allowed (set_demand demand position cells) ≤ max_count
 demanded_limits Xdonfs position cells limits = limits
 demanded_limits Xdounb position cells limits = limits
 
@@ -96,79 +98,101 @@ moved_limits : (limit : Option ℕ) (cells : Cells) → IfSome limit (λ steps. 
 moved_limits None cells small = omega arith
 moved_limits (Some steps) cells small = small
 
-waits_same : (pending : Option Pending) (setup : Option Present) (cells moved : Cells) → SelectsSame cells moved → WaitsFor pending setup cells.xobj cells.xrhs → WaitsFor pending setup moved.xobj moved.xrhs
+waits_same : (pending : Option Pending) (setup : Option Present) (cells moved : Cells) → SelectsSame cells moved →
+    WaitsFor pending setup cells.xobj cells.xrhs → WaitsFor pending setup moved.xobj moved.xrhs
 waits_same pending setup cells moved same waits =
-    subst (λ (objective : Option Name). WaitsFor pending setup objective moved.xrhs) (sym same.objectives) (subst (λ (rhs : Option Name). WaitsFor pending setup cells.xobj rhs) (sym same.rhs) waits)
+    subst (λ (objective : Option Name). WaitsFor pending setup objective moved.xrhs) (sym same.objectives)
+    (subst (λ (rhs : Option Name). WaitsFor pending setup cells.xobj rhs) (sym same.rhs) waits)
 
 -- where the mark is OPTIMAL, what the present basis shows is best
-best_here : (s : State) (present : Present) (lp : LinearProgram) → s.setup ≡ Some present → selected present.problem (choice_of s.cells present.options) ≡ Ok lp → HasProblem s.setup → Knows s →
+best_here : (s : State) (present : Present) (lp : LinearProgram) → s.setup ≡ Some present →
+    selected present.problem (choice_of s.cells present.options) ≡ Ok lp → HasProblem s.setup → Knows s →
     (mark : Mark) → s.mark ≡ Some mark → mark ≡ Optimal → (t : Tableau) → IsTableau lp (present_basis present) t → IsProvedBest lp (present_basis present) t
 best_here s present lp set is lawful knows mark marked optimal t tab =
     let known : EndsOptimally s.setup s.cells.xobj s.cells.xrhs = knows.marked (marked ∙ ap (λ (m : Mark). Some m) optimal) in
     let same : known.present ≡ present = (let e = sym known.is_setup ∙ set in cc) in
-    let moved = subst (λ (x : Present). (selected x.problem (choice_of s.cells x.options) ≡ Ok known.lp) × EndsAt known.lp (present_basis x) (EndsOptimal known.point known.prices)) same (known.is_selected, known.ends) in
+    let moved =
+    subst (λ (x : Present). (selected x.problem (choice_of s.cells x.options) ≡ Ok known.lp) × EndsAt known.lp (present_basis x)
+    (EndsOptimal known.point known.prices)) same (known.is_selected, known.ends) in
     let same_lp : known.lp ≡ lp = (let e = sym moved.0 ∙ is in cc) in
-    reported_is_best lp (present_basis present) t known.point known.prices tab (subst (λ (p : LinearProgram). EndsAt p (present_basis present) (EndsOptimal known.point known.prices)) same_lp moved.1)
-    ((knows.bases present set).in_each s.cells.xobj s.cells.xrhs lp is) (selected_is_lawful present.problem (choice_of s.cells present.options) lp (lawful present set) is)
+    reported_is_best lp (present_basis present) t known.point known.prices tab
+    (subst (λ (p : LinearProgram). EndsAt p (present_basis present) (EndsOptimal known.point known.prices)) same_lp moved.1)
+    ((knows.bases present set).in_each s.cells.xobj s.cells.xrhs lp is)
+    (selected_is_lawful present.problem (choice_of s.cells present.options) lp (lawful present set) is)
 
-module _ (w : Walker) (s : State) (opening : Basis) (steps : List Basis) (limits : steps_allowed s.cells ≤ max_count) (waits : WaitsAt w.pending s) (lawful : HasProblem s.setup) (knows : Knows s) where
+module _ (w : Walker) (s : State) (opening : Basis) (steps : List Basis) (limits : steps_allowed s.cells ≤ max_count) (waits : WaitsAt w.pending s)
+    (lawful : HasProblem s.setup) (knows : Knows s) where
   abbrev walked : State
   walked = record s { setup = rebased opening steps s.setup }
 
-  few : (present : Present) (lp : LinearProgram) → s.setup ≡ Some present → selected present.problem (choice_of s.cells present.options) ≡ Ok lp → size lp.matrix ≤ max_count
+  few : (present : Present) (lp : LinearProgram) → s.setup ≡ Some present → selected present.problem (choice_of s.cells present.options) ≡ Ok lp →
+      size lp.matrix ≤ max_count
   few present lp set is = few_variables present.problem (choice_of s.cells present.options) lp (lawful present set) is
 
   -- the run goes on, with other cells or a setup
-  goes : (card : ℕ) (gain : Gain) (after own : State) → IsLike after own → (is_none after.mark ≡ false → WaitsAt w.pending own) → IsMatched w card (Does (Goes gain after)) (Does (Goes gain own))
+  goes : (card : ℕ) (gain : Gain) (after own : State) → IsLike after own → (is_none after.mark ≡ false → WaitsAt w.pending own) →
+      IsMatched w card (Does (Goes gain after)) (Does (Goes gain own))
   goes card gain after own like still =
-      does w card (Goes gain after) (Goes gain own) (refl, like) (λ none. waits_on w gain after own.setup own.cells.xobj own.cells.xrhs w.pending refl none still)
+      does w card (Goes gain after) (Goes gain own) (refl, like)
+      (λ none. waits_on w gain after own.setup own.cells.xobj own.cells.xrhs w.pending refl none still)
 
-  prints : (card : ℕ) (report : Report) (after own : State) → IsLike after own → (is_none after.mark ≡ false → WaitsAt w.pending own) → IsFollowed w card (Does (Goes (Prints report) after)) (Does (Goes (Prints report) own))
+  prints : (card : ℕ) (report : Report) (after own : State) → IsLike after own → (is_none after.mark ≡ false → WaitsAt w.pending own) →
+      IsFollowed w card (Does (Goes (Prints report) after)) (Does (Goes (Prints report) own))
   prints card report after own like still = record { matched = λ small. goes card (Prints report) after own like still; looks = prints_looks w report after }
 
   punched : (card : ℕ) (report : Report) (cards : List (List ℕ)) (after own : State) → IsLike after own → (is_none after.mark ≡ false → WaitsAt w.pending own) →
       IsFollowed w card (Does (Goes (Punches report cards) after)) (Does (Goes (Punches report cards) own))
-  punched card report cards after own like still = record { matched = λ small. goes card (Punches report cards) after own like still; looks = punches_looks w report cards after }
+  punched card report cards after own like still =
+      record { matched = λ small. goes card (Punches report cards) after own like still; looks = punches_looks w report cards after }
 
   -- ---- problems
 
-  files_followed : (card : ℕ) (report : Filed → Report) (decks : List (List Card)) (problem : Problem ℕ) → IsFollowed w card (files report decks (counted walked) problem) (files report decks (counted s) problem)
-  files_followed card report decks problem = prints card (report (size_of problem)) _ _ (record { opening = []; steps = []; is = refl; limits = limits }) (λ stands. absurd (cc stands))
+  files_followed : (card : ℕ) (report : Filed → Report) (decks : List (List Card)) (problem : Problem ℕ) →
+      IsFollowed w card (files report decks (counted walked) problem) (files report decks (counted s) problem)
+  files_followed card report decks problem =
+      prints card (report (size_of problem)) _ _ (record { opening = []; steps = []; is = refl; limits = limits }) (λ stands. absurd (cc stands))
 
   converts_followed : (card : ℕ) → IsFollowed w card (converts card (counted walked)) (converts card (counted s))
   converts_followed card =
       unless_fault w {X = List Card × List (List Card)} card VerbFault.DeckNotFound (deck_taken s.cells.xdata s.decks) _ _ (λ taken e.
-      unless_deck_fault w card (conversion taken.0 s.cells.xpbname) (files Converted taken.1 (counted walked)) (files Converted taken.1 (counted s)) (λ problem is. files_followed card Converted taken.1 problem))
+      unless_deck_fault w card (conversion taken.0 s.cells.xpbname) (files Converted taken.1 (counted walked)) (files Converted taken.1 (counted s))
+      (λ problem is. files_followed card Converted taken.1 problem))
 
   revises_followed : (card : ℕ) → IsFollowed w card (revises card (counted walked)) (revises card (counted s))
   revises_followed card =
       unless_fault w card VerbFault.NoProblem (problem_of s.cells.xoldname s.file) _ _ (λ old o.
       unless_fault w {X = List Card × List (List Card)} card VerbFault.DeckNotFound (deck_taken s.cells.xdata s.decks) _ _ (λ taken e.
-      unless_deck_fault w card (revision old taken.0 s.cells.xpbname) (files Revised taken.1 (counted walked)) (files Revised taken.1 (counted s)) (λ problem is. files_followed card Revised taken.1 problem)))
+      unless_deck_fault w card (revision old taken.0 s.cells.xpbname) (files Revised taken.1 (counted walked)) (files Revised taken.1 (counted s))
+      (λ problem is. files_followed card Revised taken.1 problem)))
 
   sets_up_followed : (card : ℕ) (options : SetupOptions) → IsFollowed w card (sets_up card options (counted walked)) (sets_up card options (counted s))
   sets_up_followed card options =
       unless_fault w card VerbFault.NoProblem (problem_of s.cells.xpbname s.file) _ _ (λ problem e.
       selecting w card problem (choice_of s.cells options) _ _ (λ lp is.
-      prints card (SetUp problem.name options.sense) _ _ (record { opening = opening_statuses lp; steps = []; is = refl; limits = limits }) (λ stands. absurd (cc stands))))
+      prints card (SetUp problem.name options.sense) _ _ (record { opening = opening_statuses lp; steps = []; is = refl; limits = limits })
+      (λ stands. absurd (cc stands))))
 
   punches_followed : (card : ℕ) → IsFollowed w card (punches card (counted walked)) (punches card (counted s))
   punches_followed card =
-      unless_fault w card VerbFault.NoProblem (problem_of s.cells.xpbname s.file) _ _ (λ problem e. punched card _ _ _ _ (record { opening = opening; steps = steps; is = refl; limits = limits }) (λ stands. waits))
+      unless_fault w card VerbFault.NoProblem (problem_of s.cells.xpbname s.file) _ _
+      (λ problem e. punched card _ _ _ _ (record { opening = opening; steps = steps; is = refl; limits = limits }) (λ stands. waits))
 
   -- ---- what is asked
 
-  solves_followed : (solver : Solver) → IsPathSolver solver → (limit : Option ℕ) (card : ℕ) → IsFollowed w card (solves solver limit card (counted walked)) (solves solver limit card (counted s))
+  solves_followed : (solver : Solver) → IsPathSolver solver → (limit : Option ℕ) (card : ℕ) →
+      IsFollowed w card (solves solver limit card (counted walked)) (solves solver limit card (counted s))
   solves_followed solver path limit card =
       unless_no_setup w card VerbFault.NoSetup opening steps s.setup _ _ (λ present set.
-      selecting w card present.problem (choice_of s.cells present.options) _ _ (λ lp is. path_followed w s opening steps card solver path limit present lp set is limits (few present lp set is)))
+      selecting w card present.problem (choice_of s.cells present.options) _ _
+      (λ lp is. path_followed w s opening steps card solver path limit present lp set is limits (few present lp set is)))
 
   shows_followed : (card : ℕ) → IsFollowed w card (shows card (counted walked)) (shows card (counted s))
   shows_followed card =
       unless_no_setup w card VerbFault.NoSetup opening steps s.setup _ _ (λ present set.
       unless_fault w card VerbFault.NotSolved s.mark _ _ (λ mark m.
       unless_selection_fault w card (selected present.problem (choice_of s.cells present.options)) _ _ (λ lp is.
-      reported_followed w s opening steps card mark present lp set is waits limits (selected_is_lawful present.problem (choice_of s.cells present.options) lp (lawful present set) is)
+      reported_followed w s opening steps card mark present lp set is waits limits
+      (selected_is_lawful present.problem (choice_of s.cells present.options) lp (lawful present set) is)
       ((knows.bases present set).in_each s.cells.xobj s.cells.xrhs lp is) (best_here s present lp set is lawful knows mark m))))
 
   ranges_all_followed : (card : ℕ) → IsFollowed w card (ranges card (counted walked)) (ranges card (counted s))
@@ -176,7 +200,8 @@ module _ (w : Walker) (s : State) (opening : Basis) (steps : List Basis) (limits
       unless_no_setup w card VerbFault.NoSetup opening steps s.setup _ _ (λ present set.
       unless_fault w card VerbFault.NotSolved s.mark _ _ (λ mark m.
       unless_fault w {X = Mark} card VerbFault.NotOptimal (if_optimal mark) _ _ (λ optimal o.
-      unless_selection_fault w card (selected present.problem (choice_of s.cells present.options)) _ _ (λ lp is. ranges_followed w s opening steps card present lp))))
+      unless_selection_fault w card (selected present.problem (choice_of s.cells present.options)) _ _
+      (λ lp is. ranges_followed w s opening steps card present lp))))
 
   punches_basis_followed : (card : ℕ) → IsFollowed w card (punches_basis card (counted walked)) (punches_basis card (counted s))
   punches_basis_followed card =
@@ -188,10 +213,12 @@ module _ (w : Walker) (s : State) (opening : Basis) (steps : List Basis) (limits
       unless_no_setup w card VerbFault.NoSetup opening steps s.setup _ _ (λ present set.
       selecting w card present.problem (choice_of s.cells present.options) _ _ (λ lp is.
       unless_fault w {X = List Card × List (List Card)} card VerbFault.DeckNotFound (deck_taken s.cells.xdata s.decks) _ _ (λ taken t.
-      unless_deck_fault w card (basis_reading present.problem lp taken.0) _ _ (λ b read. install_followed w s opening steps card present lp b taken (few present lp set is)))))
+      unless_deck_fault w card (basis_reading present.problem lp taken.0) _ _
+      (λ b read. install_followed w s opening steps card present lp b taken (few present lp set is)))))
 
   parametric_runs_followed : (card : ℕ) (fault : VerbFault) (change : Problem ℕ → Name → Option Changing) (moved : Option Name) →
-      ((problem : Problem ℕ) (changing : Changing) → option_and_then (change problem) moved ≡ Some changing → IsOfProblem changing problem × (named_by s.cells changing ≡ Some (changing_name changing))) →
+      ((problem : Problem ℕ) (changing : Changing) → option_and_then (change problem) moved ≡ Some changing →
+      IsOfProblem changing problem × (named_by s.cells changing ≡ Some (changing_name changing))) →
       IsFollowed w card (parametric_runs card fault change moved (counted walked)) (parametric_runs card fault change moved (counted s))
   parametric_runs_followed card fault change moved part =
       unless_no_setup w card VerbFault.NoSetup opening steps s.setup _ _ (λ present set.
@@ -201,22 +228,32 @@ module _ (w : Walker) (s : State) (opening : Basis) (steps : List Basis) (limits
       unless_fault w {X = ℚ} card VerbFault.ParmaxBelow (not_less s.cells.xparam last) _ _ (λ to t.
       let parametric_run : ParametricRun = record { changing = changing; from = s.cells.xparam; to = to; limit = steps_allowed s.cells } in
       parametric_run_followed w s opening steps limits card parametric_run present lp
-      (chain_lands w s opening steps limits card parametric_run present lp (selected_is_lawful present.problem (choice_of s.cells present.options) lp (lawful present set) is)
-      (changes_freely (record { problem = present.problem; lp = lp }) (choice_of s.cells present.options) changing (lawful present set) is (part present.problem changing c).0)
+      (chain_lands w s opening steps limits card parametric_run present lp
+      (selected_is_lawful present.problem (choice_of s.cells present.options) lp (lawful present set) is)
+      (changes_freely (record { problem = present.problem; lp = lp }) (choice_of s.cells present.options) changing (lawful present set) is
+      (part present.problem changing c).0)
       ((knows.bases present set).in_each s.cells.xobj s.cells.xrhs lp is)))))))
 
-  pub verb_matched : (verb : Verb ℕ) (card : ℕ) → card ≤ max_count → MovesSmall verb → IsMatched w card (verb_move verb card (counted walked)) (verb_move verb card (counted s))
+  pub verb_matched : (verb : Verb ℕ) (card : ℕ) → card ≤ max_count → MovesSmall verb →
+      IsMatched w card (verb_move verb card (counted walked)) (verb_move verb card (counted s))
   unfolding verb_move
-  verb_matched Initialz card small moves = goes card Nothing _ _ (record { opening = opening; steps = steps; is = refl; limits = default_limits }) (λ stands. absurd (cc stands))
-  verb_matched (Title text) card small moves = goes card (Prints (Titled text)) _ _ (record { opening = opening; steps = steps; is = refl; limits = limits }) (λ stands. waits)
+  verb_matched Initialz card small moves =
+      goes card Nothing _ _ (record { opening = opening; steps = steps; is = refl; limits = default_limits }) (λ stands. absurd (cc stands))
+  verb_matched (Title text) card small moves =
+      goes card (Prints (Titled text)) _ _ (record { opening = opening; steps = steps; is = refl; limits = limits }) (λ stands. waits)
   verb_matched (MoveName cell name) card small moves =
-      goes card Nothing _ _ (record { opening = opening; steps = steps; is = refl; limits = named_limits cell name s.cells limits }) (λ stands. waits_same w.pending s.setup s.cells (move_name cell name s.cells) (named cell name s.cells s.mark stands) waits)
+      goes card Nothing _ _ (record { opening = opening; steps = steps; is = refl; limits = named_limits cell name s.cells limits })
+      (λ stands. waits_same w.pending s.setup s.cells (move_name cell name s.cells) (named cell name s.cells s.mark stands) waits)
   verb_matched (MoveNumber cell value) card small moves =
-      goes card Nothing _ _ (record { opening = opening; steps = steps; is = refl; limits = numbered_limits cell value s.cells limits }) (λ stands. waits_same w.pending s.setup s.cells (move_number cell value s.cells) (numbered cell value s.cells) waits)
-  verb_matched (MoveLimit limit) card small moves = goes card Nothing _ _ (record { opening = opening; steps = steps; is = refl; limits = moved_limits limit s.cells moves }) (λ stands. waits)
+      goes card Nothing _ _ (record { opening = opening; steps = steps; is = refl; limits = numbered_limits cell value s.cells limits })
+      (λ stands. waits_same w.pending s.setup s.cells (move_number cell value s.cells) (numbered cell value s.cells) waits)
+  verb_matched (MoveLimit limit) card small moves =
+      goes card Nothing _ _ (record { opening = opening; steps = steps; is = refl; limits = moved_limits limit s.cells moves }) (λ stands. waits)
   verb_matched (Mvadr demand position) card small moves =
-      goes card Nothing _ _ (record { opening = opening; steps = steps; is = refl; limits = demanded_limits demand position s.cells limits }) (λ stands. waits_same w.pending s.setup s.cells (set_demand demand position s.cells) (demanding demand position s.cells) waits)
-  verb_matched (Goto position) card small moves = goes card Nothing _ _ (record { opening = opening; steps = steps; is = refl; limits = limits }) (λ stands. waits)
+      goes card Nothing _ _ (record { opening = opening; steps = steps; is = refl; limits = demanded_limits demand position s.cells limits })
+      (λ stands. waits_same w.pending s.setup s.cells (set_demand demand position s.cells) (demanding demand position s.cells) waits)
+  verb_matched (Goto position) card small moves =
+      goes card Nothing _ _ (record { opening = opening; steps = steps; is = refl; limits = limits }) (λ stands. waits)
   verb_matched Convert card small moves = (converts_followed card).matched small
   verb_matched Revise card small moves = (revises_followed card).matched small
   verb_matched (Setup options) card small moves = (sets_up_followed card options).matched small

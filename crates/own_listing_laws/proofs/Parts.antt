@@ -52,7 +52,8 @@ ties_of : (sheet : Sheet) (changing : Changing) → TiesLimits (family_of sheet 
 ties_of sheet (Row name) theta x k var fixed = (fixed.0, fixed.1, fixed.2)
 ties_of sheet (Set name) theta x k var fixed = fixed_at sheet.lp (shifts_of sheet.problem name) theta x k var fixed
 
-pub lawful_of : (sheet : Sheet) (changing : Changing) → IsLinearProgram sheet.lp → ChangesFreely sheet changing → (theta : ℚ) → IsLinearProgram (family_of sheet changing theta)
+pub lawful_of : (sheet : Sheet) (changing : Changing) → IsLinearProgram sheet.lp → ChangesFreely sheet changing → (theta : ℚ) →
+    IsLinearProgram (family_of sheet changing theta)
 lawful_of sheet (Row name) lawful free theta = lawful_objective sheet.lp (row_of sheet.problem name) lawful free.0 free.1 theta
 lawful_of sheet (Set name) lawful free theta = lawful_rhs sheet.lp (shifts_of sheet.problem name) lawful theta
 
@@ -60,20 +61,24 @@ lawful_of sheet (Set name) lawful free theta = lawful_rhs sheet.lp (shifts_of sh
 
 module _ (sheet : Sheet) (changing : Changing) (lawful : IsLinearProgram sheet.lp) (free : ChangesFreely sheet changing) where
   never_along : (theta : ℚ) (value rate : List ℚ) → NeverFails (along_steps sheet theta value rate)
-  never_along theta value rate = never_each steps 1 (size sheet.lp.matrix) (λ k low high. never_sum (value_at value k) (record { left = theta; right = value_at rate k } ∷ []))
+  never_along theta value rate =
+      never_each steps 1 (size sheet.lp.matrix) (λ k low high. never_sum (value_at value k) (record { left = theta; right = value_at rate k } ∷ []))
     where
       steps : ℕ → List Step
       steps k = sum_steps (value_at value k) (record { left = theta; right = value_at rate k } ∷ [])
 
   module _ (max : ℚ) (part : Part) (truth : IsTruePart (family_of sheet changing) max part) where
-    end_passes : (theta : ℚ) → part.from ≤ℚ theta → theta ≤ℚ part.to → Passes (end_test checker_of_128_bits sheet changing theta part.value part.value_rate part.price part.price_rate)
+    end_passes : (theta : ℚ) → part.from ≤ℚ theta → theta ≤ℚ part.to →
+        Passes (end_test checker_of_128_bits sheet changing theta part.value part.value_rate part.price part.price_rate)
     end_passes theta low high =
         let solved = truth.solved theta low high in
         (pass_then (verdict_of (making_steps sheet changing theta)) _ (passes_steps _ (never_making sheet changing theta))
         (pass_then (verdict_of (along_steps sheet theta part.value part.value_rate)) _ (passes_steps _ (never_along theta part.value part.value_rate))
         (pass_then (verdict_of (along_steps sheet theta part.price part.price_rate)) _ (passes_steps _ (never_along theta part.price part.price_rate))
         (pass_then (optimal_check (family_of sheet changing theta) (along theta part.value part.value_rate) (along theta part.price part.price_rate)) []
-        (passes_steps _ (never_optimal (family_of sheet changing theta) (lawful_of sheet changing lawful free theta).is_matrix (along theta part.value part.value_rate) (along theta part.price part.price_rate) solved.best.feasible solved.certificate)) pass_none)))).passes
+        (passes_steps _
+        (never_optimal (family_of sheet changing theta) (lawful_of sheet changing lawful free theta).is_matrix (along theta part.value part.value_rate)
+        (along theta part.price part.price_rate) solved.best.feasible solved.certificate)) pass_none)))).passes
 
     forward_holds : (is_first : Bool) → (is_first ≡ true) ⊎ (part.from <ℚ part.to) → (lt_ℚ part.from part.to || (is_first && eq_ℚ part.from part.to)) ≡ true
     forward_holds is_first (inr longer) = ap (λ b. b || (is_first && eq_ℚ part.from part.to)) (test_from_lt part.from part.to longer)
@@ -107,18 +112,27 @@ module _ (sheet : Sheet) (changing : Changing) (lawful : IsLinearProgram sheet.l
       values = part_values (family_of sheet changing start) part
 
       value_is : column_of 1 lines ≡ part.value
-      value_is = column_is (sheet_at sheet changing start) values 1 (variables (family_of sheet changing start).matrix) ∙ again part.value is.values_counted.value_counted
+      value_is =
+          column_is (sheet_at sheet changing start) values 1 (variables (family_of sheet changing start).matrix)
+          ∙ again part.value is.values_counted.value_counted
 
       value_rate_is : column_of 2 lines ≡ part.value_rate
-      value_rate_is = column_is (sheet_at sheet changing start) values 2 (variables (family_of sheet changing start).matrix) ∙ again part.value_rate is.values_counted.rate_counted
+      value_rate_is =
+          column_is (sheet_at sheet changing start) values 2 (variables (family_of sheet changing start).matrix)
+          ∙ again part.value_rate is.values_counted.rate_counted
 
       price_is : column_of 3 lines ≡ part.price
-      price_is = column_is (sheet_at sheet changing start) values 3 (variables (family_of sheet changing start).matrix) ∙ again part.price is.prices_counted.value_counted
+      price_is =
+          column_is (sheet_at sheet changing start) values 3 (variables (family_of sheet changing start).matrix)
+          ∙ again part.price is.prices_counted.value_counted
 
       price_rate_is : column_of 4 lines ≡ part.price_rate
-      price_rate_is = column_is (sheet_at sheet changing start) values 4 (variables (family_of sheet changing start).matrix) ∙ again part.price_rate is.prices_counted.rate_counted
+      price_rate_is =
+          column_is (sheet_at sheet changing start) values 4 (variables (family_of sheet changing start).matrix)
+          ∙ again part.price_rate is.prices_counted.rate_counted
 
-      pub part_passes : (is_first : Bool) → (is_first ≡ true) ⊎ (part.from <ℚ part.to) → Passes (interval_test checker_of_128_bits sheet changing is_first max (interval_of (sheet_at sheet changing start) part))
+      pub part_passes : (is_first : Bool) → (is_first ≡ true) ⊎ (part.from <ℚ part.to) →
+          Passes (interval_test checker_of_128_bits sheet changing is_first max (interval_of (sheet_at sheet changing start) part))
       part_passes is_first longer =
           passes_same (interval_test checker_of_128_bits sheet changing is_first max (interval_of (sheet_at sheet changing start) part))
           (part_test checker_of_128_bits sheet changing part.from part.to part.value part.value_rate part.price part.price_rate is_first max)
@@ -127,7 +141,10 @@ module _ (sheet : Sheet) (changing : Changing) (lawful : IsLinearProgram sheet.l
           (pass_then (asked (le_ℚ part.to max)) _ (passes_asked _ (test_from_le part.to max truth.within))
           (pass_then _ _ (end_passes part.from (le_refl part.from) truth.forward)
           (pass_then _ _ (end_passes part.to truth.forward (le_refl part.to))
-          (pass_then _ [] (passes_steps _ (never_keeping (family_of sheet changing) sheet.lp.matrix sheet.lp.sense (matrix_of sheet changing) (sense_of sheet changing) (ties_of sheet changing) from max s part is truth)) pass_none))))).passes
+          (pass_then _ []
+          (passes_steps _
+          (never_keeping (family_of sheet changing) sheet.lp.matrix sheet.lp.sense (matrix_of sheet changing) (sense_of sheet changing)
+          (ties_of sheet changing) from max s part is truth)) pass_none))))).passes
 
 -- ---- closes
 
@@ -153,7 +170,8 @@ objective_kind name p h theta s t = by (face_entering_variable p h theta s t)
     by (Some q) = until q _ (stopper p t.point _)
     by None = tt
 
-rhs_kind : (name : List ℕ) (p : LinearProgram) (shift : List ℚ) (theta : ℚ) (s : List Status) (t : Tableau) (v : Vector) → IsKindOf (Set name) (rhs_face p shift theta s t v)
+rhs_kind : (name : List ℕ) (p : LinearProgram) (shift : List ℚ) (theta : ℚ) (s : List Status) (t : Tableau) (v : Vector) →
+    IsKindOf (Set name) (rhs_face p shift theta s t v)
 unfolding rhs_face
 rhs_kind name p shift theta s t v = by (leaving p shift theta s t v)
   where
@@ -165,22 +183,30 @@ rhs_kind name p shift theta s t v = by (leaving p shift theta s t v)
     by (Some r) = exchange r (leaves_below p shift theta s t v r) (cheapest p s t r (leaves_below p shift theta s t v r))
     by None = tt
 
-pub face_kind : (sheet : Sheet) (changing : Changing) (theta : ℚ) (s : List Status) (end : PastBreakpoint) → IsFace sheet changing theta s (FaceEnds end) → IsKind changing end
+pub face_kind : (sheet : Sheet) (changing : Changing) (theta : ℚ) (s : List Status) (end : PastBreakpoint) → IsFace sheet changing theta s (FaceEnds end) →
+    IsKind changing end
 face_kind sheet (Row name) theta s end face = subst (IsKindOf (Row name)) face.2 (objective_kind name _ (row_of sheet.problem name) theta s face.0)
 face_kind sheet (Set name) theta s end face = subst (IsKindOf (Set name)) face.4 (rhs_kind name _ (shifts_of sheet.problem name) theta s face.0 face.1)
 
-pub close_passes : (problem : Problem ℕ) (lp : LinearProgram) (changing : Changing) → IsLinearProgram lp → ChangesFreely (record { problem = problem; lp = lp }) changing → (start max last : ℚ) (v : Vector) →
-    IsBest (family_of (record { problem = problem; lp = lp }) changing last) v → (past : PastBreakpoint) → IsKind changing past → IsTrueEnd (family_of (record { problem = problem; lp = lp }) changing) max last past →
-    Passes (close_test checker_of_128_bits (record { problem = problem; lp = lp }) changing max last (end_of (sheet_at (record { problem = problem; lp = lp }) changing start) max past))
+pub close_passes : (problem : Problem ℕ) (lp : LinearProgram) (changing : Changing) → IsLinearProgram lp →
+    ChangesFreely (record { problem = problem; lp = lp }) changing → (start max last : ℚ) (v : Vector) →
+    IsBest (family_of (record { problem = problem; lp = lp }) changing last) v → (past : PastBreakpoint) → IsKind changing past →
+    IsTrueEnd (family_of (record { problem = problem; lp = lp }) changing) max last past →
+    Passes (close_test checker_of_128_bits (record { problem = problem; lp = lp }) changing max last
+    (end_of (sheet_at (record { problem = problem; lp = lp }) changing start) max past))
 close_passes problem lp (Row name) lawful free start max last v best AtMax kind is =
-    (pass_then (asked (eq_ℚ max last)) _ (passes_asked _ (test_from_same max last (sym is))) (pass_then (asked (eq_ℚ max max)) [] (passes_asked _ (test_from_same max max refl)) pass_none)).passes
+    (pass_then (asked (eq_ℚ max last)) _ (passes_asked _ (test_from_same max last (sym is)))
+    (pass_then (asked (eq_ℚ max max)) [] (passes_asked _ (test_from_same max max refl)) pass_none)).passes
 close_passes problem lp (Set name) lawful free start max last v best AtMax kind is =
-    (pass_then (asked (eq_ℚ max last)) _ (passes_asked _ (test_from_same max last (sym is))) (pass_then (asked (eq_ℚ max max)) [] (passes_asked _ (test_from_same max max refl)) pass_none)).passes
+    (pass_then (asked (eq_ℚ max last)) _ (passes_asked _ (test_from_same max last (sym is)))
+    (pass_then (asked (eq_ℚ max max)) [] (passes_asked _ (test_from_same max max refl)) pass_none)).passes
 close_passes problem lp (Row name) lawful free start max last v best (PastUnbounded past z d) kind is =
     passes_same _ (past_test max last past (test z' d')) (λ i. past_test max last past (test (first_is i) (second_is i)))
     (pass_then (asked (eq_ℚ past last)) _ (passes_asked _ (test_from_same past last is.at_last))
     (pass_then (asked (lt_ℚ past max)) _ (passes_asked _ (test_from_lt past max (subst (λ (x : ℚ). x <ℚ max) (sym is.at_last) is.before_max)))
-    (pass_then (test z' d') [] (unbounded_passes lp (row_of problem name) lawful free.0 past z d v (subst (λ (x : ℚ). IsBest (family_of sheet (Row name) x) v) (sym is.at_last) best) is.proved problem (Row name)) pass_none))).passes
+    (pass_then (test z' d') []
+    (unbounded_passes lp (row_of problem name) lawful free.0 past z d v
+    (subst (λ (x : ℚ). IsBest (family_of sheet (Row name) x) v) (sym is.at_last) best) is.proved problem (Row name)) pass_none))).passes
   where
     sheet : Sheet
     sheet = record { problem = problem; lp = lp }
@@ -204,12 +230,14 @@ close_passes problem lp (Set name) lawful free start max last v best (PastInfeas
     (pass_then (asked (eq_ℚ past last)) _ (passes_asked _ (test_from_same past last is.at_last))
     (pass_then (asked (lt_ℚ past max)) _ (passes_asked _ (test_from_lt past max (subst (λ (x : ℚ). x <ℚ max) (sym is.at_last) is.before_max)))
     (pass_then (test (listed lp.matrix (value_at w))) [] (infeasible_passes lp (shifts_of problem name) (lawful_rhs lp (shifts_of problem name) lawful) past w v
-    (subst (λ (x : ℚ). IsBest (family_of (record { problem = problem; lp = lp }) (Set name) x) v) (sym is.at_last) best).feasible is.proved problem name refl) pass_none))).passes
+    (subst (λ (x : ℚ). IsBest (family_of (record { problem = problem; lp = lp }) (Set name) x) v)
+    (sym is.at_last) best).feasible is.proved problem name refl) pass_none))).passes
   where
     test : List ℚ → Verdict
     test xs = infeasible_past checker_of_128_bits (record { problem = problem; lp = lp }) (Set name) (shifts_of problem name) past (value_at xs)
 
-    ray_is : multipliers (record { problem = problem; lp = lp }) (ray_lines (sheet_at (record { problem = problem; lp = lp }) (Set name) start) w) ≡ listed lp.matrix (value_at w)
+    ray_is : multipliers (record { problem = problem; lp = lp })
+        (ray_lines (sheet_at (record { problem = problem; lp = lp }) (Set name) start) w) ≡ listed lp.matrix (value_at w)
     ray_is = numbers_of_ray (record { problem = problem; lp = lp }) w
 close_passes problem lp (Row name) lawful free start max last v best (PastInfeasible past w) kind is = absurd kind
 close_passes problem lp (Set name) lawful free start max last v best (PastUnbounded past z d) kind is = absurd kind

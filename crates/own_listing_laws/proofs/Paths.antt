@@ -46,7 +46,8 @@ use Rattle.own_listing_laws.proofs.Pace.{rebased, WaitsFor, WaitsAt, Lands, IsDu
 -- ---- a test that passes
 
 -- what is read is right, or an operation of its test is refused
-pub judged_so : {X : Type 0} (v : Verdict) (x : X) (rest : List ℕ) (P : Judged X → Type 0) → Passes v → (v ≡ Checked → P (Right x rest)) → P Refuses → P (judge v x rest)
+pub judged_so : {X : Type 0} (v : Verdict) (x : X) (rest : List ℕ) (P : Judged X → Type 0) → Passes v → (v ≡ Checked → P (Right x rest)) → P Refuses →
+    P (judge v x rest)
 judged_so Checked x rest P passes right refused = right refl
 judged_so (Failed part number) x rest P passes right refused = absurd (passes.never part number refl)
 judged_so (Unchecked r) x rest P passes right refused = refused
@@ -90,13 +91,15 @@ module _ (pending : Option Pending) (report : Report) (state : State) (waits : W
 least_count : (n : ℕ) → min n 4294967295 ≤ 4294967295
 least_count n = omega arith
 
-ended_printed : (sheet : Sheet) (s : Basis) (t : Tableau) (n : ℕ) (ending : PathEnding) → IsOf sheet.lp s t ending → IsPrinted sheet (verdicts.verdict_of sheet n ending)
+ended_printed : (sheet : Sheet) (s : Basis) (t : Tableau) (n : ℕ) (ending : PathEnding) → IsOf sheet.lp s t ending →
+    IsPrinted sheet (verdicts.verdict_of sheet n ending)
 ended_printed sheet s t n (EndsOptimal z y) is = least_count n
 ended_printed sheet s t n (EndsCrossed k) is = (omega (arith, is.0), is.1)
 ended_printed sheet s t n (EndsInfeasible w) is = record { small = least_count n; ray = w; are_lines = refl }
 ended_printed sheet s t n (EndsUnbounded z d) is = record { small = least_count n; point = z; direction = d; are_lines = refl }
 
-pub verdict_printed : (sheet : Sheet) (s : Basis) (t : Tableau) (n : ℕ) (ending : PathEnding) (verdict : PathVerdict) → IsOf sheet.lp s t ending → verdict ≡ verdicts.verdict_of sheet n ending → IsPrinted sheet verdict
+pub verdict_printed : (sheet : Sheet) (s : Basis) (t : Tableau) (n : ℕ) (ending : PathEnding) (verdict : PathVerdict) → IsOf sheet.lp s t ending →
+    verdict ≡ verdicts.verdict_of sheet n ending → IsPrinted sheet verdict
 verdict_printed sheet s t n ending verdict is same = subst (IsPrinted sheet) (sym same) (ended_printed sheet s t n ending is)
 
 -- a path that was gone
@@ -108,7 +111,8 @@ pub record HasEnded (solver : Solver) (sheet : Sheet) (s : Basis) (bases : List 
   pub is_verdict : IsVerdict sheet (length bases) ending verdict check
   pub is_readable : IsReadable solver verdict
 
-dual_readable : (sheet : Sheet) (n : ℕ) (ending : PathEnding) → ((z d : List ℚ) → ending ≡ EndsUnbounded z d → ⊥) → IsReadable ByDual (verdicts.verdict_of sheet n ending)
+dual_readable : (sheet : Sheet) (n : ℕ) (ending : PathEnding) → ((z d : List ℚ) → ending ≡ EndsUnbounded z d → ⊥) →
+    IsReadable ByDual (verdicts.verdict_of sheet n ending)
 dual_readable sheet n (EndsOptimal z y) never = tt
 dual_readable sheet n (EndsCrossed k) never = tt
 dual_readable sheet n (EndsInfeasible w) never = tt
@@ -119,7 +123,9 @@ IsPathSolver ByPrimal = Unit {0}
 IsPathSolver ByDual = Unit {0}
 IsPathSolver solver = ⊥
 
-pub has_ended : (solver : Solver) → IsPathSolver solver → (sheet : Sheet) (s : Basis) (limit : Option ℕ) (bases : List Basis) (verdict : PathVerdict) (check : Check) → verdicts.IsSolvedBy solver sheet s limit (Reached bases verdict check) →
+pub has_ended : (solver : Solver) → IsPathSolver solver →
+    (sheet : Sheet) (s : Basis) (limit : Option ℕ) (bases : List Basis) (verdict : PathVerdict) (check : Check) →
+    verdicts.IsSolvedBy solver sheet s limit (Reached bases verdict check) →
     HasEnded solver sheet s bases verdict check
 has_ended ByPrimal path sheet s limit bases verdict check solved = record {
   tableau = solved.ends.ends.tableau;
@@ -141,26 +147,34 @@ has_ended ByDual path sheet s limit bases verdict check solved = record {
 has_ended ByParaobj path sheet s limit bases verdict check solved = absurd path
 has_ended ByPararhs path sheet s limit bases verdict check solved = absurd path
 
-ended_so_passes : (solver : Solver) (sheet : Sheet) (s : Basis) (bases : List Basis) (verdict : PathVerdict) (check : Check) → HasEnded solver sheet s bases verdict check → Passes (verdict_test checker_of_128_bits sheet verdict check)
-ended_so_passes solver sheet s bases verdict check ended = verdict_passes sheet (last_of s bases) ended.tableau (length bases) ended.ending verdict check ended.is_of ended.is_verdict
+ended_so_passes : (solver : Solver) (sheet : Sheet) (s : Basis) (bases : List Basis) (verdict : PathVerdict) (check : Check) →
+    HasEnded solver sheet s bases verdict check → Passes (verdict_test checker_of_128_bits sheet verdict check)
+ended_so_passes solver sheet s bases verdict check ended =
+    verdict_passes sheet (last_of s bases) ended.tableau (length bases) ended.ending verdict check ended.is_of ended.is_verdict
 
 -- the test of a path's verdict never fails
-pub path_passes : (solver : Solver) (sheet : Sheet) (s : Basis) (limit : Option ℕ) (bases : List Basis) (verdict : PathVerdict) (check : Check) → verdicts.IsSolvedBy solver sheet s limit (Reached bases verdict check) →
+pub path_passes : (solver : Solver) (sheet : Sheet) (s : Basis) (limit : Option ℕ) (bases : List Basis) (verdict : PathVerdict) (check : Check) →
+    verdicts.IsSolvedBy solver sheet s limit (Reached bases verdict check) →
     Passes (verdict_test checker_of_128_bits sheet verdict check)
-path_passes ByPrimal sheet s limit bases verdict check solved = ended_so_passes ByPrimal sheet s bases verdict check (has_ended ByPrimal tt sheet s limit bases verdict check solved)
-path_passes ByDual sheet s limit bases verdict check solved = ended_so_passes ByDual sheet s bases verdict check (has_ended ByDual tt sheet s limit bases verdict check solved)
+path_passes ByPrimal sheet s limit bases verdict check solved =
+    ended_so_passes ByPrimal sheet s bases verdict check (has_ended ByPrimal tt sheet s limit bases verdict check solved)
+path_passes ByDual sheet s limit bases verdict check solved =
+    ended_so_passes ByDual sheet s bases verdict check (has_ended ByDual tt sheet s limit bases verdict check solved)
 path_passes ByParaobj sheet s limit bases verdict check solved = absurd solved
 path_passes ByPararhs sheet s limit bases verdict check solved = absurd solved
 
 -- ---- what is pending after it
 
-pending_of : (sheet : Sheet) (setup : Option Present) (objective rhs : Option Name) (present : Present) (rest : List ℕ) (n : ℕ) (t : Tableau) (ending : PathEnding) (verdict : PathVerdict) (check : Check) →
-    setup ≡ Some present → selected present.problem (record { objective = objective; rhs = rhs; options = present.options }) ≡ Ok sheet.lp → IsTableau sheet.lp (present_basis present) t → IsOf sheet.lp (present_basis present) t ending →
+pending_of : (sheet : Sheet) (setup : Option Present) (objective rhs : Option Name) (present : Present) (rest : List ℕ) (n : ℕ) (t : Tableau)
+    (ending : PathEnding) (verdict : PathVerdict) (check : Check) →
+    setup ≡ Some present → selected present.problem (record { objective = objective; rhs = rhs; options = present.options }) ≡ Ok sheet.lp →
+    IsTableau sheet.lp (present_basis present) t → IsOf sheet.lp (present_basis present) t ending →
     verdict ≡ verdicts.verdict_of sheet n ending → check_of sheet.lp ending ≡ found check → WaitsFor (pending_after rest verdict check) setup objective rhs
 pending_of sheet setup objective rhs present rest n t ending verdict check set is tab of same checks =
     subst (λ v. WaitsFor (pending_after rest v check) setup objective rhs) (sym same) (by ending of checks)
   where
-    by : (ending : PathEnding) → IsOf sheet.lp (present_basis present) t ending → check_of sheet.lp ending ≡ found check → WaitsFor (pending_after rest (verdicts.verdict_of sheet n ending) check) setup objective rhs
+    by : (ending : PathEnding) → IsOf sheet.lp (present_basis present) t ending → check_of sheet.lp ending ≡ found check →
+        WaitsFor (pending_after rest (verdicts.verdict_of sheet n ending) check) setup objective rhs
     by (EndsOptimal z y) of checks = record {
       present = present;
       is_setup = set;
@@ -177,8 +191,10 @@ pending_of sheet setup objective rhs present rest n t ending verdict check set i
 
 -- ---- the question of a path
 
-module _ (w : Walker) (s : State) (opening : Basis) (steps : List Basis) (card : ℕ) (solver : Solver) (path : IsPathSolver solver) (limit : Option ℕ) (present : Present) (lp : LinearProgram) (set : s.setup ≡ Some present)
-    (is : selected present.problem (choice_of s.cells present.options) ≡ Ok lp) (limits : steps_allowed s.cells ≤ max_count) (few : size lp.matrix ≤ max_count) where
+module _ (w : Walker) (s : State) (opening : Basis) (steps : List Basis) (card : ℕ) (solver : Solver) (path : IsPathSolver solver) (limit : Option ℕ)
+    (present : Present) (lp : LinearProgram) (set : s.setup ≡ Some present)
+    (is : selected present.problem (choice_of s.cells present.options) ≡ Ok lp) (limits : steps_allowed s.cells ≤ max_count)
+    (few : size lp.matrix ≤ max_count) where
   abbrev sheet : Sheet
   sheet = record { problem = present.problem; lp = lp }
 
@@ -198,7 +214,8 @@ module _ (w : Walker) (s : State) (opening : Basis) (steps : List Basis) (card :
   abbrev question : Question
   question = OfPath solver limit
 
-  reached_lands : (bases : List Basis) (verdict : PathVerdict) (check : Check) (more : List ℕ) → HasEnded solver sheet (present_basis present) bases verdict check → IsDue w (own (Reached bases verdict check)) more →
+  reached_lands : (bases : List Basis) (verdict : PathVerdict) (check : Check) (more : List ℕ) →
+      HasEnded solver sheet (present_basis present) bases verdict check → IsDue w (own (Reached bases verdict check)) more →
       Lands (own (Reached bases verdict check)) more (answered checker_of_128_bits w question sheet go (judged checker_of_128_bits question sheet w.rest))
   reached_lands bases verdict check more ended given =
       subst (λ (parsed : Parsed Claim). LandsSo (judged_map f (tested test parsed))) (sym read)
@@ -225,7 +242,9 @@ module _ (w : Walker) (s : State) (opening : Basis) (steps : List Basis) (card :
       read : verdict_in (fraction_in checker_of_128_bits) sheet solver w.rest ≡ Some ((verdict, check), more)
       read =
           ap (verdict_in (fraction_in checker_of_128_bits) sheet solver) (given.text ∙ ap (λ (g : Gain). gain_text g ++ more) gain)
-          ∙ verdict_read sheet check fits.1 more solver verdict ended.is_readable (verdict_printed sheet (last_of (present_basis present) bases) ended.tableau (length bases) ended.ending verdict ended.is_of ended.is_verdict.is_verdict) fits.0 given.plain
+          ∙ verdict_read sheet check fits.1 more solver verdict ended.is_readable
+          (verdict_printed sheet (last_of (present_basis present) bases) ended.tableau
+          (length bases) ended.ending verdict ended.is_of ended.is_verdict.is_verdict) fits.0 given.plain
 
       passes : Passes (verdict_test checker_of_128_bits sheet verdict check)
       passes = verdict_passes sheet (last_of (present_basis present) bases) ended.tableau (length bases) ended.ending verdict check ended.is_of ended.is_verdict
@@ -234,31 +253,47 @@ module _ (w : Walker) (s : State) (opening : Basis) (steps : List Basis) (card :
       there = last_of-append present.opening present.steps bases
 
       waits : WaitsAt (pending_after w.rest verdict check) after
-      waits = pending_of sheet after.setup after.cells.xobj after.cells.xrhs (gone_through bases present) w.rest (length bases) ended.tableau ended.ending verdict check refl is
-          (subst (λ b. IsTableau lp b ended.tableau) (sym there) ended.is_tableau) (subst (λ b. IsOf lp b ended.tableau ended.ending) (sym there) ended.is_of) ended.is_verdict.is_verdict ended.is_verdict.is_check
+      waits =
+          pending_of sheet after.setup after.cells.xobj after.cells.xrhs (gone_through bases present) w.rest
+          (length bases) ended.tableau ended.ending verdict check refl is
+          (subst (λ b. IsTableau lp b ended.tableau) (sym there) ended.is_tableau)
+          (subst (λ b. IsOf lp b ended.tableau ended.ending) (sym there) ended.is_of) ended.is_verdict.is_verdict ended.is_verdict.is_check
 
       right : LandsSo (Right (Reached [] verdict check) more)
-      right = follows_lands (record (passed more 1 w) { pending = pending_after w.rest verdict check }) (go (Reached [] verdict check)) (own (Reached bases verdict check)) more
-          (verdict_alike (Solved solver verdict check) after opening (steps ++ []) limits (mark_of verdict)) refl given.ends (verdict_waits (pending_after w.rest verdict check) (Solved solver verdict check) after waits (mark_of verdict))
+      right =
+          follows_lands (record (passed more 1 w) { pending = pending_after w.rest verdict check }) (go (Reached [] verdict check))
+          (own (Reached bases verdict check)) more
+          (verdict_alike (Solved solver verdict check) after opening (steps ++ []) limits (mark_of verdict)) refl given.ends
+          (verdict_waits (pending_after w.rest verdict check) (Solved solver verdict check) after waits (mark_of verdict))
 
   -- the variable of a wrong price
-  wrong_variable : (solver : Solver) → IsPathSolver solver → (limit : Option ℕ) (j : ℕ) → verdicts.IsSolvedBy solver sheet (present_basis present) limit (PricesWrong j) → j ≤ max_count
+  wrong_variable : (solver : Solver) → IsPathSolver solver → (limit : Option ℕ) (j : ℕ) →
+      verdicts.IsSolvedBy solver sheet (present_basis present) limit (PricesWrong j) → j ≤ max_count
   wrong_variable ByPrimal path limit j wrong = absurd wrong
   wrong_variable ByDual path limit j wrong =
-      let found = find_some (lowers lp (present_basis present) (worth_rate lp (present_basis present) wrong.tableau)) (size lp.matrix) 1 j wrong.wrong in omega (arith, found.high, few)
+      let found = find_some (lowers lp (present_basis present) (worth_rate lp (present_basis present) wrong.tableau)) (size lp.matrix) 1 j wrong.wrong in
+      omega (arith, found.high, few)
   wrong_variable ByParaobj path limit j wrong = absurd path
   wrong_variable ByPararhs path limit j wrong = absurd path
 
   pub path_followed : IsFollowed w card (asks question sheet set_up go) (asks question sheet present own)
   path_followed =
-      may_stop w card (Asks question sheet (present_basis set_up) go) (Asks question sheet (present_basis present) own) (InAnswer question sheet (path_of set_up)) (InAnswer question sheet (path_of present)) tt
+      may_stop w card (Asks question sheet (present_basis set_up) go) (Asks question sheet (present_basis present) own)
+      (InAnswer question sheet (path_of set_up)) (InAnswer question sheet (path_of present)) tt
       (asked_lands w card question sheet (present_basis set_up) (present_basis present) go own lands)
     where
-      lands : card ≤ max_count → (answer : PathEnd) (more : List ℕ) → IsRight linear_programming question sheet (present_basis present) answer → IsDue w (own answer) more → open_question w question sheet go ≡ None →
+      lands : card ≤ max_count → (answer : PathEnd) (more : List ℕ) → IsRight linear_programming question sheet (present_basis present) answer →
+          IsDue w (own answer) more → open_question w question sheet go ≡ None →
           Lands (own answer) more (answered checker_of_128_bits w question sheet go (judged checker_of_128_bits question sheet w.rest))
       lands small (Reached bases verdict check) more right given none =
-          reached_lands bases verdict check more (has_ended solver path sheet (present_basis present) limit bases verdict check (knows_linear_programming.solves solver sheet (present_basis present) limit (Reached bases verdict check) right)) given
+          reached_lands bases verdict check more
+          (has_ended solver path sheet (present_basis present) limit bases verdict check
+          (knows_linear_programming.solves solver sheet (present_basis present) limit (Reached bases verdict check) right)) given
       lands small PathLimit more right given none =
-          absurd (never_stopped w card question sheet (present_basis set_up) (present_basis present) go own none (ap is_open_stop (given.text ∙ given.ends) ∙ open_limit _ limits small))
+          absurd (never_stopped w card question sheet (present_basis set_up) (present_basis present) go own none
+          (ap is_open_stop (given.text ∙ given.ends) ∙ open_limit _ limits small))
       lands small (PricesWrong j) more right given none =
-          absurd (never_stopped w card question sheet (present_basis set_up) (present_basis present) go own none (ap is_open_stop (given.text ∙ given.ends) ∙ open_price _ small (wrong_variable solver path limit j (knows_linear_programming.solves solver sheet (present_basis present) limit (PricesWrong j) right))))
+          absurd (never_stopped w card question sheet (present_basis set_up) (present_basis present) go own none
+          (ap is_open_stop (given.text ∙ given.ends)
+          ∙ open_price _ small
+          (wrong_variable solver path limit j (knows_linear_programming.solves solver sheet (present_basis present) limit (PricesWrong j) right))))

@@ -32,7 +32,8 @@ IsWord word = list_all (λ byte. not (ends_word byte)) word ≡ true
 pub record Gives {X : Type 0} (reads : List ℕ → Option X) (rest : List ℕ) (got : Option X) : Type 0 where
   pub of : reads rest ≡ got
 
-pub text_first : {X : Type 0} (text : List ℕ) (reads : List ℕ → Option X) (rest : List ℕ) (got : Option X) → Gives reads rest got → Gives (with_text text reads) (text ++ rest) got
+pub text_first : {X : Type 0} (text : List ℕ) (reads : List ℕ → Option X) (rest : List ℕ) (got : Option X) → Gives reads rest got →
+    Gives (with_text text reads) (text ++ rest) got
 text_first text reads rest got gives = record { of = ap (option_and_then reads) (stands text rest) ∙ gives.of }
 
 pub word_is : (word : List ℕ) (byte : ℕ) (rest : List ℕ) → IsWord word → ends_word byte ≡ true → word_in (word ++ byte ∷ rest) ≡ word
@@ -48,10 +49,12 @@ word_first {X} of word x byte rest reads got is ends means gives = record {
 }
 
 -- the other one of two, where the first can't be read
-pub or_else : {X : Type 0} (first second : List ℕ → Option X) (rest : List ℕ) (got : Option X) → first rest ≡ None → Gives second rest got → Gives (λ rest. option_or (first rest) (second rest)) rest got
+pub or_else : {X : Type 0} (first second : List ℕ → Option X) (rest : List ℕ) (got : Option X) → first rest ≡ None → Gives second rest got →
+    Gives (λ rest. option_or (first rest) (second rest)) rest got
 or_else first second rest got none gives = record { of = ap (λ o. option_or o (second rest)) none ∙ gives.of }
 
-pub or_first : {X : Type 0} (first second : List ℕ → Option X) (rest : List ℕ) (x : X) → Gives first rest (Some x) → Gives (λ rest. option_or (first rest) (second rest)) rest (Some x)
+pub or_first : {X : Type 0} (first second : List ℕ → Option X) (rest : List ℕ) (x : X) → Gives first rest (Some x) →
+    Gives (λ rest. option_or (first rest) (second rest)) rest (Some x)
 or_first first second rest x gives = record { of = ap (λ o. option_or o (second rest)) gives.of }
 
 -- what begins with another text isn't read
@@ -86,13 +89,17 @@ count_of_text most n small =
     ∙ ap₂ (λ a b. if a && b then Some n else None) (le-leb n most small) ((bytes_eq-Decides (digits n) (digits n)).1 refl)
 
 module _ {Y : Type 0} where
-  pub fraction_first : (x : ℚ) (byte : ℕ) (rest : List ℕ) (reads : ℚ → List ℕ → Option Y) (got : Option Y) → TermsFit x → ends_word byte ≡ true → Gives (reads x) (byte ∷ rest) got →
+  pub fraction_first : (x : ℚ) (byte : ℕ) (rest : List ℕ) (reads : ℚ → List ℕ → Option Y) (got : Option Y) → TermsFit x → ends_word byte ≡ true →
+      Gives (reads x) (byte ∷ rest) got →
       Gives (with_word (fraction_in checker_of_128_bits) reads) (rational_text x ++ byte ∷ rest) got
-  fraction_first x byte rest reads got fit ends gives = word_first (fraction_in checker_of_128_bits) (rational_text x) x byte rest reads got (rational_word x) ends (fraction_of_text x fit) gives
+  fraction_first x byte rest reads got fit ends gives =
+      word_first (fraction_in checker_of_128_bits) (rational_text x) x byte rest reads got (rational_word x) ends (fraction_of_text x fit) gives
 
-  pub count_first : (most n byte : ℕ) (rest : List ℕ) (reads : ℕ → List ℕ → Option Y) (got : Option Y) → n ≤ most → ends_word byte ≡ true → Gives (reads n) (byte ∷ rest) got →
+  pub count_first : (most n byte : ℕ) (rest : List ℕ) (reads : ℕ → List ℕ → Option Y) (got : Option Y) → n ≤ most → ends_word byte ≡ true →
+      Gives (reads n) (byte ∷ rest) got →
       Gives (with_word (count_in most) reads) (digits n ++ byte ∷ rest) got
-  count_first most n byte rest reads got small ends gives = word_first (count_in most) (digits n) n byte rest reads got (digits_word n) ends (count_of_text most n small) gives
+  count_first most n byte rest reads got small ends gives =
+      word_first (count_in most) (digits n) n byte rest reads got (digits_word n) ends (count_of_text most n small) gives
 
 -- ---- checks
 
@@ -126,13 +133,20 @@ module _ {X : Type 0} (reads : Check → List ℕ → Option X) where
   abbrev unchecked_in : List ℕ → Option X
   unchecked_in = with_text (codes "UNCHECKED ") (with_word (named all_operations) after_operation)
 
-pub check_first : {X : Type 0} (check : Check) (reads : Check → List ℕ → Option X) (rest : List ℕ) (x : X) → CheckFits check → Gives (reads check) rest (Some x) →
+pub check_first : {X : Type 0} (check : Check) (reads : Check → List ℕ → Option X) (rest : List ℕ) (x : X) → CheckFits check →
+    Gives (reads check) rest (Some x) →
     Gives (with_check reads) (check_text check ++ (codes "\n" ++ rest)) (Some x)
-check_first Checked reads rest x fit gives = or_first (with_text (codes "CHECKED\n") (reads Checked)) (unchecked_in reads) (codes "CHECKED\n" ++ rest) x (text_first (codes "CHECKED\n") (reads Checked) rest (Some x) gives)
+check_first Checked reads rest x fit gives =
+    or_first (with_text (codes "CHECKED\n") (reads Checked)) (unchecked_in reads) (codes "CHECKED\n" ++ rest) x
+    (text_first (codes "CHECKED\n") (reads Checked) rest (Some x) gives)
 check_first {X} (Unchecked refused) reads rest x fit gives =
-    same_rest (with_check reads) _ (codes "UNCHECKED " ++ numbers) (Some x) (as_refused (operation_text refused.op) (rational_text refused.left) (rational_text refused.right) rest)
-    (or_else (with_text (codes "CHECKED\n") (reads Checked)) (unchecked_in reads) (codes "UNCHECKED " ++ numbers) (Some x) (not_there (codes "CHECKED\n") (reads Checked) (codes "UNCHECKED " ++ numbers) refl)
-    (text_first (codes "UNCHECKED ") _ numbers (Some x) (word_first (named all_operations) (operation_text refused.op) refused.op 32 _ (after_operation reads) (Some x) (operation_word refused.op) refl (operation_named refused.op)
+    same_rest (with_check reads) _ (codes "UNCHECKED " ++ numbers) (Some x)
+    (as_refused (operation_text refused.op) (rational_text refused.left) (rational_text refused.right) rest)
+    (or_else (with_text (codes "CHECKED\n") (reads Checked)) (unchecked_in reads) (codes "UNCHECKED " ++ numbers) (Some x)
+    (not_there (codes "CHECKED\n") (reads Checked) (codes "UNCHECKED " ++ numbers) refl)
+    (text_first (codes "UNCHECKED ") _ numbers (Some x)
+    (word_first (named all_operations) (operation_text refused.op) refused.op 32 _ (after_operation reads) (Some x) (operation_word refused.op) refl
+    (operation_named refused.op)
     (text_first (codes " ") _ _ (Some x) (fraction_first refused.left 32 _ (after_left reads refused.op) (Some x) fit.0 refl
     (text_first (codes " ") _ _ (Some x) (fraction_first refused.right 10 rest (after_right reads refused.op refused.left) (Some x) fit.1 refl
     (text_first (codes "\n") (reads (Unchecked (record { op = refused.op; left = refused.left; right = refused.right }))) rest (Some x) gives))))))))

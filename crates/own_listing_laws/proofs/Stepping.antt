@@ -49,14 +49,17 @@ pub record GoesOn (t : WalkTurn) (objective : Option ℚ) (after : State) (more 
   pub stands : StandsAt walker objective after more
   pub counts : walker.reports ≡ reports
 
-goes_on : (u : Walker) (own : StatementOutcome) (gain : Gain) (after : State) (objective : Option ℚ) (t : WalkTurn) → t ≡ follows u own → AreAlike own (Goes gain after) → IsPending objective u.pending → GoesOn t objective after u.rest u.reports
+goes_on : (u : Walker) (own : StatementOutcome) (gain : Gain) (after : State) (objective : Option ℚ) (t : WalkTurn) → t ≡ follows u own →
+    AreAlike own (Goes gain after) → IsPending objective u.pending → GoesOn t objective after u.rest u.reports
 goes_on u (Goes own other) gain after objective t is alike waits =
     record { walker = record u { state = other }; is = is; stands = record { like = alike.1; is_rest = refl; waits = waits }; counts = refl }
 goes_on u (Ends own other) gain after objective t is alike waits = absurd alike
 
-ends_so : (u : Walker) (own : StatementOutcome) (gain : Gain) (ending : Ending) (t : WalkTurn) → t ≡ follows u own → AreAlike own (Ends gain ending) → u.pending ≡ None → u.rest ≡ ending_text ending → is_open_stop (ending_text ending) ≡ false →
+ends_so : (u : Walker) (own : StatementOutcome) (gain : Gain) (ending : Ending) (t : WalkTurn) → t ≡ follows u own → AreAlike own (Ends gain ending) →
+    u.pending ≡ None → u.rest ≡ ending_text ending → is_open_stop (ending_text ending) ≡ false →
     t ≡ Finds (Attested u.reports)
-ends_so u (Ends own other) gain ending t is alike none rest closed = is ∙ ap (closes u) alike.1 ∙ walks_on.end u ending none rest (ap is_open_stop rest ∙ closed)
+ends_so u (Ends own other) gain ending t is alike none rest closed =
+    is ∙ ap (closes u) alike.1 ∙ walks_on.end u ending none rest (ap is_open_stop rest ∙ closed)
 ends_so u (Goes own other) gain ending t is alike none rest closed = absurd alike
 
 -- ---- outcomes
@@ -87,7 +90,8 @@ verdict_pending rest (InfeasibleBy steps lines) = refl
 verdict_pending rest (UnboundedBy steps objective lines) = refl
 
 -- an optimal verdict doesn't end a run
-nothing_pending : (rest : List ℕ) (verdict : PathVerdict) (report : Report) (s : State) (gain : Gain) (ending : Ending) → Ends gain ending ≡ by_verdict (mark_of verdict) report s → pending_after rest verdict Checked ≡ None
+nothing_pending : (rest : List ℕ) (verdict : PathVerdict) (report : Report) (s : State) (gain : Gain) (ending : Ending) →
+    Ends gain ending ≡ by_verdict (mark_of verdict) report s → pending_after rest verdict Checked ≡ None
 nothing_pending rest (OptimalAt steps objective) report s gain ending e = absurd (cc e)
 nothing_pending rest (CrossedAt k) report s gain ending e = refl
 nothing_pending rest (InfeasibleBy steps lines) report s gain ending e = refl
@@ -97,7 +101,8 @@ record Settled (pending : Option Pending) (objective : ℚ) : Type 0 where
   pub at : List ℕ
   pub is : (pending ≡ None) ⊎ (pending ≡ Some (record { rest = at; objective = objective; check = Checked }))
 
-settled : (waiting : Option ℚ) (pending : Option Pending) (objective : ℚ) → IsPending waiting pending → (waiting ≡ None) ⊎ (waiting ≡ Some objective) → Settled pending objective
+settled : (waiting : Option ℚ) (pending : Option Pending) (objective : ℚ) → IsPending waiting pending → (waiting ≡ None) ⊎ (waiting ≡ Some objective) →
+    Settled pending objective
 settled None pending objective is either = record { at = []; is = inl is }
 settled (Some other) pending objective is (inl e) = absurd (cc e)
 settled (Some other) pending objective is (inr e) = subst (λ (x : ℚ). Settled pending x) (same_Some other objective e) (record { at = is.0; is = inr is.1 })
@@ -114,7 +119,8 @@ module _ (program : Program) (w : Walker) (s : State) (like : IsRebased w.state 
   executed_is : w.state.executed ≡ s.executed
   executed_is = ap (λ (st : State). st.executed) like.is
 
-  pub over_found : (ending : Ending) → IsOver linear_programming program s ending → w.pending ≡ None → w.rest ≡ ending_text ending → is_open_stop (ending_text ending) ≡ false →
+  pub over_found : (ending : Ending) → IsOver linear_programming program s ending → w.pending ≡ None → w.rest ≡ ending_text ending →
+      is_open_stop (ending_text ending) ≡ false →
       turn checker_of_128_bits program w ≡ Finds (Attested w.reports)
   over_found _ (at_end past) none rest closed =
       turn_at_end program w (ap (λ n. nat_lt (length program.statements) n) position_is ∙ lt-ltb (length program.statements) s.position past)
@@ -141,10 +147,13 @@ module _ (program : Program) (w : Walker) (s : State) (like : IsRebased w.state 
     pub alike : AreAlike own outcome
     pub is : turn checker_of_128_bits program w ≡ follows u own
 
-  statement_turn : (outcome : StatementOutcome) (more : List ℕ) (step : Step linear_programming program s outcome) → AsksNothing program s outcome step → (w.pending ≡ None) ⊎ KeepsMark outcome →
+  statement_turn : (outcome : StatementOutcome) (more : List ℕ) (step : Step linear_programming program s outcome) → AsksNothing program s outcome step →
+      (w.pending ≡ None) ⊎ KeepsMark outcome →
       w.rest ≡ gain_text (gain_of outcome) ++ more → is_open_stop w.rest ≡ false → Turned outcome (passed more (length (printed_by (gain_of outcome))) w)
   statement_turn outcome more step nothing kept text closed =
-      let too = settles_too step.statement.card (verb_move step.statement.verb step.statement.card (counted there)) (verb_move step.statement.verb step.statement.card (counted s)) outcome
+      let too =
+      settles_too step.statement.card (verb_move step.statement.verb step.statement.card (counted there))
+      (verb_move step.statement.verb step.statement.card (counted s)) outcome
       (verbs_alike s like.opening like.steps step.statement.verb step.statement.card) nothing.settles in
       let same : gain_of too.own ≡ gain_of outcome = gains_alike too.own outcome too.alike in
       record {
@@ -152,7 +161,9 @@ module _ (program : Program) (w : Walker) (s : State) (like : IsRebased w.state 
         alike = too.alike;
         is =
             step_turn outcome step
-            ∙ walks_on.statement checker_of_128_bits w step.statement.card (verb_move step.statement.verb step.statement.card (counted there)) too.own more too.settles (too.made ∙ nothing.is_made) (kept_too too.own too.alike kept)
+            ∙ walks_on.statement checker_of_128_bits w step.statement.card
+            (verb_move step.statement.verb step.statement.card (counted there)) too.own more too.settles (too.made ∙ nothing.is_made)
+            (kept_too too.own too.alike kept)
             (text ∙ ap (λ (gain : Gain). gain_text gain ++ more) (sym same)) closed
             ∙ ap (λ (gain : Gain). follows (passed more (length (printed_by gain)) w) too.own) same;
       }
@@ -161,7 +172,8 @@ module _ (program : Program) (w : Walker) (s : State) (like : IsRebased w.state 
       kept_too own alike (inl none) = inl none
       kept_too own alike (inr stands) = inr (keeps_alike own outcome alike stands)
 
-  pub statement_goes : (objective : Option ℚ) (gain : Gain) (after : State) (more : List ℕ) (step : Step linear_programming program s (Goes gain after)) → AsksNothing program s (Goes gain after) step →
+  pub statement_goes : (objective : Option ℚ) (gain : Gain) (after : State) (more : List ℕ) (step : Step linear_programming program s (Goes gain after)) →
+      AsksNothing program s (Goes gain after) step →
       (objective ≡ None) ⊎ (is_none after.mark ≡ false) → IsPending objective w.pending → w.rest ≡ gain_text gain ++ more → is_open_stop w.rest ≡ false →
       GoesOn (turn checker_of_128_bits program w) objective after more (w.reports + length (printed_by gain))
   statement_goes objective gain after more step nothing kept waits text closed =
@@ -173,11 +185,14 @@ module _ (program : Program) (w : Walker) (s : State) (like : IsRebased w.state 
       kept_so (Some x) is (inl e) = absurd (cc e)
       kept_so (Some x) is (inr stands) = inr stands
 
-  pub statement_ends : (gain : Gain) (ending : Ending) (step : Step linear_programming program s (Ends gain ending)) → AsksNothing program s (Ends gain ending) step → w.pending ≡ None →
-      w.rest ≡ gain_text gain ++ ending_text ending → is_open_stop w.rest ≡ false → is_open_stop (ending_text ending) ≡ false → turn checker_of_128_bits program w ≡ Finds (Attested (w.reports + length (printed_by gain)))
+  pub statement_ends : (gain : Gain) (ending : Ending) (step : Step linear_programming program s (Ends gain ending)) →
+      AsksNothing program s (Ends gain ending) step → w.pending ≡ None →
+      w.rest ≡ gain_text gain ++ ending_text ending → is_open_stop w.rest ≡ false → is_open_stop (ending_text ending) ≡ false →
+      turn checker_of_128_bits program w ≡ Finds (Attested (w.reports + length (printed_by gain)))
   statement_ends gain ending step nothing none text closed closed_end =
       let turned = statement_turn (Ends gain ending) (ending_text ending) step nothing (inl none) text closed in
-      ends_so (passed (ending_text ending) (length (printed_by gain)) w) turned.own gain ending (turn checker_of_128_bits program w) turned.is turned.alike none refl closed_end
+      ends_so (passed (ending_text ending) (length (printed_by gain)) w) turned.own gain ending
+      (turn checker_of_128_bits program w) turned.is turned.alike none refl closed_end
 
   -- ---- a verdict
 
@@ -186,21 +201,31 @@ module _ (program : Program) (w : Walker) (s : State) (like : IsRebased w.state 
     set_up = record (selects.present) { opening = like.opening; steps = like.steps }
 
     solves_selected : (solver : Solver) (limit : Option ℕ) (card : ℕ) → solves solver limit card (counted there) ≡
-        MayStop (InSelection selects.present.problem (choice_of s.cells selects.present.options)) (asks (OfPath solver limit) (sheet_of selects) set_up (after_path solver card set_up (counted there)))
+        MayStop (InSelection selects.present.problem (choice_of s.cells selects.present.options))
+        (asks (OfPath solver limit) (sheet_of selects) set_up (after_path solver card set_up (counted there)))
     solves_selected solver limit card =
-        ap (λ (setup : Option Present). or_fault card VerbFault.NoSetup (rebased like.opening like.steps setup) (λ present. selects_present card (counted there) present (λ lp.
+        ap (λ (setup : Option Present). or_fault card VerbFault.NoSetup (rebased like.opening like.steps setup)
+        (λ present. selects_present card (counted there) present (λ lp.
         asks (OfPath solver limit) (record { problem = present.problem; lp = lp }) present (after_path solver card present (counted there))))) selects.is_setup
-        ∙ ap (λ (r : Result LinearProgram SelectionFault). or_selection_fault card r (λ lp. MayStop (InSelection selects.present.problem (choice_of s.cells selects.present.options))
-        (asks (OfPath solver limit) (record { problem = selects.present.problem; lp = lp }) set_up (after_path solver card set_up (counted there))))) selects.is_selected
+        ∙ ap (λ (r : Result LinearProgram SelectionFault). or_selection_fault card r
+        (λ lp. MayStop (InSelection selects.present.problem (choice_of s.cells selects.present.options))
+        (asks (OfPath solver limit) (record { problem = selects.present.problem; lp = lp }) set_up
+        (after_path solver card set_up (counted there))))) selects.is_selected
 
-    shows_selected : (card : ℕ) → s.mark ≡ Some Optimal → shows card (counted there) ≡ asks (OfSolution Optimal) (sheet_of selects) set_up (λ lines. next (Prints (Solution Optimal lines)) (counted there))
+    shows_selected : (card : ℕ) → s.mark ≡ Some Optimal →
+        shows card (counted there) ≡ asks (OfSolution Optimal) (sheet_of selects) set_up (λ lines. next (Prints (Solution Optimal lines)) (counted there))
     shows_selected card marked =
-        ap (λ (setup : Option Present). or_fault card VerbFault.NoSetup (rebased like.opening like.steps setup) (λ present. or_fault card VerbFault.NotSolved s.mark (λ mark.
+        ap (λ (setup : Option Present). or_fault card VerbFault.NoSetup (rebased like.opening like.steps setup)
+        (λ present. or_fault card VerbFault.NotSolved s.mark (λ mark.
         shows_present card (counted there) present (OfSolution mark) (Solution mark)))) selects.is_setup
-        ∙ ap (λ (mark : Option Mark). or_fault card VerbFault.NotSolved mark (λ m. shows_present card (counted there) set_up (OfSolution m) (Solution m))) marked
-        ∙ ap (λ (r : Result LinearProgram SelectionFault). or_selection_fault card r (λ lp. asks (OfSolution Optimal) (record { problem = selects.present.problem; lp = lp }) set_up (λ lines. next (Prints (Solution Optimal lines)) (counted there)))) selects.is_selected
+        ∙ ap (λ (mark : Option Mark). or_fault card VerbFault.NotSolved mark
+        (λ m. shows_present card (counted there) set_up (OfSolution m) (Solution m))) marked
+        ∙ ap (λ (r : Result LinearProgram SelectionFault). or_selection_fault card r
+        (λ lp. asks (OfSolution Optimal) (record { problem = selects.present.problem; lp = lp }) set_up
+        (λ lines. next (Prints (Solution Optimal lines)) (counted there)))) selects.is_selected
 
-  solving_is : (verb : Verb ℕ) (solver : Solver) (limit : Option ℕ) (card : ℕ) → IsSolving s.cells verb solver limit → verb_move verb card (counted there) ≡ solves solver limit card (counted there)
+  solving_is : (verb : Verb ℕ) (solver : Solver) (limit : Option ℕ) (card : ℕ) → IsSolving s.cells verb solver limit →
+      verb_move verb card (counted there) ≡ solves solver limit card (counted there)
   unfolding verb_move
   solving_is _ _ _ card by_primal = refl
   solving_is _ _ _ card by_dual = refl
@@ -212,46 +237,64 @@ module _ (program : Program) (w : Walker) (s : State) (like : IsRebased w.state 
   abbrev after_verdict : List ℕ → PathVerdict → Walker
   after_verdict more verdict = record (passed more 1 w) { pending = pending_after w.rest verdict Checked }
 
-  verdict_turn : (solver : Solver) (verdict : PathVerdict) (outcome : StatementOutcome) (more : List ℕ) → FindsChecked program s solver verdict outcome → w.pending ≡ None →
+  verdict_turn : (solver : Solver) (verdict : PathVerdict) (outcome : StatementOutcome) (more : List ℕ) → FindsChecked program s solver verdict outcome →
+      w.pending ≡ None →
       w.rest ≡ verdict_text solver verdict Checked ++ more → begins_table_line more ≡ false → Turned outcome (after_verdict more verdict)
   verdict_turn solver verdict outcome more found none text plain =
       let card = found.step.statement.card in
       let present = found.selects.present in
       record {
         own = after_path solver card (set_up found.selects) (counted there) (Reached [] verdict Checked);
-        alike = subst (λ (o : StatementOutcome). AreAlike (after_path solver card (set_up found.selects) (counted there) (Reached [] verdict Checked)) o) (sym found.is_outcome)
-            (verdict_alike (Solved solver verdict Checked) (record (counted s) { setup = Some (gone_through found.bases present); mark = Some (mark_of verdict) }) like.opening (like.steps ++ []) (mark_of verdict));
+        alike =
+            subst (λ (o : StatementOutcome). AreAlike (after_path solver card (set_up found.selects) (counted there) (Reached [] verdict Checked)) o)
+            (sym found.is_outcome)
+            (verdict_alike (Solved solver verdict Checked)
+            (record (counted s) { setup = Some (gone_through found.bases present); mark = Some (mark_of verdict) }) like.opening (like.steps ++ [])
+            (mark_of verdict));
         is =
             step_turn outcome found.step
-            ∙ ap (walk_move checker_of_128_bits w) (solving_is found.step.statement.verb solver found.limit card found.is_solving ∙ solves_selected found.selects solver found.limit card)
+            ∙ ap (walk_move checker_of_128_bits w)
+            (solving_is found.step.statement.verb solver found.limit card found.is_solving ∙ solves_selected found.selects solver found.limit card)
             ∙ walks_on.selects checker_of_128_bits w present.problem (choice_of s.cells present.options)
-            (asks (OfPath solver found.limit) (sheet_of found.selects) (set_up found.selects) (after_path solver card (set_up found.selects) (counted there))) found.selects.is_made
-            ∙ walks_on.verdict w (set_up found.selects) (after_path solver card (set_up found.selects) (counted there)) solver (sheet_of found.selects) (present_basis present) found.limit found.bases verdict more none text found.is_solved found.fits plain;
+            (asks (OfPath solver found.limit) (sheet_of found.selects) (set_up found.selects)
+            (after_path solver card (set_up found.selects) (counted there))) found.selects.is_made
+            ∙ walks_on.verdict w (set_up found.selects) (after_path solver card (set_up found.selects) (counted there)) solver (sheet_of found.selects)
+            (present_basis present) found.limit found.bases verdict more none text found.is_solved found.fits plain;
       }
 
-  pub verdict_goes : (solver : Solver) (verdict : PathVerdict) (after : State) (more : List ℕ) → FindsChecked program s solver verdict (Goes (Prints (Solved solver verdict Checked)) after) → w.pending ≡ None →
-      w.rest ≡ verdict_text solver verdict Checked ++ more → begins_table_line more ≡ false → GoesOn (turn checker_of_128_bits program w) (to_show verdict) after more (w.reports + 1)
+  pub verdict_goes : (solver : Solver) (verdict : PathVerdict) (after : State) (more : List ℕ) →
+      FindsChecked program s solver verdict (Goes (Prints (Solved solver verdict Checked)) after) → w.pending ≡ None →
+      w.rest ≡ verdict_text solver verdict Checked ++ more → begins_table_line more ≡ false →
+      GoesOn (turn checker_of_128_bits program w) (to_show verdict) after more (w.reports + 1)
   verdict_goes solver verdict after more found none text plain =
       let turned = verdict_turn solver verdict (Goes (Prints (Solved solver verdict Checked)) after) more found none text plain in
-      goes_on (after_verdict more verdict) turned.own (Prints (Solved solver verdict Checked)) after (to_show verdict) (turn checker_of_128_bits program w) turned.is turned.alike (verdict_pending w.rest verdict)
+      goes_on (after_verdict more verdict) turned.own (Prints (Solved solver verdict Checked)) after (to_show verdict)
+      (turn checker_of_128_bits program w) turned.is turned.alike (verdict_pending w.rest verdict)
 
-  pub verdict_ends : (solver : Solver) (verdict : PathVerdict) (ending : Ending) → FindsChecked program s solver verdict (Ends (Prints (Solved solver verdict Checked)) ending) → w.pending ≡ None →
-      w.rest ≡ verdict_text solver verdict Checked ++ ending_text ending → begins_table_line (ending_text ending) ≡ false → is_open_stop (ending_text ending) ≡ false →
+  pub verdict_ends : (solver : Solver) (verdict : PathVerdict) (ending : Ending) →
+      FindsChecked program s solver verdict (Ends (Prints (Solved solver verdict Checked)) ending) → w.pending ≡ None →
+      w.rest ≡ verdict_text solver verdict Checked ++ ending_text ending → begins_table_line (ending_text ending) ≡ false →
+      is_open_stop (ending_text ending) ≡ false →
       turn checker_of_128_bits program w ≡ Finds (Attested (w.reports + 1))
   verdict_ends solver verdict ending found none text plain closed =
       let turned = verdict_turn solver verdict (Ends (Prints (Solved solver verdict Checked)) ending) (ending_text ending) found none text plain in
-      ends_so (after_verdict (ending_text ending) verdict) turned.own (Prints (Solved solver verdict Checked)) ending (turn checker_of_128_bits program w) turned.is turned.alike
+      ends_so (after_verdict (ending_text ending) verdict) turned.own (Prints (Solved solver verdict Checked)) ending
+      (turn checker_of_128_bits program w) turned.is turned.alike
       (nothing_pending w.rest verdict (Solved solver verdict Checked) _ (Prints (Solved solver verdict Checked)) ending found.is_outcome) refl closed
 
   -- ---- SOLUTION
 
-  pub solution_goes : (waiting : Option ℚ) (objective : ℚ) (lines : SolutionLines) (more : List ℕ) → ShowsChecked program s objective lines → (waiting ≡ None) ⊎ (waiting ≡ Some objective) → IsPending waiting w.pending →
-      w.rest ≡ solution_text Optimal lines ++ more → GoesOn (turn checker_of_128_bits program w) None (record (counted s) { position = s.position + 1 }) more (w.reports + 1)
+  pub solution_goes : (waiting : Option ℚ) (objective : ℚ) (lines : SolutionLines) (more : List ℕ) → ShowsChecked program s objective lines →
+      (waiting ≡ None) ⊎ (waiting ≡ Some objective) → IsPending waiting w.pending →
+      w.rest ≡ solution_text Optimal lines ++ more →
+      GoesOn (turn checker_of_128_bits program w) None (record (counted s) { position = s.position + 1 }) more (w.reports + 1)
   solution_goes waiting objective lines more shown either waits text =
       let settling = settled waiting w.pending objective waits either in
       let card = shown.step.statement.card in
-      goes_on (record (passed more 1 w) { pending = None }) (next (Prints (Solution Optimal lines)) (counted there)) (Prints (Solution Optimal lines)) (record (counted s) { position = s.position + 1 }) None (turn checker_of_128_bits program w)
+      goes_on (record (passed more 1 w) { pending = None }) (next (Prints (Solution Optimal lines)) (counted there)) (Prints (Solution Optimal lines))
+      (record (counted s) { position = s.position + 1 }) None (turn checker_of_128_bits program w)
       (step_turn (next (Prints (Solution Optimal lines)) (counted s)) shown.step
       ∙ ap (walk_move checker_of_128_bits w) (showing_is shown.step.statement.verb card shown.is_verb ∙ shows_selected shown.selects card shown.is_mark)
-      ∙ walks_on.solution w (set_up shown.selects) (λ shown_lines. next (Prints (Solution Optimal shown_lines)) (counted there)) shown.solver (sheet_of shown.selects) shown.from shown.limit shown.bases shown.steps objective lines settling.at more settling.is text shown.is_shown)
+      ∙ walks_on.solution w (set_up shown.selects) (λ shown_lines. next (Prints (Solution Optimal shown_lines)) (counted there)) shown.solver
+      (sheet_of shown.selects) shown.from shown.limit shown.bases shown.steps objective lines settling.at more settling.is text shown.is_shown)
       (refl, record { opening = like.opening; steps = like.steps; is = refl }) refl

@@ -34,17 +34,29 @@ word_left word byte rest of is ends means =
     ap (λ w. if of w then Some (drop (length w) (word ++ byte ∷ rest)) else None) (word_is word byte rest is ends)
     ∙ ap (λ b. if b then Some (drop (length word) (word ++ byte ∷ rest)) else None) means ∙ ap (λ (r : List ℕ). Some r) (drop_text word (byte ∷ rest))
 
-count_left : (n byte : ℕ) (form : List Piece) (rest after : List ℕ) → n ≤ max_count → ends_word byte ≡ true → Leaves form (byte ∷ rest) after → Leaves (Count ∷ form) (digits n ++ byte ∷ rest) after
+count_left : (n byte : ℕ) (form : List Piece) (rest after : List ℕ) → n ≤ max_count → ends_word byte ≡ true → Leaves form (byte ∷ rest) after →
+    Leaves (Count ∷ form) (digits n ++ byte ∷ rest) after
 count_left n byte form rest after small ends leaves =
-    record { of = ap (option_and_then (left_by form)) (word_left (digits n) byte rest (is_of Count) (digits_word n) ends (ap is_some (count_of_text max_count n small))) ∙ leaves.of }
+    record {
+      of = ap (option_and_then (left_by form))
+          (word_left (digits n) byte rest (is_of Count) (digits_word n) ends (ap is_some (count_of_text max_count n small))) ∙ leaves.of;
+    }
 
-fraction_left : (x : ℚ) (byte : ℕ) (form : List Piece) (rest after : List ℕ) → TermsFit x → ends_word byte ≡ true → Leaves form (byte ∷ rest) after → Leaves (Fraction ∷ form) (rational_text x ++ byte ∷ rest) after
+fraction_left : (x : ℚ) (byte : ℕ) (form : List Piece) (rest after : List ℕ) → TermsFit x → ends_word byte ≡ true → Leaves form (byte ∷ rest) after →
+    Leaves (Fraction ∷ form) (rational_text x ++ byte ∷ rest) after
 fraction_left x byte form rest after fit ends leaves =
-    record { of = ap (option_and_then (left_by form)) (word_left (rational_text x) byte rest (is_of Fraction) (rational_word x) ends (ap is_some (fraction_of_text x fit))) ∙ leaves.of }
+    record {
+      of = ap (option_and_then (left_by form))
+          (word_left (rational_text x) byte rest (is_of Fraction) (rational_word x) ends (ap is_some (fraction_of_text x fit))) ∙ leaves.of;
+    }
 
-operation_left : (op : Op) (byte : ℕ) (form : List Piece) (rest after : List ℕ) → ends_word byte ≡ true → Leaves form (byte ∷ rest) after → Leaves (Operation ∷ form) (operation_text op ++ byte ∷ rest) after
+operation_left : (op : Op) (byte : ℕ) (form : List Piece) (rest after : List ℕ) → ends_word byte ≡ true → Leaves form (byte ∷ rest) after →
+    Leaves (Operation ∷ form) (operation_text op ++ byte ∷ rest) after
 operation_left op byte form rest after ends leaves =
-    record { of = ap (option_and_then (left_by form)) (word_left (operation_text op) byte rest (is_of Operation) (operation_word op) ends (ap is_some (operation_named op))) ∙ leaves.of }
+    record {
+      of = ap (option_and_then (left_by form))
+          (word_left (operation_text op) byte rest (is_of Operation) (operation_word op) ends (ap is_some (operation_named op))) ∙ leaves.of;
+    }
 
 has : (form : List Piece) (rest after : List ℕ) → Leaves form rest after → has_form form rest ≡ true
 has form rest after leaves = ap is_some leaves.of
@@ -75,21 +87,29 @@ limit_open : (rest : List ℕ) → has_form limit_stop rest ≡ true → is_open
 limit_open rest e = is_open rest (here rest limit_stop _ e)
 
 singular_open : (rest : List ℕ) → has_form singular_stop rest ≡ true → is_open_stop rest ≡ true
-singular_open rest e = is_open rest (later rest limit_stop _ (later rest read_fault _ (later rest punch_fault _ (later rest memory_stop _ (here rest singular_stop _ e)))))
+singular_open rest e =
+    is_open rest (later rest limit_stop _ (later rest read_fault _ (later rest punch_fault _ (later rest memory_stop _ (here rest singular_stop _ e)))))
 
 price_open : (rest : List ℕ) → has_form price_stop rest ≡ true → is_open_stop rest ≡ true
-price_open rest e = is_open rest (later rest limit_stop _ (later rest read_fault _ (later rest punch_fault _ (later rest memory_stop _ (later rest singular_stop _ (here rest price_stop _ e))))))
+price_open rest e =
+    is_open rest
+    (later rest limit_stop _
+    (later rest read_fault _ (later rest punch_fault _ (later rest memory_stop _ (later rest singular_stop _ (here rest price_stop _ e))))))
 
 overflow_open : (rest : List ℕ) → has_form overflow_stop rest ≡ true → is_open_stop rest ≡ true
 overflow_open rest e =
-    is_open rest (later rest limit_stop _ (later rest read_fault _ (later rest punch_fault _ (later rest memory_stop _ (later rest singular_stop _ (later rest price_stop _ (here rest overflow_stop _ e)))))))
+    is_open rest
+    (later rest limit_stop _
+    (later rest read_fault _
+    (later rest punch_fault _ (later rest memory_stop _ (later rest singular_stop _ (later rest price_stop _ (here rest overflow_stop _ e)))))))
 
 pub open_limit : (reached : LimitReached) → reached.limit ≤ max_count → reached.card ≤ max_count → is_open_stop (ending_text (LimitStop reached)) ≡ true
 open_limit reached limit card = limit_open (ending_text (LimitStop reached)) (has limit_stop (ending_text (LimitStop reached)) []
     (text_left (codes "STOP 16 ITERATION LIMIT ") _ _ _ (count_left reached.limit 32 _ _ _ limit refl
     (text_left (codes " CARD ") _ _ _ (count_left reached.card 10 _ [] _ card refl (text_left (codes "\n") [] [] _ (nothing [])))))))
 
-as_fault : (number card lines : List ℕ) → (codes "STOP 10 VERB " ++ ((codes "FAULT " ++ (number ++ (codes " CARD " ++ (card ++ [])))) ++ (codes "\n" ++ []))) ++ lines ≡
+as_fault : (number card lines : List ℕ) →
+    (codes "STOP 10 VERB " ++ ((codes "FAULT " ++ (number ++ (codes " CARD " ++ (card ++ [])))) ++ (codes "\n" ++ []))) ++ lines ≡
     codes "STOP 10 VERB " ++ (codes "FAULT " ++ (number ++ (codes " CARD " ++ (card ++ (10 ∷ lines)))))
 as_fault number card lines = simp (append_assoc, append-nil)
 
@@ -106,33 +126,47 @@ open_singular basis fit =
     ap is_open_stop (as_fault (digits 15) (digits basis.card) (table_text basis.lines)
     ∙ ap (λ number. codes "STOP 10 VERB " ++ (codes "FAULT " ++ (number ++ (codes " CARD " ++ (digits basis.card ++ (10 ∷ table_text basis.lines)))))) fifteen)
     ∙ singular_open (codes "STOP 10 VERB FAULT 15 CARD " ++ (digits basis.card ++ (10 ∷ table_text basis.lines))) (has singular_stop _ (table_text basis.lines)
-    (text_left (codes "STOP 10 VERB FAULT 15 CARD ") _ _ _ (count_left basis.card 10 _ (table_text basis.lines) _ fit refl (text_left (codes "\n") [] (table_text basis.lines) _ (nothing (table_text basis.lines))))))
+    (text_left (codes "STOP 10 VERB FAULT 15 CARD ") _ _ _
+    (count_left basis.card 10 _ (table_text basis.lines) _ fit refl
+    (text_left (codes "\n") [] (table_text basis.lines) _ (nothing (table_text basis.lines))))))
 
-as_price : (number card variable : List ℕ) → codes "STOP 10 VERB " ++ ((codes "FAULT " ++ (number ++ (codes " CARD " ++ (card ++ [])))) ++ (codes " VARIABLE " ++ (variable ++ (codes "\n" ++ [])))) ≡
+as_price : (number card variable : List ℕ) →
+    codes "STOP 10 VERB " ++ ((codes "FAULT " ++ (number ++ (codes " CARD " ++ (card ++ [])))) ++ (codes " VARIABLE " ++ (variable ++ (codes "\n" ++ [])))) ≡
     codes "STOP 10 VERB " ++ (codes "FAULT " ++ (number ++ (codes " CARD " ++ (card ++ (codes " VARIABLE " ++ (variable ++ (10 ∷ [])))))))
 as_price number card variable = simp (append_assoc, append-nil)
 
 pub open_price : (price : WrongPrice) → price.card ≤ max_count → price.variable ≤ max_count → is_open_stop (ending_text (PriceStop price)) ≡ true
 open_price price card variable =
     ap is_open_stop (as_price (digits 16) (digits price.card) (digits price.variable)
-    ∙ ap (λ number. codes "STOP 10 VERB " ++ (codes "FAULT " ++ (number ++ (codes " CARD " ++ (digits price.card ++ (codes " VARIABLE " ++ (digits price.variable ++ (10 ∷ [])))))))) sixteen)
-    ∙ price_open (codes "STOP 10 VERB FAULT 16 CARD " ++ (digits price.card ++ (codes " VARIABLE " ++ (digits price.variable ++ (10 ∷ []))))) (has price_stop _ []
+    ∙ ap (λ number. codes "STOP 10 VERB " ++
+    (codes "FAULT " ++ (number ++ (codes " CARD " ++ (digits price.card ++ (codes " VARIABLE " ++ (digits price.variable ++ (10 ∷ [])))))))) sixteen)
+    ∙ price_open (codes "STOP 10 VERB FAULT 16 CARD " ++ (digits price.card ++ (codes " VARIABLE " ++ (digits price.variable ++ (10 ∷ [])))))
+    (has price_stop _ []
     (text_left (codes "STOP 10 VERB FAULT 16 CARD ") _ _ _ (count_left price.card 32 _ _ _ card refl
     (text_left (codes " VARIABLE ") _ _ _ (count_left price.variable 10 _ [] _ variable refl (text_left (codes "\n") [] [] _ (nothing [])))))))
 
 as_overflow : (formula op left right p q i j term theta card lines : List ℕ) →
-    codes "STOP 20 OVERFLOW " ++ ((codes "F" ++ (formula ++ (codes " " ++ ((op ++ (codes " " ++ (left ++ (codes " " ++ (right ++ []))))) ++ (codes " P " ++ (p ++ (codes " Q " ++ (q ++ (codes " I " ++ (i ++ (codes " J " ++ (j ++
+    codes "STOP 20 OVERFLOW " ++
+    ((codes "F" ++
+    (formula ++ (codes " " ++
+    ((op ++ (codes " " ++ (left ++ (codes " " ++ (right ++ []))))) ++
+    (codes " P " ++ (p ++ (codes " Q " ++ (q ++ (codes " I " ++ (i ++ (codes " J " ++ (j ++
     (codes " TERM " ++ (term ++ (codes " THETA " ++ (theta ++ []))))))))))))))))
     ++ (codes " CARD " ++ (card ++ (codes "\n" ++ lines)))) ≡
-    codes "STOP 20 OVERFLOW F" ++ (formula ++ (codes " " ++ (op ++ (codes " " ++ (left ++ (codes " " ++ (right ++ (codes " P " ++ (p ++ (codes " Q " ++ (q ++ (codes " I " ++ (i ++ (codes " J " ++ (j ++
+    codes "STOP 20 OVERFLOW F" ++
+    (formula ++ (codes " " ++
+    (op ++ (codes " " ++ (left ++ (codes " " ++ (right ++ (codes " P " ++ (p ++ (codes " Q " ++ (q ++ (codes " I " ++ (i ++ (codes " J " ++ (j ++
     (codes " TERM " ++ (term ++ (codes " THETA " ++ (theta ++ (codes " CARD " ++ (card ++ (10 ∷ lines))))))))))))))))))))))
 as_overflow formula op left right p q i j term theta card lines = simp (append_assoc, append-nil)
 
-pub open_overflow : (overflow : Overflow) → EvidenceFits overflow.evidence → overflow.card ≤ max_count → is_open_stop (ending_text (OverflowStop overflow)) ≡ true
+pub open_overflow : (overflow : Overflow) → EvidenceFits overflow.evidence → overflow.card ≤ max_count →
+    is_open_stop (ending_text (OverflowStop overflow)) ≡ true
 open_overflow overflow fit card =
     let e = overflow.evidence in
     let lines : List ℕ = codes "BASIS " ++ (basis_text overflow.place ++ (codes "\n" ++ (codes "WAY " ++ (way_text overflow.place ++ (codes "\n" ++ []))))) in
-    ap is_open_stop (as_overflow (digits e.formula) (operation_text e.refused.op) (rational_text e.refused.left) (rational_text e.refused.right) (digits e.p) (digits e.q) (digits e.i) (digits e.j) (digits e.term)
+    ap is_open_stop
+    (as_overflow (digits e.formula) (operation_text e.refused.op) (rational_text e.refused.left) (rational_text e.refused.right) (digits e.p) (digits e.q)
+    (digits e.i) (digits e.j) (digits e.term)
     (rational_text e.theta) (digits overflow.card) lines)
     ∙ overflow_open _ (has overflow_stop _ lines
     (text_left (codes "STOP 20 OVERFLOW F") _ _ _ (count_left e.formula 32 _ _ _ fit.formula refl
@@ -145,16 +179,19 @@ open_overflow overflow fit card =
     (text_left (codes " J ") _ _ _ (count_left e.j 32 _ _ _ fit.j refl
     (text_left (codes " TERM ") _ _ _ (count_left e.term 32 _ _ _ fit.term refl
     (text_left (codes " THETA ") _ _ _ (fraction_left e.theta 32 _ _ _ fit.theta refl
-    (text_left (codes " CARD ") _ _ _ (count_left overflow.card 10 _ lines _ card refl (text_left (codes "\n") [] lines _ (nothing lines)))))))))))))))))))))))))
+    (text_left (codes " CARD ") _ _ _
+    (count_left overflow.card 10 _ lines _ card refl (text_left (codes "\n") [] lines _ (nothing lines)))))))))))))))))))))))))
 
 -- ---- reports
 
 pub ranges_stand : (lines : RangeLines) (more : List ℕ) → is_ranges (report_text (Ranges lines) ++ more) ≡ true
 unfolding is_ranges
 ranges_stand lines more =
-    let left = drop 6 (report_text (Ranges lines) ++ more) in has (Text (codes "RANGE\n") ∷ []) (codes "RANGE\n" ++ left) left (text_left (codes "RANGE\n") [] left left (nothing left))
+    let left = drop 6 (report_text (Ranges lines) ++ more) in
+    has (Text (codes "RANGE\n") ∷ []) (codes "RANGE\n" ++ left) left (text_left (codes "RANGE\n") [] left left (nothing left))
 
-as_counted : (verb name word count more : List ℕ) → (verb ++ (name ++ (word ++ (count ++ (codes "\n" ++ []))))) ++ more ≡ (verb ++ (name ++ word)) ++ (count ++ (10 ∷ more))
+as_counted : (verb name word count more : List ℕ) →
+    (verb ++ (name ++ (word ++ (count ++ (codes "\n" ++ []))))) ++ more ≡ (verb ++ (name ++ word)) ++ (count ++ (10 ∷ more))
 as_counted verb name word count more = simp (append_assoc, append-nil)
 
 counted_stands : (verb : List ℕ) (name : Name) (word : List ℕ) (count : ℕ) (more : List ℕ) → count ≤ max_count →

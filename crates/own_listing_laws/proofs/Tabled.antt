@@ -77,12 +77,15 @@ value_means AnyNumber (Code at) matches = absurd matches
 value_means AnyNumber Absent matches = absurd matches
 value_means AnyNumber Dash matches = absurd matches
 value_means (Known known) value matches =
-    ap (λ b. if b then Some known else None) ((bytes_eq-Decides (value_text known) (value_text value)).1 (ap value_text matches)) ∙ ap (λ (v : Value). Some v) matches
+    ap (λ b. if b then Some known else None) ((bytes_eq-Decides (value_text known) (value_text value)).1 (ap value_text matches))
+    ∙ ap (λ (v : Value). Some v) matches
 
-slot_read : (slot : Slot) (value : Value) (byte : ℕ) (rest : List ℕ) → Matches slot value → ends_word byte ≡ true → slot_in (fraction_in checker_of_128_bits) slot (codes " " ++ (value_text value ++ byte ∷ rest)) ≡ Some (value, byte ∷ rest)
+slot_read : (slot : Slot) (value : Value) (byte : ℕ) (rest : List ℕ) → Matches slot value → ends_word byte ≡ true →
+    slot_in (fraction_in checker_of_128_bits) slot (codes " " ++ (value_text value ++ byte ∷ rest)) ≡ Some (value, byte ∷ rest)
 slot_read slot value byte rest matches ends =
     (text_first (codes " ") (with_word (value_in (fraction_in checker_of_128_bits) slot) keep) (value_text value ++ byte ∷ rest) (Some (value, byte ∷ rest))
-    (word_first (value_in (fraction_in checker_of_128_bits) slot) (value_text value) value byte rest keep (Some (value, byte ∷ rest)) (value_word value) ends (value_means slot value matches) (done (keep value) (byte ∷ rest)))).of
+    (word_first (value_in (fraction_in checker_of_128_bits) slot) (value_text value) value byte rest keep (Some (value, byte ∷ rest)) (value_word value) ends
+    (value_means slot value matches) (done (keep value) (byte ∷ rest)))).of
   where
     keep : Value → List ℕ → Option (Value × List ℕ)
     keep value left = Some (value, left)
@@ -98,32 +101,39 @@ next_of : (values : List Value) (rest : List ℕ) → Next (values_text values +
 next_of [] rest = record { byte = 10; left = rest; is = refl; ends = refl }
 next_of (value ∷ values) rest = record { byte = 32; left = (value_text value ++ values_text values) ++ 10 ∷ rest; is = refl; ends = refl }
 
-values_read : (slots : List Slot) (values : List Value) (rest : List ℕ) → AllMatch slots values → values_in (fraction_in checker_of_128_bits) slots (values_text values ++ 10 ∷ rest) ≡ Some (values, 10 ∷ rest)
+values_read : (slots : List Slot) (values : List Value) (rest : List ℕ) → AllMatch slots values →
+    values_in (fraction_in checker_of_128_bits) slots (values_text values ++ 10 ∷ rest) ≡ Some (values, 10 ∷ rest)
 values_read [] [] rest match = refl
 values_read [] (value ∷ values) rest match = absurd match
 values_read (slot ∷ slots) [] rest match = absurd match
 values_read (slot ∷ slots) (value ∷ values) rest match =
     let next = next_of values rest in
     let first : slot_in (fraction_in checker_of_128_bits) slot (values_text (value ∷ values) ++ 10 ∷ rest) ≡ Some (value, values_text values ++ 10 ∷ rest) =
-    ap (slot_in (fraction_in checker_of_128_bits) slot) (append_assoc (32 ∷ value_text value) (values_text values) (10 ∷ rest)) ∙ ap (λ r. slot_in (fraction_in checker_of_128_bits) slot (codes " " ++ (value_text value ++ r))) next.is
+    ap (slot_in (fraction_in checker_of_128_bits) slot) (append_assoc (32 ∷ value_text value) (values_text values) (10 ∷ rest))
+    ∙ ap (λ r. slot_in (fraction_in checker_of_128_bits) slot (codes " " ++ (value_text value ++ r))) next.is
     ∙ slot_read slot value next.byte next.left match.0 next.ends ∙ ap (λ (r : List ℕ). Some (value, r)) (sym next.is) in
-    ap (λ o. then_more o (values_in (fraction_in checker_of_128_bits) slots)) first ∙ ap (option_map (λ more. (value ∷ more.0, more.1))) (values_read slots values rest match.1)
+    ap (λ o. then_more o (values_in (fraction_in checker_of_128_bits) slots)) first
+    ∙ ap (option_map (λ more. (value ∷ more.0, more.1))) (values_read slots values rest match.1)
 
 -- ---- lines
 
-as_line : (number name values rest : List ℕ) → (number ++ ((32 ∷ []) ++ (name ++ (values ++ (10 ∷ []))))) ++ rest ≡ (number ++ (32 ∷ name)) ++ (values ++ 10 ∷ rest)
+as_line : (number name values rest : List ℕ) →
+    (number ++ ((32 ∷ []) ++ (name ++ (values ++ (10 ∷ []))))) ++ rest ≡ (number ++ (32 ∷ name)) ++ (values ++ 10 ∷ rest)
 as_line number name values rest = simp append_assoc
 
 module _ (sheet : Sheet) where
   parted : (k : ℕ) (values : List Value) (rest : List ℕ) → line_text (line_of sheet k values) ++ rest ≡ line_head sheet k ++ (values_text values ++ 10 ∷ rest)
   parted k values rest = as_line (number5 k) (name8 (name_of sheet k)) (values_text values) rest
 
-  line_stands : (k : ℕ) (values : List Value) (rest : List ℕ) → left_after (line_head sheet k) (line_text (line_of sheet k values) ++ rest) ≡ Some (values_text values ++ 10 ∷ rest)
+  line_stands : (k : ℕ) (values : List Value) (rest : List ℕ) →
+      left_after (line_head sheet k) (line_text (line_of sheet k values) ++ rest) ≡ Some (values_text values ++ 10 ∷ rest)
   line_stands k values rest = ap (left_after (line_head sheet k)) (parted k values rest) ∙ stands (line_head sheet k) (values_text values ++ 10 ∷ rest)
 
-  line_read : (slots : List Slot) (k : ℕ) (values : List Value) (rest : List ℕ) → AllMatch slots values → line_in (fraction_in checker_of_128_bits) sheet slots k (line_text (line_of sheet k values) ++ rest) ≡ Some (line_of sheet k values, rest)
+  line_read : (slots : List Slot) (k : ℕ) (values : List Value) (rest : List ℕ) → AllMatch slots values →
+      line_in (fraction_in checker_of_128_bits) sheet slots k (line_text (line_of sheet k values) ++ rest) ≡ Some (line_of sheet k values, rest)
   line_read slots k values rest match =
-      whole_line (fraction_in checker_of_128_bits) sheet slots k (line_text (line_of sheet k values) ++ rest) (values_text values ++ 10 ∷ rest) values (10 ∷ rest) rest
+      whole_line (fraction_in checker_of_128_bits) sheet slots k (line_text (line_of sheet k values) ++ rest) (values_text values ++ 10 ∷ rest) values
+      (10 ∷ rest) rest
       (line_stands k values rest) (values_read slots values rest match) (stands (codes "\n") rest)
 
   -- ---- tables
@@ -132,7 +142,8 @@ module _ (sheet : Sheet) where
   AreMatched slots values [] = Unit {0}
   AreMatched slots values (k ∷ ks) = AllMatch (slots k) (values k) × AreMatched slots values ks
 
-  pub matched_of : (slots : ℕ → List Slot) (values : ℕ → List Value) → ((k : ℕ) → ValuesFit (values k) → AllMatch (slots k) (values k)) → (ks : List ℕ) → LinesFit (lines_of sheet values ks) →
+  pub matched_of : (slots : ℕ → List Slot) (values : ℕ → List Value) → ((k : ℕ) → ValuesFit (values k) → AllMatch (slots k) (values k)) → (ks : List ℕ) →
+      LinesFit (lines_of sheet values ks) →
       AreMatched slots values ks
   matched_of slots values each [] fit = tt
   matched_of slots values each (k ∷ ks) fit = (each k fit.0, matched_of slots values each ks fit.1)
@@ -143,7 +154,8 @@ module _ (sheet : Sheet) where
   table_read slots values (k ∷ ks) rest match =
       let line = line_of sheet k (values k) in
       let more = table_text (lines_of sheet values ks) in
-      ap (λ r. then_more (line_in (fraction_in checker_of_128_bits) sheet (slots k) k r) (table_in (fraction_in checker_of_128_bits) sheet slots ks)) (append_assoc (line_text line) more rest)
+      ap (λ r. then_more (line_in (fraction_in checker_of_128_bits) sheet (slots k) k r) (table_in (fraction_in checker_of_128_bits) sheet slots ks))
+      (append_assoc (line_text line) more rest)
       ∙ ap (λ o. then_more o (table_in (fraction_in checker_of_128_bits) sheet slots ks)) (line_read (slots k) k (values k) (more ++ rest) match.0)
       ∙ ap (option_map (λ got. (line ∷ got.0, got.1))) (table_read slots values ks rest match.1)
 
@@ -163,7 +175,8 @@ no_blank_first (x ∷ a) r s all some e =
 right_tells : (j k : ℕ) (a b r s : List ℕ) → list_all is_digit a ≡ true → list_any is_digit a ≡ true → list_all is_digit b ≡ true → list_any is_digit b ≡ true →
     replicate j 32 ++ (a ++ 32 ∷ r) ≡ replicate k 32 ++ (b ++ 32 ∷ s) → a ≡ b
 right_tells zero zero a b r s a_all a_some b_all b_some e =
-    (cut is_blank a b 32 32 r s (weaker is_digit (λ x. not (is_blank x)) a digit_is_no_blank a_all) (weaker is_digit (λ x. not (is_blank x)) b digit_is_no_blank b_all) refl refl e).0
+    (cut is_blank a b 32 32 r s (weaker is_digit (λ x. not (is_blank x)) a digit_is_no_blank a_all)
+    (weaker is_digit (λ x. not (is_blank x)) b digit_is_no_blank b_all) refl refl e).0
 right_tells zero (suc k) a b r s a_all a_some b_all b_some e = absurd (no_blank_first a (32 ∷ r) (replicate k 32 ++ (b ++ 32 ∷ s)) a_all a_some e)
 right_tells (suc j) zero a b r s a_all a_some b_all b_some e = absurd (no_blank_first b (32 ∷ s) (replicate j 32 ++ (a ++ 32 ∷ r)) b_all b_some (sym e))
 right_tells (suc j) (suc k) a b r s a_all a_some b_all b_some e =
@@ -181,7 +194,8 @@ past_kind p [] c r all other = ap (λ b. drop (cond b (1 + prefix_len p r) 0) (c
 past_kind p (x ∷ a) c r all other =
     let parts = and_parts (p x) (list_all p a) all in
     let next : 1 + prefix_len p (a ++ c ∷ r) ≡ suc (prefix_len p (a ++ c ∷ r)) = omega arith in
-    ap (λ b. drop (cond b (1 + prefix_len p (a ++ c ∷ r)) 0) (x ∷ (a ++ c ∷ r))) parts.0 ∙ ap (λ n. drop n (x ∷ (a ++ c ∷ r))) next ∙ past_kind p a c r parts.1 other
+    ap (λ b. drop (cond b (1 + prefix_len p (a ++ c ∷ r)) 0) (x ∷ (a ++ c ∷ r))) parts.0 ∙ ap (λ n. drop n (x ∷ (a ++ c ∷ r))) next
+    ∙ past_kind p a c r parts.1 other
 
 all_blank : (n : ℕ) → list_all is_blank (replicate n 32) ≡ true
 all_blank zero = refl
@@ -194,17 +208,20 @@ digits_begin : (n : ℕ) (ds r : List ℕ) → list_all is_digit ds ≡ true →
 digits_begin n [] r all some = cc some
 digits_begin n (d ∷ ds) r all some =
     let parts = and_parts (is_digit d) (list_all is_digit ds) all in
-    ap (λ text. begins is_digit text && begins is_blank (without_leading is_digit text)) (past_kind is_blank (replicate n 32) d (ds ++ 32 ∷ r) (all_blank n) (digit_alone d parts.0))
+    ap (λ text. begins is_digit text && begins is_blank (without_leading is_digit text))
+    (past_kind is_blank (replicate n 32) d (ds ++ 32 ∷ r) (all_blank n) (digit_alone d parts.0))
     ∙ ap₂ (λ a text. a && begins is_blank text) parts.0 (past_kind is_digit (d ∷ ds) 32 r all refl)
 
 module _ (sheet : Sheet) where
-  head_parted : (k : ℕ) (rest : List ℕ) → line_head sheet k ++ rest ≡ replicate (5 - length (digits k)) 32 ++ (digits k ++ 32 ∷ (name8 (name_of sheet k) ++ rest))
+  head_parted : (k : ℕ) (rest : List ℕ) →
+      line_head sheet k ++ rest ≡ replicate (5 - length (digits k)) 32 ++ (digits k ++ 32 ∷ (name8 (name_of sheet k) ++ rest))
   head_parted k rest = as_head (replicate (5 - length (digits k)) 32) (digits k) (name8 (name_of sheet k)) rest
 
   -- two heads at one place are of one variable
   heads_tell : (j k : ℕ) (r s : List ℕ) → line_head sheet j ++ r ≡ line_head sheet k ++ s → j ≡ k
   heads_tell j k r s e =
-      digits_tell j k (right_tells (5 - length (digits j)) (5 - length (digits k)) (digits j) (digits k) (name8 (name_of sheet j) ++ r) (name8 (name_of sheet k) ++ s)
+      digits_tell j k
+      (right_tells (5 - length (digits j)) (5 - length (digits k)) (digits j) (digits k) (name8 (name_of sheet j) ++ r) (name8 (name_of sheet k) ++ s)
       (digits_are j) (digit_there j) (digits_are k) (digit_there k) (sym (head_parted j r) ∙ e ∙ head_parted k s))
 
   no_head_before : (j k : ℕ) (values : List Value) (rest : List ℕ) → j < k → left_after (line_head sheet j) (line_text (line_of sheet k values) ++ rest) ≡ None
@@ -213,7 +230,9 @@ module _ (sheet : Sheet) where
       by : (o : Option (List ℕ)) → left_after (line_head sheet j) (line_text (line_of sheet k values) ++ rest) ≡ o → o ≡ None
       by None e = refl
       by (Some left) e =
-          let same : j ≡ k = heads_tell j k left (values_text values ++ 10 ∷ rest) (sym (is_text (line_head sheet j) (line_text (line_of sheet k values) ++ rest) left e) ∙ parted sheet k values rest) in
+          let same : j ≡ k =
+          heads_tell j k left (values_text values ++ 10 ∷ rest)
+          (sym (is_text (line_head sheet j) (line_text (line_of sheet k values) ++ rest) left e) ∙ parted sheet k values rest) in
           absurd (omega (arith, same, below))
 
   no_head_at_end : (j : ℕ) (after : List ℕ) → begins_table_line after ≡ false → left_after (line_head sheet j) after ≡ None
@@ -249,17 +268,21 @@ module _ (sheet : Sheet) where
 
         by : (b : Bool) → left_after (line_head sheet j) (rest_of more) ≡ None → left_after (line_head sheet j) (rest_of (cond b (first ∷ more) more)) ≡ None
         by true later =
-            ap (left_after (line_head sheet j)) (append_assoc (line_text (line_of sheet first (one_value w first))) (table_text (lines_of sheet (one_value w) more)) after)
+            ap (left_after (line_head sheet j))
+            (append_assoc (line_text (line_of sheet first (one_value w first))) (table_text (lines_of sheet (one_value w) more)) after)
             ∙ no_head_before j first (one_value w first) (rest_of more) below
         by false later = later
 
-    multiplier_read : (k : ℕ) (rest : List ℕ) → TermsFit (w k) → eq_ℚ (w k) zero_ℚ ≡ false → multiplier_in (fraction_in checker_of_128_bits) sheet k (line_text (line_of sheet k (one_value w k)) ++ rest) ≡ Some (line_of sheet k (one_value w k), rest)
+    multiplier_read : (k : ℕ) (rest : List ℕ) → TermsFit (w k) → eq_ℚ (w k) zero_ℚ ≡ false →
+        multiplier_in (fraction_in checker_of_128_bits) sheet k (line_text (line_of sheet k (one_value w k)) ++ rest) ≡ Some
+        (line_of sheet k (one_value w k), rest)
     multiplier_read k rest fit apart =
         ap (option_and_then _) (line_read sheet (AnyNumber ∷ []) k (one_value w k) rest (fit, tt))
         ∙ ap (λ b. if b then None else Some (line_of sheet k (one_value w k), rest)) apart
 
     pub ray_read : (first n : ℕ) → LinesFit (lines_of sheet (one_value w) (among w (numbers_from first n))) →
-        ray_in (fraction_in checker_of_128_bits) sheet (numbers_from first n) (rest_of (among w (numbers_from first n))) ≡ Some (lines_of sheet (one_value w) (among w (numbers_from first n)), after)
+        ray_in (fraction_in checker_of_128_bits) sheet (numbers_from first n) (rest_of (among w (numbers_from first n))) ≡ Some
+        (lines_of sheet (one_value w) (among w (numbers_from first n)), after)
     ray_read first zero fit = ap (λ b. if b then None else Some ([], after)) other
     ray_read first (suc n) fit = by (eq_ℚ (w first) zero_ℚ) refl fit (ray_read (suc first) n) (no_head first (suc first) n (omega arith))
       where
@@ -270,20 +293,26 @@ module _ (sheet : Sheet) where
         line = line_of sheet first (one_value w first)
 
         by : (b : Bool) → eq_ℚ (w first) zero_ℚ ≡ b → LinesFit (lines_of sheet (one_value w) (cond (not b) (first ∷ more) more)) →
-            (LinesFit (lines_of sheet (one_value w) more) → ray_in (fraction_in checker_of_128_bits) sheet (numbers_from (suc first) n) (rest_of more) ≡ Some (lines_of sheet (one_value w) more, after)) →
+            (LinesFit (lines_of sheet (one_value w) more) →
+            ray_in (fraction_in checker_of_128_bits) sheet (numbers_from (suc first) n) (rest_of more) ≡ Some (lines_of sheet (one_value w) more, after)) →
             left_after (line_head sheet first) (rest_of more) ≡ None →
-            ray_in (fraction_in checker_of_128_bits) sheet (numbers_from first (suc n)) (rest_of (cond (not b) (first ∷ more) more)) ≡ Some (lines_of sheet (one_value w) (cond (not b) (first ∷ more) more), after)
+            ray_in (fraction_in checker_of_128_bits) sheet (numbers_from first (suc n)) (rest_of (cond (not b) (first ∷ more) more)) ≡ Some
+            (lines_of sheet (one_value w) (cond (not b) (first ∷ more) more), after)
         by true is fit later none =
             ap (λ (o : Option (List ℕ)). elim o [
               | None ↦ ray_in (fraction_in checker_of_128_bits) sheet (numbers_from (suc first) n) (rest_of more)
-              | Some values ↦ then_more (multiplier_in (fraction_in checker_of_128_bits) sheet first (rest_of more)) (ray_in (fraction_in checker_of_128_bits) sheet (numbers_from (suc first) n))
+              | Some values ↦ then_more (multiplier_in (fraction_in checker_of_128_bits) sheet first (rest_of more))
+                  (ray_in (fraction_in checker_of_128_bits) sheet (numbers_from (suc first) n))
             ]) none ∙ later fit
         by false is fit later none =
-            let whole : rest_of (first ∷ more) ≡ line_text line ++ rest_of more = append_assoc (line_text line) (table_text (lines_of sheet (one_value w) more)) after in
+            let whole : rest_of (first ∷ more) ≡ line_text line ++ rest_of more =
+            append_assoc (line_text line) (table_text (lines_of sheet (one_value w) more)) after in
             ap (ray_in (fraction_in checker_of_128_bits) sheet (numbers_from first (suc n))) whole
             ∙ ap (λ (o : Option (List ℕ)). elim o [
               | None ↦ ray_in (fraction_in checker_of_128_bits) sheet (numbers_from (suc first) n) (line_text line ++ rest_of more)
-              | Some values ↦ then_more (multiplier_in (fraction_in checker_of_128_bits) sheet first (line_text line ++ rest_of more)) (ray_in (fraction_in checker_of_128_bits) sheet (numbers_from (suc first) n))
+              | Some values ↦ then_more (multiplier_in (fraction_in checker_of_128_bits) sheet first (line_text line ++ rest_of more))
+                  (ray_in (fraction_in checker_of_128_bits) sheet (numbers_from (suc first) n))
             ]) (line_stands sheet first (one_value w first) (rest_of more))
-            ∙ ap (λ o. then_more o (ray_in (fraction_in checker_of_128_bits) sheet (numbers_from (suc first) n))) (multiplier_read first (rest_of more) fit.0.0 is)
+            ∙ ap (λ o. then_more o (ray_in (fraction_in checker_of_128_bits) sheet (numbers_from (suc first) n)))
+            (multiplier_read first (rest_of more) fit.0.0 is)
             ∙ ap (option_map (λ got. (line ∷ got.0, got.1))) (later fit.1)

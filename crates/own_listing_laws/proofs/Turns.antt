@@ -11,17 +11,30 @@ use Rattle.walk_definitions.specs.Walker.{Walker, closes, walk_move, walk_statem
 module _ (program : Program) (w : Walker) where
   pub turn_at_end : nat_lt (length program.statements) w.state.position ≡ true → turn checker_of_128_bits program w ≡ closes w (Ended 0)
   unfolding turn
-  turn_at_end e = ap (λ b. if b then closes w (Ended 0) else if nat_lt w.state.executed max_executed then walk_statement checker_of_128_bits w (slice_get program.statements (w.state.position - 1)) else closes w StatementLimit) e
+  turn_at_end e =
+      ap (λ b. if b then closes w (Ended 0) else if nat_lt w.state.executed max_executed then walk_statement checker_of_128_bits w
+      (slice_get program.statements (w.state.position - 1)) else closes w StatementLimit) e
 
   turn_before_end : nat_lt (length program.statements) w.state.position ≡ false →
-      turn checker_of_128_bits program w ≡ (if nat_lt w.state.executed max_executed then walk_statement checker_of_128_bits w (slice_get program.statements (w.state.position - 1)) else closes w StatementLimit)
+      turn checker_of_128_bits program w ≡
+      (if nat_lt w.state.executed max_executed then walk_statement checker_of_128_bits w
+      (slice_get program.statements (w.state.position - 1)) else closes w StatementLimit)
   unfolding turn
-  turn_before_end e = ap (λ b. if b then closes w (Ended 0) else if nat_lt w.state.executed max_executed then walk_statement checker_of_128_bits w (slice_get program.statements (w.state.position - 1)) else closes w StatementLimit) e
+  turn_before_end e =
+      ap (λ b. if b then closes w (Ended 0) else if nat_lt w.state.executed max_executed then walk_statement checker_of_128_bits w
+      (slice_get program.statements (w.state.position - 1)) else closes w StatementLimit) e
 
-  pub turn_at_limit : nat_lt (length program.statements) w.state.position ≡ false → nat_lt w.state.executed max_executed ≡ false → turn checker_of_128_bits program w ≡ closes w StatementLimit
-  turn_at_limit e f = turn_before_end e ∙ ap (λ b. if b then walk_statement checker_of_128_bits w (slice_get program.statements (w.state.position - 1)) else closes w StatementLimit) f
+  pub turn_at_limit : nat_lt (length program.statements) w.state.position ≡ false → nat_lt w.state.executed max_executed ≡ false →
+      turn checker_of_128_bits program w ≡ closes w StatementLimit
+  turn_at_limit e f =
+      turn_before_end e
+      ∙ ap (λ b. if b then walk_statement checker_of_128_bits w (slice_get program.statements (w.state.position - 1)) else closes w StatementLimit) f
 
-  pub turn_at_statement : (statement : Statement ℕ) → nat_lt (length program.statements) w.state.position ≡ false → nat_lt w.state.executed max_executed ≡ true →
-      slice_get program.statements (w.state.position - 1) ≡ Some statement → turn checker_of_128_bits program w ≡ walk_move checker_of_128_bits w (verb_move statement.verb statement.card (counted w.state))
+  pub turn_at_statement : (statement : Statement ℕ) → nat_lt (length program.statements) w.state.position ≡ false →
+      nat_lt w.state.executed max_executed ≡ true →
+      slice_get program.statements (w.state.position - 1) ≡ Some statement →
+      turn checker_of_128_bits program w ≡ walk_move checker_of_128_bits w (verb_move statement.verb statement.card (counted w.state))
   turn_at_statement statement e f at =
-      turn_before_end e ∙ ap (λ b. if b then walk_statement checker_of_128_bits w (slice_get program.statements (w.state.position - 1)) else closes w StatementLimit) f ∙ ap (walk_statement checker_of_128_bits w) at
+      turn_before_end e
+      ∙ ap (λ b. if b then walk_statement checker_of_128_bits w (slice_get program.statements (w.state.position - 1)) else closes w StatementLimit) f
+      ∙ ap (walk_statement checker_of_128_bits w) at

@@ -51,9 +51,11 @@ pub record WaitsHere (pending : Pending) (lp : LinearProgram) (s : Basis) : Type
   pub tableau : Tableau
   pub is_tableau : IsTableau lp s tableau
   pub is_objective : pending.objective ≡ value_at (listed lp.matrix tableau.point) lp.objective
-  pub is_check : optimal_check lp (value_at (listed lp.matrix tableau.point)) (value_at (listed lp.matrix (price_at lp (basics_of s) tableau.rate))) ≡ found pending.check
+  pub is_check : optimal_check lp (value_at (listed lp.matrix tableau.point))
+      (value_at (listed lp.matrix (price_at lp (basics_of s) tableau.rate))) ≡ found pending.check
 
-waits_here : (pending : Pending) (setup : Option Present) (objective rhs : Option Name) (present : Present) (lp : LinearProgram) → Waits pending setup objective rhs → setup ≡ Some present →
+waits_here : (pending : Pending) (setup : Option Present) (objective rhs : Option Name) (present : Present) (lp : LinearProgram) →
+    Waits pending setup objective rhs → setup ≡ Some present →
     selected present.problem (record { objective = objective; rhs = rhs; options = present.options }) ≡ Ok lp → WaitsHere pending lp (present_basis present)
 waits_here pending setup objective rhs present lp h set is =
     let same : h.present ≡ present = (let e = sym h.is_setup ∙ set in cc) in
@@ -61,18 +63,23 @@ waits_here pending setup objective rhs present lp h set is =
     subst (λ (x : Present). selected x.problem (record { objective = objective; rhs = rhs; options = x.options }) ≡ Ok lp) (sym same) is in
     let same_lp : h.lp ≡ lp = (let e = sym h.is_selected ∙ own in cc) in
     subst (λ (x : Present). WaitsHere pending lp (present_basis x)) same
-    (subst (λ (p : LinearProgram). WaitsHere pending p (present_basis h.present)) same_lp (record { tableau = h.tableau; is_tableau = h.is_tableau; is_objective = h.is_objective; is_check = h.is_check }))
+    (subst (λ (p : LinearProgram). WaitsHere pending p (present_basis h.present)) same_lp
+    (record { tableau = h.tableau; is_tableau = h.is_tableau; is_objective = h.is_objective; is_check = h.is_check }))
 
-module _ (p : LinearProgram) (lawful : IsLinearProgram p) (s : Basis) (at : IsNonsingularBasis p s) (t u : Tableau) (tab : IsTableau p s t) (other : IsTableau p s u) where
+module _ (p : LinearProgram) (lawful : IsLinearProgram p) (s : Basis) (at : IsNonsingularBasis p s) (t u : Tableau) (tab : IsTableau p s t)
+    (other : IsTableau p s u) where
   pub same_points : listed p.matrix t.point ≡ listed p.matrix u.point
   same_points = listed_same p.matrix t.point u.point (one_point p s t.point u.point at.is_basis.counted at.nonsingular tab.is_point other.is_point)
 
   price_same : (k : ℕ) → IsVariable p.matrix k → price_at p (basics_of s) t.rate k ≡ price_at p (basics_of s) u.rate k
   price_same k is = by (is_in (basics_of s) k) refl
     where
-      by : (mark : Bool) → is_in (basics_of s) k ≡ mark → (if mark then zero_ℚ else objective_rate p t.rate k) ≡ (if mark then zero_ℚ else objective_rate p u.rate k)
+      by : (mark : Bool) → is_in (basics_of s) k ≡ mark →
+          (if mark then zero_ℚ else objective_rate p t.rate k) ≡ (if mark then zero_ℚ else objective_rate p u.rate k)
       by true mark = refl
-      by false mark = objective_value-same p (λ i. t.rate i k) (λ i. u.rate i k) lawful (λ i row. one_table p.matrix (basics_of s) t.rate u.rate at.nonsingular tab.are_rates other.are_rates i k row (is, mark))
+      by false mark =
+          objective_value-same p (λ i. t.rate i k) (λ i. u.rate i k) lawful
+          (λ i row. one_table p.matrix (basics_of s) t.rate u.rate at.nonsingular tab.are_rates other.are_rates i k row (is, mark))
 
   pub same_prices : listed p.matrix (price_at p (basics_of s) t.rate) ≡ listed p.matrix (price_at p (basics_of s) u.rate)
   same_prices = listed_same p.matrix _ _ price_same
@@ -89,7 +96,8 @@ last_checked a b c d e =
     (both_checked d Checked after_c).0
 
 module _ (sheet : Sheet) (lawful : IsLinearProgram sheet.lp) (s : Basis) (at : IsNonsingularBasis sheet.lp s) (t : Tableau) (tab : IsTableau sheet.lp s t) where
-  pub settles_true : (pending : Pending) → WaitsHere pending sheet.lp s → solution_test checker_of_128_bits sheet Optimal (solution_lines sheet s t) ≡ Checked → settles checker_of_128_bits pending (point_of sheet (solution_lines sheet s t) sheet.lp.objective) ≡ true
+  pub settles_true : (pending : Pending) → WaitsHere pending sheet.lp s → solution_test checker_of_128_bits sheet Optimal (solution_lines sheet s t) ≡ Checked →
+      settles checker_of_128_bits pending (point_of sheet (solution_lines sheet s t) sheet.lp.objective) ≡ true
   settles_true pending h checked =
       ap (λ b. if b then says_checked pending.check else false) (test_from_same pending.objective (point_of sheet (solution_lines sheet s t) sheet.lp.objective)
       (h.is_objective ∙ ap (λ (xs : List ℚ). value_at xs sheet.lp.objective) (sym points))) ∙ checked_so pending.check (sym h.is_check ∙ sym same_check ∙ own)
@@ -101,25 +109,33 @@ module _ (sheet : Sheet) (lawful : IsLinearProgram sheet.lp) (s : Basis) (at : I
       points = points_of_lines sheet s t ∙ same_points sheet.lp lawful s at t h.tableau tab h.is_tableau
 
       same_check : optimal_check sheet.lp (point_of sheet (solution_lines sheet s t)) (prices_of sheet (solution_lines sheet s t)) ≡
-          optimal_check sheet.lp (value_at (listed sheet.lp.matrix h.tableau.point)) (value_at (listed sheet.lp.matrix (price_at sheet.lp (basics_of s) h.tableau.rate)))
-      same_check = ap₂ (λ (xs ys : List ℚ). optimal_check sheet.lp (value_at xs) (value_at ys)) points (prices_of_lines sheet s t ∙ same_prices sheet.lp lawful s at t h.tableau tab h.is_tableau)
+          optimal_check sheet.lp (value_at (listed sheet.lp.matrix h.tableau.point))
+          (value_at (listed sheet.lp.matrix (price_at sheet.lp (basics_of s) h.tableau.rate)))
+      same_check =
+          ap₂ (λ (xs ys : List ℚ). optimal_check sheet.lp (value_at xs) (value_at ys)) points
+          (prices_of_lines sheet s t ∙ same_prices sheet.lp lawful s at t h.tableau tab h.is_tableau)
 
       own : optimal_check sheet.lp (point_of sheet (solution_lines sheet s t)) (prices_of sheet (solution_lines sheet s t)) ≡ Checked
       own =
           last_checked (verdict_of (equations sheet.lp 1 (point_of sheet lines))) (verdict_of (reduced_costs sheet.lp (prices_of sheet lines)))
-          (verdict_of (flat_map (slack_steps sheet (point_of sheet lines) (slacks_of sheet lines)) (row_numbers sheet.lp))) (optimal_check sheet.lp (point_of sheet lines) (prices_of sheet lines)) checked
+          (verdict_of (flat_map (slack_steps sheet (point_of sheet lines) (slacks_of sheet lines)) (row_numbers sheet.lp)))
+          (optimal_check sheet.lp (point_of sheet lines) (prices_of sheet lines)) checked
 
 -- the test of SOLUTION never fails
-pub solution_passes : (sheet : Sheet) (s : Basis) (t : Tableau) (mark : Mark) → IsLinearProgram sheet.lp → IsTableau sheet.lp s t → IsNonsingularBasis sheet.lp s → (mark ≡ Optimal → IsProvedBest sheet.lp s t) →
+pub solution_passes : (sheet : Sheet) (s : Basis) (t : Tableau) (mark : Mark) → IsLinearProgram sheet.lp → IsTableau sheet.lp s t →
+    IsNonsingularBasis sheet.lp s → (mark ≡ Optimal → IsProvedBest sheet.lp s t) →
     Passes (solution_test checker_of_128_bits sheet mark (solution_lines sheet s t))
-solution_passes sheet s t Optimal lawful tab at best = let proved = best refl in reported_passes sheet s t lawful tab at Optimal (best_passes sheet s t lawful tab at proved.best proved.certificate)
+solution_passes sheet s t Optimal lawful tab at best =
+    let proved = best refl in reported_passes sheet s t lawful tab at Optimal (best_passes sheet s t lawful tab at proved.best proved.certificate)
 solution_passes sheet s t Infeasible lawful tab at best = reported_passes sheet s t lawful tab at Infeasible passes_checked
 solution_passes sheet s t Unbounded lawful tab at best = reported_passes sheet s t lawful tab at Unbounded passes_checked
 
 -- ---- the question of SOLUTION
 
-module _ (w : Walker) (s : State) (opening : Basis) (steps : List Basis) (card : ℕ) (mark : Mark) (present : Present) (lp : LinearProgram) (set : s.setup ≡ Some present)
-    (is : selected present.problem (choice_of s.cells present.options) ≡ Ok lp) (waits : WaitsAt w.pending s) (limits : steps_allowed s.cells ≤ max_count) (lawful : IsLinearProgram lp) (at : IsNonsingularBasis lp (present_basis present))
+module _ (w : Walker) (s : State) (opening : Basis) (steps : List Basis) (card : ℕ) (mark : Mark) (present : Present) (lp : LinearProgram)
+    (set : s.setup ≡ Some present)
+    (is : selected present.problem (choice_of s.cells present.options) ≡ Ok lp) (waits : WaitsAt w.pending s) (limits : steps_allowed s.cells ≤ max_count)
+    (lawful : IsLinearProgram lp) (at : IsNonsingularBasis lp (present_basis present))
     (best : mark ≡ Optimal → (t : Tableau) → IsTableau lp (present_basis present) t → IsProvedBest lp (present_basis present) t) where
   abbrev sheet : Sheet
   sheet = record { problem = present.problem; lp = lp }
@@ -136,11 +152,14 @@ module _ (w : Walker) (s : State) (opening : Basis) (steps : List Basis) (card :
   abbrev own : SolutionLines → StatementOutcome
   own lines = next (Prints (Solution mark lines)) (counted s)
 
-  test_passes : (t : Tableau) → IsTableau lp (present_basis present) t → Passes (solution_test checker_of_128_bits sheet mark (solution_lines sheet (present_basis present) t))
+  test_passes : (t : Tableau) → IsTableau lp (present_basis present) t →
+      Passes (solution_test checker_of_128_bits sheet mark (solution_lines sheet (present_basis present) t))
   test_passes t tab = solution_passes sheet (present_basis present) t mark lawful tab at (λ optimal. best optimal t tab)
 
-  reported_lands : (t : Tableau) → IsTableau lp (present_basis present) t → (more : List ℕ) → IsDue w (own (solution_lines sheet (present_basis present) t)) more →
-      Lands (own (solution_lines sheet (present_basis present) t)) more (answered checker_of_128_bits w (OfSolution mark) sheet go (judged checker_of_128_bits (OfSolution mark) sheet w.rest))
+  reported_lands : (t : Tableau) → IsTableau lp (present_basis present) t → (more : List ℕ) →
+      IsDue w (own (solution_lines sheet (present_basis present) t)) more →
+      Lands (own (solution_lines sheet (present_basis present) t)) more
+      (answered checker_of_128_bits w (OfSolution mark) sheet go (judged checker_of_128_bits (OfSolution mark) sheet w.rest))
   reported_lands t tab more given =
       subst (λ (parsed : Parsed SolutionLines). LandsSo (tested (solution_test checker_of_128_bits sheet mark) parsed)) (sym read)
       (judged_so (solution_test checker_of_128_bits sheet mark lines) lines more LandsSo (test_passes t tab) (λ checked. right mark refl checked) tt)
@@ -152,26 +171,34 @@ module _ (w : Walker) (s : State) (opening : Basis) (steps : List Basis) (card :
       LandsSo j = Lands (own lines) more (answered checker_of_128_bits w (OfSolution mark) sheet go j)
 
       read : solution_in (fraction_in checker_of_128_bits) sheet mark w.rest ≡ Some (lines, more)
-      read = ap (solution_in (fraction_in checker_of_128_bits) sheet mark) given.text ∙ reported_read sheet (present_basis present) t mark more given.fits.0 given.fits.1
+      read =
+          ap (solution_in (fraction_in checker_of_128_bits) sheet mark) given.text
+          ∙ reported_read sheet (present_basis present) t mark more given.fits.0 given.fits.1
 
       -- the run goes on, and this is pending
       goes_on : (pending : Option Pending) → WaitsAt pending s → Lands (own lines) more (follows (record (passed more 1 w) { pending = pending }) (go lines))
       goes_on pending still = record { like = record { opening = opening; steps = steps; is = refl; limits = limits }; is_rest = refl; waits = still }
 
-      settled_lands : (pending : Option Pending) → WaitsAt pending s → solution_test checker_of_128_bits sheet Optimal lines ≡ Checked → (turn : WalkTurn) → Lands (own lines) more turn → Lands (own lines) more (settled checker_of_128_bits w pending (point_of sheet lines lp.objective) turn)
+      settled_lands : (pending : Option Pending) → WaitsAt pending s → solution_test checker_of_128_bits sheet Optimal lines ≡ Checked → (turn : WalkTurn) →
+          Lands (own lines) more turn → Lands (own lines) more (settled checker_of_128_bits w pending (point_of sheet lines lp.objective) turn)
       settled_lands None still checked turn lands = lands
       settled_lands (Some pending) still checked turn lands =
           subst (λ b. Lands (own lines) more (if b then turn else Finds (Wrong pending.rest)))
-          (sym (settles_true sheet lawful (present_basis present) at t tab pending (waits_here pending s.setup s.cells.xobj s.cells.xrhs present lp still set is) checked)) lands
+          (sym (settles_true sheet lawful (present_basis present) at t tab pending
+          (waits_here pending s.setup s.cells.xobj s.cells.xrhs present lp still set is) checked)) lands
 
       right : (m : Mark) → mark ≡ m → solution_test checker_of_128_bits sheet mark lines ≡ Checked → LandsSo (Right lines more)
       right m same checked = by m same
         where
           whole : Mark → Type 0
-          whole m = Lands (own lines) more (settling checker_of_128_bits w (OfSolution m) sheet lines (follows (record (passed more 1 w) { pending = noted w (OfSolution m) sheet lines }) (go lines)))
+          whole m =
+              Lands (own lines) more
+              (settling checker_of_128_bits w (OfSolution m) sheet lines
+              (follows (record (passed more 1 w) { pending = noted w (OfSolution m) sheet lines }) (go lines)))
 
           of_mark : (m : Mark) → mark ≡ m → whole m
-          of_mark Optimal same = settled_lands w.pending waits (subst (λ (n : Mark). solution_test checker_of_128_bits sheet n lines ≡ Checked) same checked) _ (goes_on None tt)
+          of_mark Optimal same =
+              settled_lands w.pending waits (subst (λ (n : Mark). solution_test checker_of_128_bits sheet n lines ≡ Checked) same checked) _ (goes_on None tt)
           of_mark Infeasible same = goes_on w.pending waits
           of_mark Unbounded same = goes_on w.pending waits
 
@@ -180,12 +207,16 @@ module _ (w : Walker) (s : State) (opening : Basis) (steps : List Basis) (card :
 
   pub reported_followed : IsFollowed w card (asks (OfSolution mark) sheet set_up go) (asks (OfSolution mark) sheet present own)
   reported_followed =
-      may_stop w card (Asks (OfSolution mark) sheet (present_basis set_up) go) (Asks (OfSolution mark) sheet (present_basis present) own) (InAnswer (OfSolution mark) sheet (path_of set_up)) (InAnswer (OfSolution mark) sheet (path_of present)) tt
+      may_stop w card (Asks (OfSolution mark) sheet (present_basis set_up) go) (Asks (OfSolution mark) sheet (present_basis present) own)
+      (InAnswer (OfSolution mark) sheet (path_of set_up)) (InAnswer (OfSolution mark) sheet (path_of present)) tt
       (asked_lands w card (OfSolution mark) sheet (present_basis set_up) (present_basis present) go own lands)
     where
-      lands : card ≤ max_count → (answer : SolutionLines) (more : List ℕ) → IsRight linear_programming (OfSolution mark) sheet (present_basis present) answer → IsDue w (own answer) more → open_question w (OfSolution mark) sheet go ≡ None →
+      lands : card ≤ max_count → (answer : SolutionLines) (more : List ℕ) → IsRight linear_programming (OfSolution mark) sheet (present_basis present) answer →
+          IsDue w (own answer) more → open_question w (OfSolution mark) sheet go ≡ None →
           Lands (own answer) more (answered checker_of_128_bits w (OfSolution mark) sheet go (judged checker_of_128_bits (OfSolution mark) sheet w.rest))
       lands small answer more right given none =
           let viewed : IsSolutionOf sheet (present_basis present) answer = knows_linear_programming.shows mark sheet (present_basis present) answer right in
-          subst (λ (lines : SolutionLines). IsDue w (own lines) more → Lands (own lines) more (answered checker_of_128_bits w (OfSolution mark) sheet go (judged checker_of_128_bits (OfSolution mark) sheet w.rest))) (sym viewed.are_lines)
+          subst (λ (lines : SolutionLines). IsDue w (own lines) more →
+          Lands (own lines) more (answered checker_of_128_bits w (OfSolution mark) sheet go (judged checker_of_128_bits (OfSolution mark) sheet w.rest)))
+          (sym viewed.are_lines)
           (λ given. reported_lands viewed.tableau viewed.is_tableau more given) given

@@ -55,29 +55,46 @@ module _ (program : Program) (decks : List (List Card)) (lines : List ℕ) where
     pub reaches : Walked checker_of_128_bits program decks lines last
     pub finds : turn checker_of_128_bits program last ≡ Finds (Attested n)
 
-  attests : (w : Walker) (objective : Option ℚ) (s : State) (reports : List Report) (ending : Ending) → is_open_stop (ending_text ending) ≡ false → IsAttestable program objective s reports ending →
+  attests : (w : Walker) (objective : Option ℚ) (s : State) (reports : List Report) (ending : Ending) → is_open_stop (ending_text ending) ≡ false →
+      IsAttestable program objective s reports ending →
       StandsAt w objective s (listing reports ending) → Walked checker_of_128_bits program decks lines w → Finishes (w.reports + length reports)
   attests w _ _ _ _ closed (over s ending is) at before =
-      record { last = w; reaches = before; finds = over_found program w s at.like ending is at.waits at.is_rest closed ∙ ap (λ (n : ℕ). Finds (Attested n)) (omega arith) }
+      record {
+        last = w;
+        reaches = before;
+        finds = over_found program w s at.like ending is at.waits at.is_rest closed
+            ∙ ap (λ (n : ℕ). Finds (Attested n)) (omega arith);
+      }
   attests w _ _ _ _ closed (does objective s gain after reports ending step nothing kept rest) at before =
-      let on = statement_goes program w s at.like objective gain after (listing reports ending) step nothing kept at.waits (at.is_rest ∙ gain_first gain reports ending)
+      let on =
+      statement_goes program w s at.like objective gain after (listing reports ending) step nothing kept at.waits (at.is_rest ∙ gain_first gain reports ending)
       (ap is_open_stop at.is_rest ∙ listing_closed (printed_by gain ++ reports) ending closed) in
-      subst Finishes (ap (λ n. n + length reports) on.counts ∙ gain_counts gain reports w.reports) (attests on.walker objective after reports ending closed rest on.stands (walked before on.is))
+      subst Finishes (ap (λ n. n + length reports) on.counts ∙ gain_counts gain reports w.reports)
+      (attests on.walker objective after reports ending closed rest on.stands (walked before on.is))
   attests w _ _ _ _ closed (stops s gain ending step nothing) at before = record {
     last = w;
     reaches = before;
-    finds = statement_ends program w s at.like gain ending step nothing at.waits (at.is_rest ∙ gain_last gain ending) (ap is_open_stop at.is_rest ∙ listing_closed (printed_by gain) ending closed) closed;
+    finds =
+        statement_ends program w s at.like gain ending step nothing at.waits (at.is_rest ∙ gain_last gain ending)
+        (ap is_open_stop at.is_rest ∙ listing_closed (printed_by gain) ending closed) closed;
   }
   attests w _ _ _ _ closed (finds s solver verdict after reports ending found rest) at before =
-      let on = verdict_goes program w s at.like solver verdict after (listing reports ending) found at.waits (at.is_rest ∙ report_first (Solved solver verdict Checked) reports ending) (listing_plain reports ending) in
-      subst Finishes (ap (λ n. n + length reports) on.counts ∙ gain_counts (Prints (Solved solver verdict Checked)) reports w.reports) (attests on.walker (to_show verdict) after reports ending closed rest on.stands (walked before on.is))
+      let on =
+      verdict_goes program w s at.like solver verdict after (listing reports ending) found at.waits
+      (at.is_rest ∙ report_first (Solved solver verdict Checked) reports ending) (listing_plain reports ending) in
+      subst Finishes (ap (λ n. n + length reports) on.counts ∙ gain_counts (Prints (Solved solver verdict Checked)) reports w.reports)
+      (attests on.walker (to_show verdict) after reports ending closed rest on.stands (walked before on.is))
   attests w _ _ _ _ closed (finds_last s solver verdict ending found) at before = record {
     last = w;
     reaches = before;
-    finds = verdict_ends program w s at.like solver verdict ending found at.waits (at.is_rest ∙ report_first (Solved solver verdict Checked) [] ending) (ending_plain ending) closed;
+    finds =
+        verdict_ends program w s at.like solver verdict ending found at.waits (at.is_rest ∙ report_first (Solved solver verdict Checked) [] ending)
+        (ending_plain ending) closed;
   }
   attests w _ _ _ _ closed (shows waiting s objective lines_shown reports ending shown either rest) at before =
-      let on = solution_goes program w s at.like waiting objective lines_shown (listing reports ending) shown either at.waits (at.is_rest ∙ report_first (Solution Optimal lines_shown) reports ending) in
+      let on =
+      solution_goes program w s at.like waiting objective lines_shown (listing reports ending) shown either at.waits
+      (at.is_rest ∙ report_first (Solution Optimal lines_shown) reports ending) in
       subst Finishes (ap (λ n. n + length reports) on.counts ∙ gain_counts (Prints (Solution Optimal lines_shown)) reports w.reports)
       (attests on.walker None (record (counted s) { position = s.position + 1 }) reports ending closed rest on.stands (walked before on.is))
 
@@ -87,22 +104,27 @@ module _ (program : Program) (decks : List (List Card)) where
   abbrev RunsSo : List Report → Ending → Type 0
   RunsSo reports ending = (cards : List (List ℕ)) × IsRun linear_programming program decks reports cards ending
 
-  runs_so : (reports : List Report) (cards : List (List ℕ)) (objective : Option ℚ) (s : State) (more : List Report) (ending : Ending) → Reaches linear_programming program decks reports cards s →
+  runs_so : (reports : List Report) (cards : List (List ℕ)) (objective : Option ℚ) (s : State) (more : List Report) (ending : Ending) →
+      Reaches linear_programming program decks reports cards s →
       IsAttestable program objective s more ending → RunsSo (reports ++ more) ending
   runs_so reports cards _ _ _ _ before (over s ending is) = subst (λ (rs : List Report). RunsSo rs ending) (sym (append-nil reports)) (cards, is_over before is)
   runs_so reports cards _ _ _ _ before (does objective s gain after more ending step nothing kept rest) =
-      subst (λ (rs : List Report). RunsSo rs ending) (append_assoc reports (printed_by gain) more) (runs_so (reports ++ printed_by gain) (cards ++ punched_by gain) objective after more ending (stepped gain after before step) rest)
+      subst (λ (rs : List Report). RunsSo rs ending) (append_assoc reports (printed_by gain) more)
+      (runs_so (reports ++ printed_by gain) (cards ++ punched_by gain) objective after more ending (stepped gain after before step) rest)
   runs_so reports cards _ _ _ _ before (stops s gain ending step nothing) = (cards ++ punched_by gain, is_ended gain before step)
   runs_so reports cards _ _ _ _ before (finds s solver verdict after more ending found rest) =
       subst (λ (rs : List Report). RunsSo rs ending) (append_assoc reports (Solved solver verdict Checked ∷ []) more)
-      (runs_so (reports ++ Solved solver verdict Checked ∷ []) (cards ++ []) (to_show verdict) after more ending (stepped (Prints (Solved solver verdict Checked)) after before found.step) rest)
-  runs_so reports cards _ _ _ _ before (finds_last s solver verdict ending found) = (cards ++ [], is_ended (Prints (Solved solver verdict Checked)) before found.step)
+      (runs_so (reports ++ Solved solver verdict Checked ∷ []) (cards ++ []) (to_show verdict) after more ending
+      (stepped (Prints (Solved solver verdict Checked)) after before found.step) rest)
+  runs_so reports cards _ _ _ _ before (finds_last s solver verdict ending found) =
+      (cards ++ [], is_ended (Prints (Solved solver verdict Checked)) before found.step)
   runs_so reports cards _ _ _ _ before (shows waiting s objective lines more ending shown either rest) =
       subst (λ (rs : List Report). RunsSo rs ending) (append_assoc reports (Solution Optimal lines ∷ []) more)
       (runs_so (reports ++ Solution Optimal lines ∷ []) (cards ++ []) None (record (counted s) { position = s.position + 1 }) more ending
       (stepped (Prints (Solution Optimal lines)) (record (counted s) { position = s.position + 1 }) before shown.step) rest)
 
-is_run : (bytes : List ℕ) (reports : List Report) (ending : Ending) → IsAttestableRun bytes reports ending → (cards : List (List ℕ)) × IsJobRun linear_programming bytes reports cards ending
+is_run : (bytes : List ℕ) (reports : List Report) (ending : Ending) → IsAttestableRun bytes reports ending →
+    (cards : List (List ℕ)) × IsJobRun linear_programming bytes reports cards ending
 is_run bytes _ _ (of_cards fault is) = ([], card_fault fault is)
 is_run bytes _ _ (of_control fault none is) = ([], control_fault fault none is)
 is_run bytes _ _ (of_program program reports ending is_program runs) =

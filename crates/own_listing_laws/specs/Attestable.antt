@@ -95,24 +95,33 @@ module _ (program : Program) (s : State) where
 -- before the next verdict, before the mark is cleared, and before the end.
 pub data IsAttestable (program : Program) : Option ℚ → State → List Report → Ending → Type 0 where
   over : (s : State) (ending : Ending) → IsOver linear_programming program s ending → IsAttestable program None s [] ending
-  does : (objective : Option ℚ) (s : State) (gain : Gain) (after : State) (reports : List Report) (ending : Ending) (step : Step linear_programming program s (Goes gain after)) → AsksNothing program s (Goes gain after) step →
-      (objective ≡ None) ⊎ (is_none after.mark ≡ false) → IsAttestable program objective after reports ending → IsAttestable program objective s (printed_by gain ++ reports) ending
-  stops : (s : State) (gain : Gain) (ending : Ending) (step : Step linear_programming program s (Ends gain ending)) → AsksNothing program s (Ends gain ending) step → IsAttestable program None s (printed_by gain) ending
-  finds : (s : State) (solver : Solver) (verdict : PathVerdict) (after : State) (reports : List Report) (ending : Ending) → FindsChecked program s solver verdict (Goes (Prints (Solved solver verdict Checked)) after) →
+  does : (objective : Option ℚ) (s : State) (gain : Gain) (after : State) (reports : List Report) (ending : Ending)
+      (step : Step linear_programming program s (Goes gain after)) → AsksNothing program s (Goes gain after) step →
+      (objective ≡ None) ⊎ (is_none after.mark ≡ false) → IsAttestable program objective after reports ending →
+      IsAttestable program objective s (printed_by gain ++ reports) ending
+  stops : (s : State) (gain : Gain) (ending : Ending) (step : Step linear_programming program s (Ends gain ending)) →
+      AsksNothing program s (Ends gain ending) step → IsAttestable program None s (printed_by gain) ending
+  finds : (s : State) (solver : Solver) (verdict : PathVerdict) (after : State) (reports : List Report) (ending : Ending) →
+      FindsChecked program s solver verdict (Goes (Prints (Solved solver verdict Checked)) after) →
       IsAttestable program (to_show verdict) after reports ending → IsAttestable program None s (Solved solver verdict Checked ∷ reports) ending
-  finds_last : (s : State) (solver : Solver) (verdict : PathVerdict) (ending : Ending) → FindsChecked program s solver verdict (Ends (Prints (Solved solver verdict Checked)) ending) →
+  finds_last : (s : State) (solver : Solver) (verdict : PathVerdict) (ending : Ending) →
+      FindsChecked program s solver verdict (Ends (Prints (Solved solver verdict Checked)) ending) →
       IsAttestable program None s (Solved solver verdict Checked ∷ []) ending
-  shows : (waiting : Option ℚ) (s : State) (objective : ℚ) (lines : SolutionLines) (reports : List Report) (ending : Ending) → ShowsChecked program s objective lines → (waiting ≡ None) ⊎ (waiting ≡ Some objective) →
-      IsAttestable program None (record (counted s) { position = s.position + 1 }) reports ending → IsAttestable program waiting s (Solution Optimal lines ∷ reports) ending
+  shows : (waiting : Option ℚ) (s : State) (objective : ℚ) (lines : SolutionLines) (reports : List Report) (ending : Ending) →
+      ShowsChecked program s objective lines → (waiting ≡ None) ⊎ (waiting ≡ Some objective) →
+      IsAttestable program None (record (counted s) { position = s.position + 1 }) reports ending →
+      IsAttestable program waiting s (Solution Optimal lines ∷ reports) ending
 
 -- What such a job comes to: a fault of its cards, a control fault, or so a run of its program from its start on.
 pub data IsAttestableRun (bytes : List ℕ) : List Report → Ending → Type 0 where
   of_cards : (fault : CardFault) → job_fault bytes ≡ Some fault → IsAttestableRun bytes [] (CardStop fault)
   of_control : (fault : ControlFault) → job_fault bytes ≡ None → compiled (cards_of bytes) ≡ Err fault → IsAttestableRun bytes [] (ControlStop fault)
-  of_program : (program : Program) (reports : List Report) (ending : Ending) → IsProgramOf bytes program → IsAttestable program None (start (job_decks program bytes)) reports ending → IsAttestableRun bytes reports ending
+  of_program : (program : Program) (reports : List Report) (ending : Ending) → IsProgramOf bytes program →
+      IsAttestable program None (start (job_decks program bytes)) reports ending → IsAttestableRun bytes reports ending
 
 -- It is a run of the job, and its listing is attested, with all its reports, where its end isn't one that can't be attested.
 pub record ComesAttested : Type 0 where
-  pub runs : (bytes : List ℕ) (reports : List Report) (ending : Ending) → IsAttestableRun bytes reports ending → (cards : List (List ℕ)) × IsJobRun linear_programming bytes reports cards ending
+  pub runs : (bytes : List ℕ) (reports : List Report) (ending : Ending) → IsAttestableRun bytes reports ending →
+      (cards : List (List ℕ)) × IsJobRun linear_programming bytes reports cards ending
   pub attested : (bytes : List ℕ) (reports : List Report) (ending : Ending) → IsAttestableRun bytes reports ending → is_open_stop (ending_text ending) ≡ false →
       EndsIn checker_of_128_bits bytes (listing reports ending) (Attested (length reports))

@@ -39,24 +39,34 @@ idle false true false false true e f = refl
 idle false false false false true e f = refl
 idle a b false false false e f = refl
 
-module _ (p : LinearProgram) (s : List Status) (h : ℕ) (lawful : IsLinearProgram p) (no_change : p.change ≡ None) (row : IsRow p.matrix h) (basis : IsNonsingularBasis p s)
+module _ (p : LinearProgram) (s : List Status) (h : ℕ) (lawful : IsLinearProgram p) (no_change : p.change ≡ None) (row : IsRow p.matrix h)
+    (basis : IsNonsingularBasis p s)
     (prices change : Vector) (priced : ArePricesOf p s prices) (changed : IsRowOf p.matrix (basics_of s) h change) where
-  pub entering_variable_is : (theta : ℚ) (t : Tableau) → IsTableau (objective_family p h theta) s t → least p (is_entering_variable p s theta prices change) ≡ face_entering_variable (objective_family p h theta) h theta s t
-  entering_variable_is theta t is_tableau = find_same (is_entering_variable p s theta prices change) (is_entering_variable p s theta (t.rate p.objective) (t.rate h)) (size p.matrix) 1 (λ k low high. at k (low, omega (arith, high)) (is_in (basics_of s) k) refl)
+  pub entering_variable_is : (theta : ℚ) (t : Tableau) → IsTableau (objective_family p h theta) s t →
+      least p (is_entering_variable p s theta prices change) ≡ face_entering_variable (objective_family p h theta) h theta s t
+  entering_variable_is theta t is_tableau =
+      find_same (is_entering_variable p s theta prices change) (is_entering_variable p s theta (t.rate p.objective) (t.rate h)) (size p.matrix) 1
+      (λ k low high. at k (low, omega (arith, high)) (is_in (basics_of s) k) refl)
     where
-      at : (k : ℕ) → IsVariable p.matrix k → (mark : Bool) → is_in (basics_of s) k ≡ mark → is_entering_variable p s theta prices change k ≡ is_entering_variable p s theta (t.rate p.objective) (t.rate h) k
+      at : (k : ℕ) → IsVariable p.matrix k → (mark : Bool) → is_in (basics_of s) k ≡ mark →
+          is_entering_variable p s theta prices change k ≡ is_entering_variable p s theta (t.rate p.objective) (t.rate h) k
       at k is true mark =
           let none = still p s h lawful no_change row basis prices change priced changed k is mark in
-          idle (lt_ℚ (for_min p.sense (change k)) zero_ℚ) (lt_ℚ zero_ℚ (for_min p.sense (change k))) (may_rise p s k) (may_fall p s k) (eq_ℚ (prices k +ℚ theta *ℚ change k) zero_ℚ) none.0 none.1
-          ∙ sym (idle (lt_ℚ (for_min p.sense (t.rate h k)) zero_ℚ) (lt_ℚ zero_ℚ (for_min p.sense (t.rate h k))) (may_rise p s k) (may_fall p s k) (eq_ℚ (t.rate p.objective k +ℚ theta *ℚ t.rate h k) zero_ℚ) none.0 none.1)
+          idle (lt_ℚ (for_min p.sense (change k)) zero_ℚ) (lt_ℚ zero_ℚ (for_min p.sense (change k))) (may_rise p s k) (may_fall p s k)
+          (eq_ℚ (prices k +ℚ theta *ℚ change k) zero_ℚ) none.0 none.1
+          ∙ sym (idle (lt_ℚ (for_min p.sense (t.rate h k)) zero_ℚ) (lt_ℚ zero_ℚ (for_min p.sense (t.rate h k))) (may_rise p s k) (may_fall p s k)
+          (eq_ℚ (t.rate p.objective k +ℚ theta *ℚ t.rate h k) zero_ℚ) none.0 none.1)
       at k is false mark =
-          ap₂ (λ (a b : ℚ). eq_ℚ (a +ℚ theta *ℚ b) zero_ℚ && ((lt_ℚ (for_min p.sense b) zero_ℚ && may_rise p s k) || (lt_ℚ zero_ℚ (for_min p.sense b) && may_fall p s k)))
+          ap₂ (λ (a b : ℚ). eq_ℚ (a +ℚ theta *ℚ b) zero_ℚ &&
+          ((lt_ℚ (for_min p.sense b) zero_ℚ && may_rise p s k) || (lt_ℚ zero_ℚ (for_min p.sense b) && may_fall p s k)))
           (price_is p s h lawful no_change row basis prices change priced changed t.rate is_tableau.are_rates k (is, mark))
           (rate_is p s h lawful no_change row basis prices change priced changed t.rate is_tableau.are_rates k (is, mark))
 
 -- the next variable, from its price and rate
-pub entering_variable_at : (p : LinearProgram) (s : List Status) (theta : ℚ) (prices change : List ℚ) (k : ℕ) (price rate : ℚ) → k < length prices → k < length change → price ≡ get_or prices k price → rate ≡ get_or change k rate
+pub entering_variable_at : (p : LinearProgram) (s : List Status) (theta : ℚ) (prices change : List ℚ) (k : ℕ) (price rate : ℚ) → k < length prices
+    → k < length change → price ≡ get_or prices k price → rate ≡ get_or change k rate
     → is_entering_variable p s theta (value_at prices) (value_at change) (k + 1) ≡ is_entering_variable p s theta (λ _. price) (λ _. rate) (k + 1)
 entering_variable_at p s theta prices change k price rate below there price_is rate_is =
-    ap₂ (λ (a b : ℚ). eq_ℚ (a +ℚ theta *ℚ b) zero_ℚ && ((lt_ℚ (for_min p.sense b) zero_ℚ && may_rise p s (k + 1)) || (lt_ℚ zero_ℚ (for_min p.sense b) && may_fall p s (k + 1))))
+    ap₂ (λ (a b : ℚ). eq_ℚ (a +ℚ theta *ℚ b) zero_ℚ &&
+    ((lt_ℚ (for_min p.sense b) zero_ℚ && may_rise p s (k + 1)) || (lt_ℚ zero_ℚ (for_min p.sense b) && may_fall p s (k + 1))))
     (value_next prices k price below price_is) (value_next change k rate there rate_is)

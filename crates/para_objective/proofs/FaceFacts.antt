@@ -46,8 +46,10 @@ may_go false false rises falls e one = cc
 one_sign : (x : ℚ) → lt_ℚ x zero_ℚ ≡ true → lt_ℚ zero_ℚ x ≡ true → ⊥
 one_sign x low high = lt_not_le (lt_from_test x zero_ℚ low) (le_of_lt (lt_from_test zero_ℚ x high))
 
-module _ (p : LinearProgram) (h : ℕ) (lawful : IsLinearProgram p) (row : IsRow p.matrix h) (free : HasNoLimits p h) (theta : ℚ) (s : List Status) (at : IsNonsingularBasis p s)
-    (z : Vector) (point : IsPointOf p s z) (optimal : IsOptimalBasis (objective_family p h theta) s) (change : Vector) (changed : IsRowOf p.matrix (basics_of s) h change) where
+module _ (p : LinearProgram) (h : ℕ) (lawful : IsLinearProgram p) (row : IsRow p.matrix h) (free : HasNoLimits p h) (theta : ℚ) (s : List Status)
+    (at : IsNonsingularBasis p s)
+    (z : Vector) (point : IsPointOf p s z) (optimal : IsOptimalBasis (objective_family p h theta) s) (change : Vector)
+    (changed : IsRowOf p.matrix (basics_of s) h change) where
   abbrev present : LinearProgram
   present = objective_family p h theta
 
@@ -66,7 +68,8 @@ module _ (p : LinearProgram) (h : ℕ) (lawful : IsLinearProgram p) (row : IsRow
   face_done found = (t, tab, ap (face_by present h theta s t) (sym (found t tab)))
 
   pub feasible : IsFeasible p z
-  feasible = let f = point_feasible present (lawful_objective p h lawful row free theta) s optimal z tab.is_point in record { keeps = f.keeps; within = f.within }
+  feasible =
+      let f = point_feasible present (lawful_objective p h lawful row free theta) s optimal z tab.is_point in record { keeps = f.keeps; within = f.within }
 
   module _ (q : ℕ) (found : IsFaceEnteringVariable p h theta s (Some q)) where
     found_is : face_entering_variable present h theta s t ≡ Some q
@@ -89,7 +92,8 @@ module _ (p : LinearProgram) (h : ℕ) (lawful : IsLinearProgram p) (row : IsRow
 
     pub may : IsTrue (may_move p s (face_up p change q) q)
     may = subst (λ b. (if b then may_rise p s q else may_fall p s q) ≡ true) (sym up_is)
-        (may_go (lt_ℚ (change_rate present h theta s t q) zero_ℚ) (lt_ℚ zero_ℚ (change_rate present h theta s t q)) (may_rise p s q) (may_fall p s q) lowering (one_sign (change_rate present h theta s t q)))
+        (may_go (lt_ℚ (change_rate present h theta s t q) zero_ℚ) (lt_ℚ zero_ℚ (change_rate present h theta s t q)) (may_rise p s q) (may_fall p s q) lowering
+        (one_sign (change_rate present h theta s t q)))
 
     module _ (d : Vector) (direction : IsDirectionOf p.matrix (basics_of s) q d) (up : Bool) (up_found : up ≡ face_up p change q) where
       abbrev motion_of : Vector
@@ -116,13 +120,15 @@ module _ (p : LinearProgram) (h : ℕ) (lawful : IsLinearProgram p) (row : IsRow
       some_stops by (Some k) e = (k, refl, cc)
 
       -- nothing stops q
-      pub face_ends : None ≡ stopper_of p z d up → (zs : List ℚ) → length zs ≡ size p.matrix → ((k : ℕ) → IsVariable p.matrix k → value_at zs k ≡ z k) → (end : ParaEnd) → IsUnboundedPast p theta zs d up end →
+      pub face_ends : None ≡ stopper_of p z d up → (zs : List ℚ) → length zs ≡ size p.matrix → ((k : ℕ) → IsVariable p.matrix k → value_at zs k ≡ z k) →
+          (end : ParaEnd) → IsUnboundedPast p theta zs d up end →
           IsObjectiveFace p h theta s (FaceEnds (end_of end))
       face_ends none zs zs_counted zs_are end is = (
         t,
         tab,
         face_is None (none_stops (stopper p z (motion d up)) (sym none))
-            ∙ ap₂ (λ xs ys. FaceEnds (UnboundedPast theta xs ys)) (sym (listed_is p.matrix zs z zs_counted zs_are)) (sym (listed_is p.matrix is.ds motion_of is.counted (λ k var. is.speeds k var ∙ sym (speeds_are k var))))
+            ∙ ap₂ (λ xs ys. FaceEnds (UnboundedPast theta xs ys)) (sym (listed_is p.matrix zs z zs_counted zs_are))
+            (sym (listed_is p.matrix is.ds motion_of is.counted (λ k var. is.speeds k var ∙ sym (speeds_are k var))))
             ∙ ap (λ e. FaceEnds (end_of e)) (sym is.is_end),
       )
 
@@ -144,12 +150,15 @@ module _ (p : LinearProgram) (h : ℕ) (lawful : IsLinearProgram p) (row : IsRow
         pub face_keeps : IsOptimalBasis (objective_family p h theta) (after s (move_by q by))
         face_keeps =
             subst (λ m. IsOptimalBasis (objective_family p h theta) (after s m)) move_is
-            (kept_optimal p h lawful row theta s at t tab optimal q nonbasic zero_rate (goes_up (change_rate present h theta s t) q) stopper_at.0 (stops_same ∙ stopper_at.1))
+            (kept_optimal p h lawful row theta s at t tab optimal q nonbasic zero_rate (goes_up (change_rate present h theta s t) q) stopper_at.0
+            (stops_same ∙ stopper_at.1))
 
         pub face_pivot : d by.p ≢ zero_ℚ
         face_pivot zero =
-            pivot p h lawful row theta s at t tab optimal q nonbasic zero_rate (goes_up (change_rate present h theta s t) q) stopper_at.0 (stops_same ∙ stopper_at.1)
-            (one_direction p.matrix (basics_of s) q (λ i. t.rate i q) d at.nonsingular (changed.are_rates q nonbasic) direction stopper_at.0 k_is ∙ ap (λ (b : Stopper). d b.p) stopper_at.2 ∙ zero)
+            pivot p h lawful row theta s at t tab optimal q nonbasic zero_rate (goes_up (change_rate present h theta s t) q) stopper_at.0
+            (stops_same ∙ stopper_at.1)
+            (one_direction p.matrix (basics_of s) q (λ i. t.rate i q) d at.nonsingular (changed.are_rates q nonbasic) direction stopper_at.0 k_is
+            ∙ ap (λ (b : Stopper). d b.p) stopper_at.2 ∙ zero)
 
         pub face_by_stopper : IsStepBy p s z d q by
         face_by_stopper = is_stopper up feasible (subst (λ b. IsTrue (may_move p s b q)) (sym up_found) may) (sym stops)

@@ -26,7 +26,8 @@ use Rattle.para_objective.proofs.RunEvidence.{of_point, of_stopper}
 
 module _ (p : LinearProgram) (h : ℕ) (no_change : p.change ≡ None) (theta : ℚ) (s : List Status) (from : ℚ) (left : ℕ) (ways now : List Basics) where
   -- the direction of q, or what stops it
-  pub turn_stops : (q : ℕ) → EntersAt (Paraobj p h from) (Some theta) s q → (z : Vector) (up : Bool) (why : Stop) → IfOverflow why (TurnStops p s z q up ways now) →
+  pub turn_stops : (q : ℕ) → EntersAt (Paraobj p h from) (Some theta) s q → (z : Vector) (up : Bool) (why : Stop) →
+      IfOverflow why (TurnStops p s z q up ways now) →
       FaceStops (objective_family p h) (IsObjectiveFace p h) (Paraobj p h from) p.matrix theta s left ways now (primal_stop_of why)
   turn_stops q enters z up (stop.Overflow e) (by_direction r) = of_point p h from no_change s left ways now e (Some theta) r
   turn_stops q enters z up (stop.Overflow e) (by_stopper d direction r) = of_stopper p h from no_change s left ways now e theta q enters z d up r
@@ -36,7 +37,8 @@ module _ (p : LinearProgram) (h : ℕ) (no_change : p.change ≡ None) (theta : 
 
 module _ (p : LinearProgram) (h : ℕ) (span : Span) (s : List Status) (before : List Basics) where
   abbrev IsOnRun : List Status → List Basics → Evidence → Type 0
-  IsOnRun now after e = RunOverflows (objective_family p h) (IsObjectiveFace p h) span.from span.to s now span.limit (Paraobj p h span.from) p.matrix before after e
+  IsOnRun now after e =
+      RunOverflows (objective_family p h) (IsObjectiveFace p h) span.from span.to s now span.limit (Paraobj p h span.from) p.matrix before after e
 
   at_basis : (now : List Status) (after : List Basics) (e : Evidence) → Overflows (objective_problem p h) span s now before after e → IsOnRun now after e
   at_basis now after e (inl on) = on
@@ -49,5 +51,7 @@ module _ (p : LinearProgram) (h : ℕ) (span : Span) (s : List Status) (before :
   stops_at_basis now after NoMemory stops = stops
 
   pub overflow_free : (report : RunReport) (path : List (List Status)) →
-      RunEndsOverflowFree (objective_family p h) (IsObjectiveFace p h) span.from span.to s span.limit (λ now after e. IsOnRun now after e) report path → MethodOverflowFree (objective_problem p h) span s before report path
-  overflow_free report path goes = record { ends = goes.ends; within = goes.within; no_evidence = λ now after e over. goes.no_evidence now after e (at_basis now after e over) }
+      RunEndsOverflowFree (objective_family p h) (IsObjectiveFace p h) span.from span.to s span.limit (λ now after e. IsOnRun now after e) report path →
+      MethodOverflowFree (objective_problem p h) span s before report path
+  overflow_free report path goes =
+      record { ends = goes.ends; within = goes.within; no_evidence = λ now after e over. goes.no_evidence now after e (at_basis now after e over) }

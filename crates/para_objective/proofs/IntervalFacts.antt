@@ -14,10 +14,12 @@ use Rattle.bounded_primal.proofs.StepFacts.{point_same}
 use Rattle.para_objective.proofs.Reaches.{price_is, rate_is}
 use Rattle.parametric_run.proofs.Chains.{zero_in}
 
-module _ (p : LinearProgram) (s : List Status) (h : ℕ) (lawful : IsLinearProgram p) (no_change : p.change ≡ None) (row : IsRow p.matrix h) (basis : IsNonsingularBasis p s)
+module _ (p : LinearProgram) (s : List Status) (h : ℕ) (lawful : IsLinearProgram p) (no_change : p.change ≡ None) (row : IsRow p.matrix h)
+    (basis : IsNonsingularBasis p s)
     (prices change : List ℚ) (priced : ArePricesOf p s (value_at prices)) (changed : IsRowOf p.matrix (basics_of s) h (value_at change)) where
   -- the point, whose rate is 0
-  still_point : (theta : ℚ) (point : List ℚ) (n : ℕ) → IsPointOf p s (value_at point) → IsPointOf (objective_family p h theta) s (along theta point (replicate n zero_ℚ))
+  still_point : (theta : ℚ) (point : List ℚ) (n : ℕ) → IsPointOf p s (value_at point) →
+      IsPointOf (objective_family p h theta) s (along theta point (replicate n zero_ℚ))
   still_point theta point n is =
       let same = point_same p s (value_at point) (along theta point (replicate n zero_ℚ))
       (λ k _. ap (λ r. value_at point k +ℚ theta *ℚ r) (zero_in n _) ∙ by_ring2 (value_at point k) theta (λ z y. z ⊕ y ⊗ number (pos 0) ≐ z) refl) is in
@@ -30,16 +32,19 @@ module _ (p : LinearProgram) (s : List Status) (h : ℕ) (lawful : IsLinearProgr
       by_mark : (k : ℕ) → IsVariable p.matrix k → (mark : Bool) → is_in (basics_of s) k ≡ mark →
           along theta prices change k ≡ cond mark zero_ℚ (objective_rate (objective_family p h theta) priced.rate k)
       by_mark k is true mark =
-          ap₂ (λ a b. a +ℚ theta *ℚ b) (priced.prices k is ∙ ap (λ m. cond m zero_ℚ (objective_rate p priced.rate k)) mark) (changed.entries k is ∙ ap (λ m. cond m zero_ℚ (changed.rate h k)) mark)
+          ap₂ (λ a b. a +ℚ theta *ℚ b) (priced.prices k is ∙ ap (λ m. cond m zero_ℚ (objective_rate p priced.rate k)) mark)
+          (changed.entries k is ∙ ap (λ m. cond m zero_ℚ (changed.rate h k)) mark)
           ∙ by_ring1 theta (λ y. number (pos 0) ⊕ y ⊗ number (pos 0) ≐ number (pos 0)) refl
       by_mark k is false mark =
           ap₂ (λ a b. a +ℚ theta *ℚ b)
           (price_is p s h lawful no_change row basis (value_at prices) (value_at change) priced changed priced.rate priced.are_rates k (is, mark))
           (rate_is p s h lawful no_change row basis (value_at prices) (value_at change) priced changed priced.rate priced.are_rates k (is, mark))
 
-  pub interval : (point : List ℚ) → IsPointOf p s (value_at point) → length point ≡ size p.matrix → length prices ≡ size p.matrix → length change ≡ size p.matrix →
+  pub interval : (point : List ℚ) → IsPointOf p s (value_at point) → length point ≡ size p.matrix → length prices ≡ size p.matrix →
+      length change ≡ size p.matrix →
       (from max to : ℚ) → ReachesTo (objective_family p h) s from max to →
-      IsPart (objective_family p h) from max s (record { from = from; to = to; statuses = s; value = point; value_rate = replicate (size p.matrix) zero_ℚ; price = prices; price_rate = change })
+      IsPart (objective_family p h) from max s
+      (record { from = from; to = to; statuses = s; value = point; value_rate = replicate (size p.matrix) zero_ℚ; price = prices; price_rate = change })
   interval point is places price_places change_places from max to reaches = record {
     begins = refl;
     statuses = refl;

@@ -34,11 +34,13 @@ use Rattle.parametric_laws.proofs.Motions.{HasFeasiblePoint, stopped_feasible}
 
 idle_at_zero : (rises falls : Bool) (x : ℚ) → x ≡ zero_ℚ → ((lt_ℚ x zero_ℚ && rises) || (lt_ℚ zero_ℚ x && falls)) ≡ false
 idle_at_zero rises falls x e =
-    ap₂ (λ a b. (a && rises) || (b && falls)) (ap (λ y. lt_ℚ y zero_ℚ) e ∙ lt_fails_from_le zero_ℚ zero_ℚ (le_refl zero_ℚ)) (ap (λ y. lt_ℚ zero_ℚ y) e ∙ lt_fails_from_le zero_ℚ zero_ℚ (le_refl zero_ℚ))
+    ap₂ (λ a b. (a && rises) || (b && falls)) (ap (λ y. lt_ℚ y zero_ℚ) e ∙ lt_fails_from_le zero_ℚ zero_ℚ (le_refl zero_ℚ))
+    (ap (λ y. lt_ℚ zero_ℚ y) e ∙ lt_fails_from_le zero_ℚ zero_ℚ (le_refl zero_ℚ))
 
 no_limit : (low high : Option ℚ) (x : ℚ) → x ≡ zero_ℚ → (if lt_ℚ zero_ℚ x then high else (if lt_ℚ x zero_ℚ then low else None)) ≡ None
 no_limit low high x e =
-    ap₂ (λ a b. if a then high else (if b then low else None)) (ap (λ y. lt_ℚ zero_ℚ y) e ∙ lt_fails_from_le zero_ℚ zero_ℚ (le_refl zero_ℚ)) (ap (λ y. lt_ℚ y zero_ℚ) e ∙ lt_fails_from_le zero_ℚ zero_ℚ (le_refl zero_ℚ))
+    ap₂ (λ a b. if a then high else (if b then low else None)) (ap (λ y. lt_ℚ zero_ℚ y) e ∙ lt_fails_from_le zero_ℚ zero_ℚ (le_refl zero_ℚ))
+    (ap (λ y. lt_ℚ y zero_ℚ) e ∙ lt_fails_from_le zero_ℚ zero_ℚ (le_refl zero_ℚ))
 
 reached_apart : (up : Bool) → (if up then Ul else Ll) ≢ Bs
 reached_apart true e = cc
@@ -91,7 +93,8 @@ module _ (p : LinearProgram) (h : ℕ) (lawful : IsLinearProgram p) (row : IsRow
     where
       nothing : (x : ℚ) × (step_length present t.point v k ≡ Some x) → ⊥
       nothing (x, e) =
-          let none : step_length present t.point v k ≡ None = ap (option_map (λ l. (l -ℚ t.point k) /ℚ v k)) (no_limit (lower_of p k) (upper_of p k) (v k) (ap (signed up) zero ∙ signed_zero up)) in
+          let none : step_length present t.point v k ≡ None =
+          ap (option_map (λ l. (l -ℚ t.point k) /ℚ v k)) (no_limit (lower_of p k) (upper_of p k) (v k) (ap (signed up) zero ∙ signed_zero up)) in
           let P : Some x ≡ None → ⊥ = λ e. cc in P (sym e ∙ none)
 
   not_basic : status_of s q ≢ Bs
@@ -102,19 +105,24 @@ module _ (p : LinearProgram) (h : ℕ) (lawful : IsLinearProgram p) (row : IsRow
     at_zero : objective_rate present rate j ≡ zero_ℚ → IsStill rate j
     as_it_was : objective_rate present rate j ≡ objective_rate present t.rate j → status_of next j ≡ status_of s j → IsStill rate j
 
-  by_rates : (rate : ℕ → ℕ → ℚ) → AreRates p.matrix (basics_of next) rate → ((j : ℕ) → IsNonbasic p.matrix (basics_of next) j → IsStill rate j) → IsOptimalBasis present next
+  by_rates : (rate : ℕ → ℕ → ℚ) → AreRates p.matrix (basics_of next) rate → ((j : ℕ) → IsNonbasic p.matrix (basics_of next) j → IsStill rate j) →
+      IsOptimalBasis present next
   by_rates rate are still =
-      (by_tableau present next leads.is_basis leads.nonsingular rows (record { point = have.point; rate = rate }) (record { is_point = have.is_point; are_rates = are })).1
+      (by_tableau present next leads.is_basis leads.nonsingular rows (record { point = have.point; rate = rate })
+      (record { is_point = have.is_point; are_rates = are })).1
       (record { feasible = have.feasible; right = λ j is. by_mark j is (is_in (basics_of next) j) refl })
     where
       by_kind : (j : ℕ) → IsVariable p.matrix j → IsStill rate j → lowers present next (λ i. for_min p.sense (objective_rate present rate i)) j ≡ false
       by_kind j is (at_zero zero) =
-          idle_at_zero (rises_from (status_of next j) && not (is_fixed present j)) (falls_from (status_of next j) && not (is_fixed present j)) (for_min p.sense (objective_rate present rate j)) (ap (for_min p.sense) zero ∙ for_min-zero p.sense)
+          idle_at_zero (rises_from (status_of next j) && not (is_fixed present j)) (falls_from (status_of next j) && not (is_fixed present j))
+          (for_min p.sense (objective_rate present rate j)) (ap (for_min p.sense) zero ∙ for_min-zero p.sense)
       by_kind j is (as_it_was same stands) =
-          ap₂ (λ w st. (lt_ℚ w zero_ℚ && (rises_from st && not (is_fixed present j))) || (lt_ℚ zero_ℚ w && (falls_from st && not (is_fixed present j)))) (ap (for_min p.sense) same) stands
+          ap₂ (λ w st. (lt_ℚ w zero_ℚ && (rises_from st && not (is_fixed present j))) || (lt_ℚ zero_ℚ w && (falls_from st && not (is_fixed present j))))
+          (ap (for_min p.sense) same) stands
           ∙ right_now.right j is
 
-      by_mark : (j : ℕ) → IsVariable p.matrix j → (mark : Bool) → is_in (basics_of next) j ≡ mark → lowers present next (λ i. for_min p.sense (objective_rate present rate i)) j ≡ false
+      by_mark : (j : ℕ) → IsVariable p.matrix j → (mark : Bool) → is_in (basics_of next) j ≡ mark →
+          lowers present next (λ i. for_min p.sense (objective_rate present rate i)) j ≡ false
       by_mark j is true mark = lowers_idle present next leads.is_basis (λ i. for_min p.sense (objective_rate present rate i)) j is mark
       by_mark j is false mark = by_kind j is (still j (is, mark))
 
@@ -134,7 +142,9 @@ module _ (p : LinearProgram) (h : ℕ) (lawful : IsLinearProgram p) (row : IsRow
 
   -- the basic k goes, and q takes its place
   exchanges : k ≢ q → IsOptimalBasis present next
-  exchanges apart = by_rates (exchanged_rate t.rate k q) (subst (λ b. AreRates p.matrix b (exchanged_rate t.rate k q)) (sym same_basics) are) (λ j out. by_number j out (eqb_tells j k))
+  exchanges apart =
+      by_rates (exchanged_rate t.rate k q) (subst (λ b. AreRates p.matrix b (exchanged_rate t.rate k q)) (sym same_basics) are)
+      (λ j out. by_number j out (eqb_tells j k))
     where
       marked : (mark : Bool) → is_in (basics_of s) k ≡ mark → is_in (basics_of s) k ≡ true
       marked true is = is
@@ -149,18 +159,22 @@ module _ (p : LinearProgram) (h : ℕ) (lawful : IsLinearProgram p) (row : IsRow
       are : AreRates p.matrix (exchanged (basics_of s) k q) (exchanged_rate t.rate k q)
       are = AreRates-exchanged p.matrix (basics_of s) at.nonsingular.counted t.rate tab.are_rates k q leaves enters pivot
 
-      by_number : (j : ℕ) → IsNonbasic p.matrix (basics_of next) j → (((eqb j k ≡ true) × (j ≡ k)) ⊎ ((eqb j k ≡ false) × (j ≢ k))) → IsStill (exchanged_rate t.rate k q) j
+      by_number : (j : ℕ) → IsNonbasic p.matrix (basics_of next) j → (((eqb j k ≡ true) × (j ≡ k)) ⊎ ((eqb j k ≡ false) × (j ≢ k))) →
+          IsStill (exchanged_rate t.rate k q) j
       by_number j out (inl own) =
-          at_zero (ap (λ b. (if b then (one_ℚ /ℚ t.rate k q) *ℚ t.rate p.objective q else t.rate p.objective j -ℚ (t.rate k j /ℚ t.rate k q) *ℚ t.rate p.objective q)
+          at_zero (ap (λ b.
+          (if b then (one_ℚ /ℚ t.rate k q) *ℚ t.rate p.objective q else t.rate p.objective j -ℚ (t.rate k j /ℚ t.rate k q) *ℚ t.rate p.objective q)
           +ℚ theta *ℚ (if b then (one_ℚ /ℚ t.rate k q) *ℚ t.rate h q else t.rate h j -ℚ (t.rate k j /ℚ t.rate k q) *ℚ t.rate h q)) own.0
           ∙ scaled_away (one_ℚ /ℚ t.rate k q) (t.rate p.objective q) theta (t.rate h q) zero_rate)
       by_number j out (inr other) =
-          let was = was_nonbasic p.matrix (basics_of s) at.nonsingular.counted k q leaves enters j (subst (λ b. IsNonbasic p.matrix b j) same_basics out) other.1 in
+          let was =
+          was_nonbasic p.matrix (basics_of s) at.nonsingular.counted k q leaves enters j (subst (λ b. IsNonbasic p.matrix b j) same_basics out) other.1 in
           as_it_was
           (ap (λ b. (if b then (one_ℚ /ℚ t.rate k q) *ℚ t.rate p.objective q else t.rate p.objective j -ℚ (t.rate k j /ℚ t.rate k q) *ℚ t.rate p.objective q)
           +ℚ theta *ℚ (if b then (one_ℚ /ℚ t.rate k q) *ℚ t.rate h q else t.rate h j -ℚ (t.rate k j /ℚ t.rate k q) *ℚ t.rate h q)) other.0
           ∙ taken_away (t.rate p.objective j) (t.rate h j) (t.rate k j /ℚ t.rate k q) (t.rate p.objective q) theta (t.rate h q) zero_rate)
-          (changed_other p s at.is_basis k j (reached v k) (with_status s q Bs) k_is out.0 other.1 ∙ changed_other p s at.is_basis q j Bs s enters.0 out.0 was.1)
+          (changed_other p s at.is_basis k j (reached v k) (with_status s q Bs) k_is out.0 other.1
+          ∙ changed_other p s at.is_basis q j Bs s enters.0 out.0 was.1)
 
   by_number : (((eqb k q ≡ true) × (k ≡ q)) ⊎ ((eqb k q ≡ false) × (k ≢ q))) → IsOptimalBasis present next
   by_number (inl same) = flipped same.1

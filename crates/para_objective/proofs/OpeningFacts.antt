@@ -24,8 +24,10 @@ use Rattle.para_objective.specs.Method.{objective_problem, FitsObjective}
 
 -- ---- evidence of a run is evidence of the linear program with any multiple of the change row, or none
 
-module _ (p : LinearProgram) (h : ℕ) (x from : ℚ) (Goes Other : Status → Type 0) (s : List Status) (e : Evidence) (goes : (to : Status) → Goes to → Other to) where
-  formula_of : (t : Tableau) (w : Basics) (rate : ℕ → ℕ → ℚ) → Formula (Paraobj (objective_family p h x) h from) Goes s t w rate e → Formula (Paraobj p h from) Other s t w rate e
+module _ (p : LinearProgram) (h : ℕ) (x from : ℚ) (Goes Other : Status → Type 0) (s : List Status) (e : Evidence)
+    (goes : (to : Status) → Goes to → Other to) where
+  formula_of : (t : Tableau) (w : Basics) (rate : ℕ → ℕ → ℚ) → Formula (Paraobj (objective_family p h x) h from) Goes s t w rate e →
+      Formula (Paraobj p h from) Other s t w rate e
   formula_of t w rate (by_exchange f) = by_exchange f
   formula_of t w rate (by_entry f) = by_entry f
   formula_of t w rate (by_carried f) = by_carried f
@@ -37,7 +39,8 @@ module _ (p : LinearProgram) (h : ℕ) (x from : ℚ) (Goes Other : Status → T
   formula_of t w rate (by_objective f) = by_objective f
   formula_of t w rate (by_slope u is f) = by_slope u is f
 
-  shows_of : (around : List Basics) (w : Basics) → ShowsRefusal (Paraobj (objective_family p h x) h from) Goes around s w e → ShowsRefusal (Paraobj p h from) Other around s w e
+  shows_of : (around : List Basics) (w : Basics) → ShowsRefusal (Paraobj (objective_family p h x) h from) Goes around s w e →
+      ShowsRefusal (Paraobj p h from) Other around s w e
   shows_of around w r = record {
     tableau = r.tableau;
     is_tableau = r.is_tableau;
@@ -57,7 +60,8 @@ holds_of p h x from left bases s w e r = record {
   ahead = r.ahead;
   is_ahead = is_ahead r.ahead r.is_ahead;
   shows = shows_of p h x from (GoesTo (Paraobj (objective_family p h x) h from) None s e) (GoesTo (Paraobj p h from) None s e) s e
-      (λ to l. record { move = l.move; moves = l.moves; enters = l.enters; leaves = l.leaves; goes_to = l.goes_to }) (map basics_of (with_ahead bases r.ahead)) w r.shows;
+      (λ to l. record { move = l.move; moves = l.moves; enters = l.enters; leaves = l.leaves; goes_to = l.goes_to })
+      (map basics_of (with_ahead bases r.ahead)) w r.shows;
   is_theta = r.is_theta;
   of_move = record { enters = r.of_move.enters; brings = r.of_move.brings; steps = λ _. tt };
   of_statement = r.of_statement;
@@ -70,12 +74,16 @@ holds_of p h x from left bases s w e r = record {
 -- ---- the opening path
 
 module _ (p : LinearProgram) (h : ℕ) (span : Span) (s now : List Status) (before after : List Basics) where
-  pub opening_stops : (why : PrimalStop) → PrimalStopsAlong (objective_family p h span.from) s now span.limit before after why → MethodStops (objective_problem p h) span s now before after why
+  pub opening_stops : (why : PrimalStop) → PrimalStopsAlong (objective_family p h span.from) s now span.limit before after why →
+      MethodStops (objective_problem p h) span s now before after why
   opening_stops Limit t = opening_goes_on (objective_family p h) (IsObjectiveFace p h) span.from span.to p.matrix s before now span.limit t
   opening_stops (Overflow e) t = inl (record {
-    stands = opening_stands (objective_family p h) (IsObjectiveFace p h) span.from span.to p.matrix s before now span.limit t.bases t.is_path t.reaches t.within;
+    stands =
+        opening_stands (objective_family p h) (IsObjectiveFace p h) span.from span.to p.matrix s before now span.limit t.bases t.is_path t.reaches t.within;
     is_way = t.is_way;
-    shows = λ earlier lie. holds_of p h span.from span.from (span.limit - length t.bases) (earlier ++ s ∷ t.bases) now (waypoint (basics_of now) after e.way) e (t.shows earlier lie);
+    shows =
+        λ earlier lie. holds_of p h span.from span.from (span.limit - length t.bases) (earlier ++ s ∷ t.bases) now (waypoint (basics_of now) after e.way) e
+        (t.shows earlier lie);
   })
   opening_stops NoMemory t = opening_stands (objective_family p h) (IsObjectiveFace p h) span.from span.to p.matrix s before now span.limit t.0 t.1.0 t.1.1 t.2
 

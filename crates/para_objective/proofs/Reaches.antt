@@ -22,7 +22,8 @@ use Rattle.ranging.specs.RowEnds.{sides_of, RatesStayTo}
 use Rattle.ranging.proofs.AtBasis.{no_sides}
 use Rattle.para_objective.specs.Reach.{IsReachOf}
 
-module _ (p : LinearProgram) (s : List Status) (h : ℕ) (lawful : IsLinearProgram p) (no_change : p.change ≡ None) (row : IsRow p.matrix h) (basis : IsNonsingularBasis p s)
+module _ (p : LinearProgram) (s : List Status) (h : ℕ) (lawful : IsLinearProgram p) (no_change : p.change ≡ None) (row : IsRow p.matrix h)
+    (basis : IsNonsingularBasis p s)
     (prices change : Vector) (priced : ArePricesOf p s prices) (changed : IsRowOf p.matrix (basics_of s) h change) where
   row_variable : (i : ℕ) → IsRow p.matrix i → IsVariable p.matrix i
   row_variable i is = (is.0, omega (arith, is.1))
@@ -39,7 +40,8 @@ module _ (p : LinearProgram) (s : List Status) (h : ℕ) (lawful : IsLinearProgr
       priced.prices k out.0
       ∙ ap (λ m. cond m zero_ℚ (objective_rate p priced.rate k)) out.1
       ∙ ap (λ (c : Option Change). with_change_row c (λ i. priced.rate i k) (priced.rate p.objective k)) no_change
-      ∙ one_table p.matrix (basics_of s) priced.rate rate basis.nonsingular priced.are_rates are p.objective k (row_variable p.objective lawful.objective_row) out
+      ∙ one_table p.matrix (basics_of s) priced.rate rate basis.nonsingular priced.are_rates are p.objective k
+      (row_variable p.objective lawful.objective_row) out
 
   pub rate_is : (rate : ℕ → ℕ → ℚ) → AreRates p.matrix (basics_of s) rate → (k : ℕ) → IsNonbasic p.matrix (basics_of s) k → change k ≡ rate h k
   rate_is rate are k out =
@@ -50,14 +52,17 @@ module _ (p : LinearProgram) (s : List Status) (h : ℕ) (lawful : IsLinearProgr
       → SidesHold (sides_of p s (prices k) (change k) k) x ↔ SidesHold (rate_sides p s (worths p t) (slopes p t h) k) x
   same_sides t are x k is = at (is_in (basics_of s) k) refl
     where
-      at : (m : Bool) → is_in (basics_of s) k ≡ m → SidesHold (sides_of p s (prices k) (change k) k) x ↔ SidesHold (rate_sides p s (worths p t) (slopes p t h) k) x
+      at : (m : Bool) → is_in (basics_of s) k ≡ m →
+          SidesHold (sides_of p s (prices k) (change k) k) x ↔ SidesHold (rate_sides p s (worths p t) (slopes p t h) k) x
       at true mark =
           let none = still k is mark in
           (λ _. no_sides (may_rise p s k) (may_fall p s k) _ _ x none.0 none.1, λ _. no_sides (may_rise p s k) (may_fall p s k) _ _ x none.0 none.1)
       at false mark =
-          subst₂ (λ a b. SidesHold (sides_of p s (prices k) (change k) k) x ↔ SidesHold (sides_of p s a b k) x) (price_is t.rate are k (is, mark)) (rate_is t.rate are k (is, mark)) (λ h. h, λ h. h)
+          subst₂ (λ a b. SidesHold (sides_of p s (prices k) (change k) k) x ↔ SidesHold (sides_of p s a b k) x) (price_is t.rate are k (is, mark))
+          (rate_is t.rate are k (is, mark)) (λ h. h, λ h. h)
 
-  pub reaches : (max to : ℚ) → IsReachOf p s prices change (size p.matrix) max to → (from : ℚ) → from ≤ℚ max → IsOptimalBasis (objective_family p h from) s → ReachesTo (objective_family p h) s from max to
+  pub reaches : (max to : ℚ) → IsReachOf p s prices change (size p.matrix) max to → (from : ℚ) → from ≤ℚ max → IsOptimalBasis (objective_family p h from) s →
+      ReachesTo (objective_family p h) s from max to
   reaches max to reach from before optimal = record {
     forward = forward;
     within = ((reach from there to forward).0 (le_refl to)).0;
@@ -73,7 +78,8 @@ module _ (p : LinearProgram) (s : List Status) (h : ℕ) (lawful : IsLinearProgr
         is_basis = basis.is_basis;
         nonsingular = basis.nonsingular;
         objective_row = lawful.objective_row;
-        is_tableau = record { is_point = record { keeps = optimal.is_tableau.is_point.keeps; placed = optimal.is_tableau.is_point.placed }; are_rates = optimal.is_tableau.are_rates };
+        is_tableau =
+            record { is_point = record { keeps = optimal.is_tableau.is_point.keeps; placed = optimal.is_tableau.is_point.placed }; are_rates = optimal.is_tableau.are_rates };
         feasible = record { keeps = optimal.feasible.keeps; within = optimal.feasible.within };
       }
 
@@ -90,6 +96,7 @@ module _ (p : LinearProgram) (s : List Status) (h : ℕ) (lawful : IsLinearProgr
       forward : from ≤ℚ to
       forward = (reach from there from (le_refl from)).1 (before, there)
 
-      greatest : (u : ℚ) → u ≤ℚ max → ((theta : ℚ) → from ≤ℚ theta → theta ≤ℚ u → IsOptimalBasis (objective_family p h theta) s) → (u <ℚ from) ⊎ (from ≤ℚ u) → u ≤ℚ to
+      greatest : (u : ℚ) → u ≤ℚ max → ((theta : ℚ) → from ≤ℚ theta → theta ≤ℚ u → IsOptimalBasis (objective_family p h theta) s) → (u <ℚ from) ⊎ (from ≤ℚ u) →
+          u ≤ℚ to
       greatest u within all (inl less) = le_trans (le_of_lt less) forward
       greatest u within all (inr le) = (reach from there u le).1 (within, (stays u).0 (all u le (le_refl u)))

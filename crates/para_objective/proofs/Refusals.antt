@@ -19,7 +19,8 @@ use Rattle.simplex_laws.specs.Laws.{IsNonsingularBasis}
 use Rattle.para_objective.specs.Reach.{RateRefused, EndRefused}
 use Rattle.para_objective.proofs.Reaches.{price_is, rate_is}
 
-module _ (p : LinearProgram) (s : List Status) (h : ℕ) (lawful : IsLinearProgram p) (no_change : p.change ≡ None) (row : IsRow p.matrix h) (basis : IsNonsingularBasis p s)
+module _ (p : LinearProgram) (s : List Status) (h : ℕ) (lawful : IsLinearProgram p) (no_change : p.change ≡ None) (row : IsRow p.matrix h)
+    (basis : IsNonsingularBasis p s)
     (prices change : Vector) (priced : ArePricesOf p s prices) (changed : IsRowOf p.matrix (basics_of s) h change) where
   point : IsPointOf p s (combination p.matrix (basics_of s) priced.rate (standing p s))
   point = IsPointOf-combination p s basis.is_basis priced.rate priced.are_rates

@@ -35,7 +35,8 @@ module _ (n term : ℕ) where
   point_brings_not : (is_between 1 5 n || is_between 10 12 n) ≡ true → nat_eq n 14 ≡ false
   point_brings_not h = grind arith
 
-  point_belongs : (is_between 1 5 n || is_between 10 12 n) ≡ true → ((is_between 1 13 n || is_between 16 17 n) && (not (nat_eq n 6) || not (nat_eq term 3))) ≡ true
+  point_belongs : (is_between 1 5 n || is_between 10 12 n) ≡ true →
+      ((is_between 1 13 n || is_between 16 17 n) && (not (nat_eq n 6) || not (nat_eq term 3))) ≡ true
   point_belongs h = grind arith
 
   stopper_number : ((nat_eq n 6 && not (nat_eq term 3)) || nat_eq n 7) ≡ true → is_between 1 12 n ≡ true
@@ -47,17 +48,20 @@ module _ (n term : ℕ) where
   stopper_brings_not : ((nat_eq n 6 && not (nat_eq term 3)) || nat_eq n 7) ≡ true → nat_eq n 14 ≡ false
   stopper_brings_not h = grind arith
 
-  stopper_belongs : ((nat_eq n 6 && not (nat_eq term 3)) || nat_eq n 7) ≡ true → ((is_between 1 13 n || is_between 16 17 n) && (not (nat_eq n 6) || not (nat_eq term 3))) ≡ true
+  stopper_belongs : ((nat_eq n 6 && not (nat_eq term 3)) || nat_eq n 7) ≡ true →
+      ((is_between 1 13 n || is_between 16 17 n) && (not (nat_eq n 6) || not (nat_eq term 3))) ≡ true
   stopper_belongs h = grind arith
 
-  step_belongs : (is_between 1 12 n && (not (nat_eq n 6) || not (nat_eq term 3))) ≡ true → ((is_between 1 13 n || is_between 16 17 n) && (not (nat_eq n 6) || not (nat_eq term 3))) ≡ true
+  step_belongs : (is_between 1 12 n && (not (nat_eq n 6) || not (nat_eq term 3))) ≡ true →
+      ((is_between 1 13 n || is_between 16 17 n) && (not (nat_eq n 6) || not (nat_eq term 3))) ≡ true
   step_belongs h = grind arith
 
 -- ---- a call on p, which has no change row, in a run that changes row h
 
 module _ (p : LinearProgram) (h : ℕ) (from : ℚ) (no_change : p.change ≡ None) (s : List Status) (left : ℕ) (before now : List Basics) (e : Evidence) where
   -- the evidence names the value 0
-  zero_theta : (Goes : Status → Type 0) (around : List Basics) → StopsAt Goes p around s now e → (ends : List ℚ) → Contains (thetas_of (Paraobj p h from) ends) e.theta
+  zero_theta : (Goes : Status → Type 0) (around : List Basics) → StopsAt Goes p around s now e → (ends : List ℚ) →
+      Contains (thetas_of (Paraobj p h from) ends) e.theta
   zero_theta Goes around stops ends = first (subst (λ (c : Option Change). Contains (thetas_of (job_of p c) []) e.theta) no_change stops.is_theta)
     where
       first : Contains (zero_ℚ ∷ []) e.theta → Contains (zero_ℚ ∷ from ∷ ends) e.theta
@@ -67,8 +71,10 @@ module _ (p : LinearProgram) (h : ℕ) (from : ℚ) (no_change : p.change ≡ No
   -- a point, prices, and the rates of a row or a column
   pub of_point : (breakpoint : Option ℚ) → PointRefused p before s now e → EvidenceHere (Paraobj p h from) p.matrix breakpoint left s before now e
   of_point breakpoint r =
-      let number : (is_between 1 5 e.formula || is_between 10 12 e.formula) ≡ true = subst (λ (c : Option Change). IsTrue (is_of_point c e.formula)) no_change r.of_call in
-      evidence_here p (Some (record { row = h; theta = e.theta })) (Paraobj p h from) s e refl (point_number e.formula e.term number) no_change breakpoint left before now
+      let number : (is_between 1 5 e.formula || is_between 10 12 e.formula) ≡ true =
+      subst (λ (c : Option Change). IsTrue (is_of_point c e.formula)) no_change r.of_call in
+      evidence_here p (Some (record { row = h; theta = e.theta })) (Paraobj p h from) s e refl
+      (point_number e.formula e.term number) no_change breakpoint left before now
       (zero_theta (λ to. ⊥) (basics_of s ∷ before) r.stops)
       (record {
         enters = λ is. absurd (clash (sym is ∙ point_moves_not e.formula e.term number));
@@ -97,10 +103,13 @@ module _ (p : LinearProgram) (h : ℕ) (from : ℚ) (no_change : p.change ≡ No
         let stops : StopsAt (λ to. ⊥) p (basics_of s ∷ []) s now e = record {
           is_way = omega (arith, no_way);
           is_theta = r.stops.is_theta;
-          shows = subst (λ (w : Basics). ShowsRefusal (job_of p p.change) (λ to. ⊥) (basics_of s ∷ []) s w e) (ap (waypoint (basics_of s) []) no_way ∙ sym (ap (waypoint (basics_of s) now) no_way)) r.stops.shows;
+          shows =
+              subst (λ (w : Basics). ShowsRefusal (job_of p p.change) (λ to. ⊥) (basics_of s ∷ []) s w e)
+              (ap (waypoint (basics_of s) []) no_way ∙ sym (ap (waypoint (basics_of s) now) no_way)) r.stops.shows;
         } in
         let wider = stops_covered (λ to. ⊥) p (basics_of s ∷ []) (basics_of s ∷ before) s now e (inl (within_itself p.matrix (basics_of s)), tt) stops in
-        evidence_here p (Some (record { row = h; theta = e.theta })) (Paraobj p h from) s e refl (stopper_number e.formula e.term r.of_call) no_change (Some theta) left before now
+        evidence_here p (Some (record { row = h; theta = e.theta })) (Paraobj p h from) s e refl (stopper_number e.formula e.term r.of_call) no_change
+        (Some theta) left before now
         (zero_theta (λ to. ⊥) (basics_of s ∷ before) wider)
         (record {
           enters = λ is. subst (EntersAt (Paraobj p h from) (Some theta) s) (sym (r.enters (stopper_moves e.formula e.term r.of_call is))) enters;
@@ -113,7 +122,8 @@ module _ (p : LinearProgram) (h : ℕ) (from : ℚ) (no_change : p.change ≡ No
     pub of_step : (by : Stopper) → MovesAt (Paraobj p h from) (Some theta) s (move_by q by) → by.to ≢ Bs → 1 ≤ left → StepRefused p before s q by now e →
         EvidenceHere (Paraobj p h from) p.matrix (Some theta) left s before now e
     of_step by moves apart one_left r =
-        evidence_ahead p (Some (record { row = h; theta = e.theta })) (Paraobj p h from) s e refl (step_number e.formula e.term r.of_call) no_change (Some theta) left before now
+        evidence_ahead p (Some (record { row = h; theta = e.theta })) (Paraobj p h from) s e refl (step_number e.formula e.term r.of_call) no_change
+        (Some theta) left before now
         (zero_theta (λ to. to ≡ by.to) (basics_of s ∷ _ ∷ before) r.stops)
         (record {
           enters = λ is. subst (EntersAt (Paraobj p h from) (Some theta) s) (sym (r.enters is)) enters;
@@ -121,5 +131,12 @@ module _ (p : LinearProgram) (h : ℕ) (from : ℚ) (no_change : p.change ≡ No
           steps = λ is. tt;
         })
         (step_belongs e.formula e.term r.of_call) (λ to. to ≡ by.to)
-        (λ to same is. record { move = move_by q by; moves = moves; enters = sym (r.enters (step_moves e.formula is)); leaves = sym (r.leaves is); goes_to = sym same })
+        (λ to same is. record {
+          move = move_by q by;
+          moves = moves;
+          enters = sym (r.enters (step_moves e.formula is));
+          leaves = sym
+              (r.leaves is);
+          goes_to = sym same;
+        })
         (move_by q by) moves (basics_of-replaced s by.p q by.to apart) one_left r.stops

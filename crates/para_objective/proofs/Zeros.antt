@@ -40,8 +40,11 @@ for_sense Max w v z e = opposite_zero w v z e
 -- a falling function that is 0 at z
 falling_to : (w v z : ℚ) → w +ℚ z *ℚ v ≡ zero_ℚ → v <ℚ zero_ℚ → (x : ℚ) → Holds (condition w v) x ↔ (x ≤ℚ z)
 falling_to w v z zero falls x =
-    let is = zero_is (condition w v) z (record { falls = falls; is_zero = zero }) in
-    (λ h. subst (λ (u : ℚ). x ≤ℚ u) is (before_zero (condition w v) falls x h), λ h. holds_before (condition w v) falls x (subst (λ (u : ℚ). x ≤ℚ u) (sym is) h))
+    let is = zero_is (condition w v) z (record { falls = falls; is_zero = zero }) in (
+      λ h. subst (λ (u : ℚ). x ≤ℚ u) is (before_zero (condition w v) falls x h),
+      λ h. holds_before (condition w v) falls x
+          (subst (λ (u : ℚ). x ≤ℚ u) (sym is) h),
+    )
 
 pub rate_falls : (w v z : ℚ) → w +ℚ z *ℚ v ≡ zero_ℚ → lt_ℚ v zero_ℚ ≡ true → (x : ℚ) → Holds (condition w v) x ↔ (x ≤ℚ z)
 rate_falls w v z zero test = falling_to w v z zero (lt_from_test v zero_ℚ test)
@@ -51,7 +54,8 @@ rate_rises w v z zero test = falling_to (neg_ℚ w) (neg_ℚ v) z (opposite_zero
 
 -- ---- the conditions of one variable
 
-on_if : (may : Bool) (a b from x : ℚ) → (may ≡ true → zero_ℚ ≤ℚ b) → from ≤ℚ x → IfSome (condition_if may a b) (λ e. Holds e from) → IfSome (condition_if may a b) (λ e. Holds e x)
+on_if : (may : Bool) (a b from x : ℚ) → (may ≡ true → zero_ℚ ≤ℚ b) → from ≤ℚ x → IfSome (condition_if may a b) (λ e. Holds e from) →
+    IfSome (condition_if may a b) (λ e. Holds e x)
 on_if true a b from x grows forward h = holds_on (condition a b) (grows refl) from x h forward
 on_if false a b from x grows forward h = tt
 
@@ -82,13 +86,16 @@ one_ends false true c false e = absurd (clash (sym e))
 one_ends false false c d e = absurd (clash (sym e))
 
 module _ (up down : Bool) (w v : ℚ) where
-  pub goes_on : ((lt_ℚ v zero_ℚ && up) || (lt_ℚ zero_ℚ v && down)) ≡ false → (from x : ℚ) → SidesHold (sign_sides up down w v) from → from ≤ℚ x → SidesHold (sign_sides up down w v) x
+  pub goes_on : ((lt_ℚ v zero_ℚ && up) || (lt_ℚ zero_ℚ v && down)) ≡ false → (from x : ℚ) → SidesHold (sign_sides up down w v) from → from ≤ℚ x →
+      SidesHold (sign_sides up down w v) x
   goes_on none from x h forward = (
     on_if up w v from x (λ may. le_from_lt_fails v zero_ℚ (up_grows (lt_ℚ v zero_ℚ) (lt_ℚ zero_ℚ v) up down none may)) forward h.0,
-    on_if down (neg_ℚ w) (neg_ℚ v) from x (λ may. neg_not_below v (le_from_lt_fails zero_ℚ v (down_grows (lt_ℚ v zero_ℚ) (lt_ℚ zero_ℚ v) up down none may))) forward h.1,
+    on_if down (neg_ℚ w) (neg_ℚ v) from x
+        (λ may. neg_not_below v (le_from_lt_fails zero_ℚ v (down_grows (lt_ℚ v zero_ℚ) (lt_ℚ zero_ℚ v) up down none may))) forward h.1,
   )
 
-  pub goes_to : (z : ℚ) → w +ℚ z *ℚ v ≡ zero_ℚ → ((lt_ℚ v zero_ℚ && up) || (lt_ℚ zero_ℚ v && down)) ≡ true → (from x : ℚ) → SidesHold (sign_sides up down w v) from → from ≤ℚ x → SidesHold (sign_sides up down w v) x ↔ (x ≤ℚ z)
+  pub goes_to : (z : ℚ) → w +ℚ z *ℚ v ≡ zero_ℚ → ((lt_ℚ v zero_ℚ && up) || (lt_ℚ zero_ℚ v && down)) ≡ true → (from x : ℚ) →
+      SidesHold (sign_sides up down w v) from → from ≤ℚ x → SidesHold (sign_sides up down w v) x ↔ (x ≤ℚ z)
   goes_to z zero one from x h forward = at (one_ends (lt_ℚ v zero_ℚ) (lt_ℚ zero_ℚ v) up down one)
     where
       at : ((lt_ℚ v zero_ℚ ≡ true) × (up ≡ true)) ⊎ ((lt_ℚ zero_ℚ v ≡ true) × (down ≡ true)) → SidesHold (sign_sides up down w v) x ↔ (x ≤ℚ z)
@@ -116,27 +123,39 @@ meets_zero best price rate product apart is h = at (lt_ℚ rate zero_ℚ) refl h
     zero = at_zero price rate apart
 
     above : neg_ℚ price ≤ℚ product → zero_ℚ ≤ℚ price +ℚ best *ℚ rate
-    above le = le_by_one (subst (λ (u : ℚ). neg_ℚ price ≤ℚ u) is le) (by_ring3 price rate best (λ a r x. a ⊕ x ⊗ r ≐ number (pos 0) ⊕ (x ⊗ r ⊖ opposite a)) refl)
+    above le =
+        le_by_one (subst (λ (u : ℚ). neg_ℚ price ≤ℚ u) is le) (by_ring3 price rate best (λ a r x. a ⊕ x ⊗ r ≐ number (pos 0) ⊕ (x ⊗ r ⊖ opposite a)) refl)
 
     below : product ≤ℚ neg_ℚ price → zero_ℚ ≤ℚ neg_ℚ price +ℚ best *ℚ neg_ℚ rate
-    below le = le_by_one (subst (λ (u : ℚ). u ≤ℚ neg_ℚ price) is le) (by_ring3 price rate best (λ a r x. opposite a ⊕ x ⊗ opposite r ≐ number (pos 0) ⊕ (opposite a ⊖ x ⊗ r)) refl)
+    below le =
+        le_by_one (subst (λ (u : ℚ). u ≤ℚ neg_ℚ price) is le)
+        (by_ring3 price rate best (λ a r x. opposite a ⊕ x ⊗ opposite r ≐ number (pos 0) ⊕ (opposite a ⊖ x ⊗ r)) refl)
 
-    at : (test : Bool) → lt_ℚ rate zero_ℚ ≡ test → cond test (not (lt_ℚ product (neg_ℚ price))) (not (lt_ℚ (neg_ℚ price) product)) ≡ true → best ≤ℚ zero_at price rate
-    at true e k = (rate_falls price rate (zero_at price rate) zero e best).0 (above (le_from_lt_fails product (neg_ℚ price) (not-true (lt_ℚ product (neg_ℚ price)) k)))
+    at : (test : Bool) → lt_ℚ rate zero_ℚ ≡ test → cond test (not (lt_ℚ product (neg_ℚ price))) (not (lt_ℚ (neg_ℚ price) product)) ≡ true →
+        best ≤ℚ zero_at price rate
+    at true e k =
+        (rate_falls price rate (zero_at price rate) zero e best).0 (above (le_from_lt_fails product (neg_ℚ price) (not-true (lt_ℚ product (neg_ℚ price)) k)))
     at false e k =
         let rises : zero_ℚ <ℚ rate = lt_from_le (le_from_lt_fails rate zero_ℚ e) (λ z. apart (sym z)) in
-        (rate_rises price rate (zero_at price rate) zero (test_from_lt zero_ℚ rate rises) best).0 (below (le_from_lt_fails (neg_ℚ price) product (not-true (lt_ℚ (neg_ℚ price) product) k)))
+        (rate_rises price rate (zero_at price rate) zero (test_from_lt zero_ℚ rate rises) best).0
+        (below (le_from_lt_fails (neg_ℚ price) product (not-true (lt_ℚ (neg_ℚ price) product) k)))
 
 -- the combined rate itself shows it
-pub meets_combined : (best price rate combined : ℚ) → rate ≢ zero_ℚ → combined ≡ price +ℚ best *ℚ rate → meets combined zero_ℚ rate ≡ true → best ≤ℚ zero_at price rate
+pub meets_combined : (best price rate combined : ℚ) → rate ≢ zero_ℚ → combined ≡ price +ℚ best *ℚ rate → meets combined zero_ℚ rate ≡ true →
+    best ≤ℚ zero_at price rate
 meets_combined best price rate combined apart is h =
     meets_zero best price rate (best *ℚ rate) apart refl (at (lt_ℚ rate zero_ℚ) h)
   where
-    at : (test : Bool) → cond test (not (lt_ℚ combined (neg_ℚ zero_ℚ))) (not (lt_ℚ (neg_ℚ zero_ℚ) combined)) ≡ true → cond test (not (lt_ℚ (best *ℚ rate) (neg_ℚ price))) (not (lt_ℚ (neg_ℚ price) (best *ℚ rate))) ≡ true
-    at true k = ap not (lt_fails_from_le (best *ℚ rate) (neg_ℚ price) (le_by_one (le_from_lt_fails combined (neg_ℚ zero_ℚ) (not-true (lt_ℚ combined (neg_ℚ zero_ℚ)) k))
-        (by_ring3 price rate best (λ a r x. x ⊗ r ≐ opposite a ⊕ (a ⊕ x ⊗ r ⊖ opposite (number (pos 0)))) refl ∙ ap (λ u. neg_ℚ price +ℚ (u -ℚ neg_ℚ zero_ℚ)) (sym is))))
-    at false k = ap not (lt_fails_from_le (neg_ℚ price) (best *ℚ rate) (le_by_one (le_from_lt_fails (neg_ℚ zero_ℚ) combined (not-true (lt_ℚ (neg_ℚ zero_ℚ) combined) k))
-        (by_ring3 price rate best (λ a r x. opposite a ≐ x ⊗ r ⊕ (opposite (number (pos 0)) ⊖ (a ⊕ x ⊗ r))) refl ∙ ap (λ u. best *ℚ rate +ℚ (neg_ℚ zero_ℚ -ℚ u)) (sym is))))
+    at : (test : Bool) → cond test (not (lt_ℚ combined (neg_ℚ zero_ℚ))) (not (lt_ℚ (neg_ℚ zero_ℚ) combined)) ≡ true →
+        cond test (not (lt_ℚ (best *ℚ rate) (neg_ℚ price))) (not (lt_ℚ (neg_ℚ price) (best *ℚ rate))) ≡ true
+    at true k =
+        ap not (lt_fails_from_le (best *ℚ rate) (neg_ℚ price) (le_by_one (le_from_lt_fails combined (neg_ℚ zero_ℚ) (not-true (lt_ℚ combined (neg_ℚ zero_ℚ)) k))
+        (by_ring3 price rate best (λ a r x. x ⊗ r ≐ opposite a ⊕ (a ⊕ x ⊗ r ⊖ opposite (number (pos 0)))) refl
+        ∙ ap (λ u. neg_ℚ price +ℚ (u -ℚ neg_ℚ zero_ℚ)) (sym is))))
+    at false k =
+        ap not (lt_fails_from_le (neg_ℚ price) (best *ℚ rate) (le_by_one (le_from_lt_fails (neg_ℚ zero_ℚ) combined (not-true (lt_ℚ (neg_ℚ zero_ℚ) combined) k))
+        (by_ring3 price rate best (λ a r x. opposite a ≐ x ⊗ r ⊕ (opposite (number (pos 0)) ⊖ (a ⊕ x ⊗ r))) refl
+        ∙ ap (λ u. best *ℚ rate +ℚ (neg_ℚ zero_ℚ -ℚ u)) (sym is))))
 
 -- ---- the lesser of two values
 
@@ -168,7 +187,8 @@ module _ (p : LinearProgram) (s : List Status) (price rate : ℚ) (k : ℕ) wher
       let equal : lt_ℚ zero_ℚ zero_ℚ ≡ false = lt_fails_from_le zero_ℚ zero_ℚ (le_refl zero_ℚ) in
       not_lowered best zero_ℚ (sym is) (none_of (lt_ℚ zero_ℚ zero_ℚ) (lt_ℚ zero_ℚ zero_ℚ) (may_rise p s k) (may_fall p s k) equal equal)
 
-  pub lowered : (best now v : ℚ) → rate ≢ zero_ℚ → v ≡ for_min p.sense rate → test v ≡ true → IsLeast best (zero_at price rate) now → IsWithRate p s price rate k best now
+  pub lowered : (best now v : ℚ) → rate ≢ zero_ℚ → v ≡ for_min p.sense rate → test v ≡ true → IsLeast best (zero_at price rate) now →
+      IsWithRate p s price rate k best now
   lowered best now v apart is one least from h x forward =
       let same : test (for_min p.sense rate) ≡ true = subst (λ (v : ℚ). test v ≡ true) is one in
       let zero = for_sense p.sense price rate (zero_at price rate) (at_zero price rate apart) in
@@ -182,7 +202,8 @@ module _ (p : LinearProgram) (s : List Status) (prices change : Vector) (max : �
   first : (n : ℕ) (y : ℚ) → RatesStayTo p s prices change (n + 1) y → RatesStayTo p s prices change n y
   first n y h k low high = h k low (omega (arith, high))
 
-  module _ (n : ℕ) (best now price rate : ℚ) (price_is : prices (n + 1) ≡ price) (rate_is : change (n + 1) ≡ rate) (with : IsWithRate p s price rate (n + 1) best now) where
+  module _ (n : ℕ) (best now price rate : ℚ) (price_is : prices (n + 1) ≡ price) (rate_is : change (n + 1) ≡ rate)
+      (with : IsWithRate p s price rate (n + 1) best now) where
     own : (y : ℚ) → SidesHold (sides_of p s price rate (n + 1)) y ↔ SidesHold (sides_of p s (prices (n + 1)) (change (n + 1)) (n + 1)) y
     own y = subst₂ (λ a b. SidesHold (sides_of p s price rate (n + 1)) y ↔ SidesHold (sides_of p s a b (n + 1)) y) (sym price_is) (sym rate_is) (λ h. h, λ h. h)
 
@@ -218,7 +239,8 @@ module _ (p : LinearProgram) (s : List Status) (prices change : Vector) (max : �
   )
 
   -- the reach from there is that from max
-  pub reach_within : (n : ℕ) (best to : ℚ) → IsReachAbove p s prices change n max best → IsReachOf p s prices change n best to → IsReachOf p s prices change n max to
+  pub reach_within : (n : ℕ) (best to : ℚ) → IsReachAbove p s prices change n max best → IsReachOf p s prices change n best to →
+      IsReachOf p s prices change n max to
   reach_within n best to above reach from all x forward = (
     λ le. let both = (reach from all x forward).0 le in ((above from all x forward).0 both.0, both.1),
     λ h. (reach from all x forward).1 ((above from all x forward).1 h, h.1),

@@ -18,11 +18,15 @@ module _ (p : LinearProgram) (shift : List ℚ) (s : List Status) (at : IsNonsin
   still_prices theta n = record {
     rate = priced.rate;
     are_rates = priced.are_rates;
-    prices = λ k is. ap (λ r. value_at prices k +ℚ theta *ℚ r) (zero_in n _) ∙ by_ring2 (value_at prices k) theta (λ y x. y ⊕ x ⊗ number (pos 0) ≐ y) refl ∙ priced.prices k is;
+    prices =
+        λ k is. ap (λ r. value_at prices k +ℚ theta *ℚ r) (zero_in n _) ∙ by_ring2 (value_at prices k) theta (λ y x. y ⊕ x ⊗ number (pos 0) ≐ y) refl
+        ∙ priced.prices k is;
   }
 
-  pub interval : length value ≡ size p.matrix → length slope ≡ size p.matrix → length prices ≡ size p.matrix → (from max to : ℚ) → ReachesTo (rhs_family p shift) s from max to →
-      IsPart (rhs_family p shift) from max s (record { from = from; to = to; statuses = s; value = value; value_rate = slope; price = prices; price_rate = replicate (size p.matrix) zero_ℚ })
+  pub interval : length value ≡ size p.matrix → length slope ≡ size p.matrix → length prices ≡ size p.matrix → (from max to : ℚ) →
+      ReachesTo (rhs_family p shift) s from max to →
+      IsPart (rhs_family p shift) from max s
+      (record { from = from; to = to; statuses = s; value = value; value_rate = slope; price = prices; price_rate = replicate (size p.matrix) zero_ℚ })
   interval places slope_places price_places from max to reaches = record {
     begins = refl;
     statuses = refl;

@@ -46,7 +46,8 @@ product_test theta value slope by limit =
 
 -- ---- one variable
 
-on_moved : (limit : Option ℚ) (theta value slope by : ℚ) → on_limit (λ l. eq_ℚ (value +ℚ theta *ℚ slope) l) (moved theta by limit) ≡ on_limit (stands_at theta value slope by) limit
+on_moved : (limit : Option ℚ) (theta value slope by : ℚ) →
+    on_limit (λ l. eq_ℚ (value +ℚ theta *ℚ slope) l) (moved theta by limit) ≡ on_limit (stands_at theta value slope by) limit
 on_moved None theta value slope by = refl
 on_moved (Some l) theta value slope by = refl
 
@@ -54,21 +55,31 @@ found_if : (b : Bool) (side : Side) → is_there (cond b (Some side) None) ≡ b
 found_if true side = refl
 found_if false side = refl
 
-module _ (p : LinearProgram) (shift : List ℚ) (theta : ℚ) (s : List Status) (at : IsNonsingularBasis p s) (lawful : IsLinearProgram p) (z v : Vector) (point : IsPointOf p s z) (slope : IsSlope p s shift v)
+module _ (p : LinearProgram) (shift : List ℚ) (theta : ℚ) (s : List Status) (at : IsNonsingularBasis p s) (lawful : IsLinearProgram p) (z v : Vector)
+    (point : IsPointOf p s z) (slope : IsSlope p s shift v)
     (t : Tableau) (w : Vector) (is_t : IsTableau (rhs_family p shift theta) s t) (is_w : IsSlope (rhs_family p shift theta) s shift w) where
   pub value_is : (k : ℕ) → IsVariable p.matrix k → t.point k ≡ along z theta v k
   value_is k is =
       let there = to_rhs p shift theta s at in
-      one_point (rhs_family p shift theta) s t.point (along z theta v) there.is_basis.counted there.nonsingular is_t.is_point (points p shift s at z v point slope theta) k is
+      one_point (rhs_family p shift theta) s t.point (along z theta v) there.is_basis.counted there.nonsingular is_t.is_point
+      (points p shift s at z v point slope theta) k is
 
   pub slope_is : (k : ℕ) → IsVariable p.matrix k → w k ≡ v k
   slope_is = same_from_nonbasics p.matrix (basics_of s) w v at.nonsingular is_w.keeps slope.keeps (λ k out. is_w.placed k out ∙ sym (slope.placed k out))
 
-  low_is : (k : ℕ) → IsVariable p.matrix k → on_limit (λ l. eq_ℚ (t.point k) l) (lower_of (rhs_family p shift theta) k) ≡ on_limit (stands_at theta (z k) (v k) (shift_of p.matrix shift k)) (lower_of p k)
-  low_is k is = ap₂ (λ (o : Option ℚ) (y : ℚ). on_limit (λ l. eq_ℚ y l) o) (lower_is p shift theta k is) (value_is k is) ∙ on_moved (lower_of p k) theta (z k) (v k) (shift_of p.matrix shift k)
+  low_is : (k : ℕ) → IsVariable p.matrix k →
+      on_limit (λ l. eq_ℚ (t.point k) l) (lower_of (rhs_family p shift theta) k) ≡ on_limit (stands_at theta (z k) (v k) (shift_of p.matrix shift k))
+      (lower_of p k)
+  low_is k is =
+      ap₂ (λ (o : Option ℚ) (y : ℚ). on_limit (λ l. eq_ℚ y l) o) (lower_is p shift theta k is) (value_is k is)
+      ∙ on_moved (lower_of p k) theta (z k) (v k) (shift_of p.matrix shift k)
 
-  high_is : (k : ℕ) → IsVariable p.matrix k → on_limit (λ l. eq_ℚ (t.point k) l) (upper_of (rhs_family p shift theta) k) ≡ on_limit (stands_at theta (z k) (v k) (shift_of p.matrix shift k)) (upper_of p k)
-  high_is k is = ap₂ (λ (o : Option ℚ) (y : ℚ). on_limit (λ l. eq_ℚ y l) o) (upper_is p shift theta k is) (value_is k is) ∙ on_moved (upper_of p k) theta (z k) (v k) (shift_of p.matrix shift k)
+  high_is : (k : ℕ) → IsVariable p.matrix k →
+      on_limit (λ l. eq_ℚ (t.point k) l) (upper_of (rhs_family p shift theta) k) ≡ on_limit (stands_at theta (z k) (v k) (shift_of p.matrix shift k))
+      (upper_of p k)
+  high_is k is =
+      ap₂ (λ (o : Option ℚ) (y : ℚ). on_limit (λ l. eq_ℚ y l) o) (upper_is p shift theta k is) (value_is k is)
+      ∙ on_moved (upper_of p k) theta (z k) (v k) (shift_of p.matrix shift k)
 
   abbrev below : ℕ → Bool
   below k = leaves_below (rhs_family p shift theta) shift theta s t w k
@@ -113,8 +124,11 @@ module _ (p : LinearProgram) (shift : List ℚ) (theta : ℚ) (s : List Status) 
   by_none k is ahead =
       let same = keeps_up (v k) (shift_of p.matrix shift k) ahead in
       let at_most : v k ≤ℚ shift_of p.matrix shift k = le_of_eq same in
-      let at_least : shift_of p.matrix shift k ≤ℚ v k = le_of_eq (sym same) in
-      (not_below k is (lt_fails_from_le (v k) (shift_of p.matrix shift k) at_least), not_above k is (lt_fails_from_le (shift_of p.matrix shift k) (v k) at_most))
+      let at_least : shift_of p.matrix shift k ≤ℚ v k = le_of_eq (sym same) in (
+        not_below k is (lt_fails_from_le (v k) (shift_of p.matrix shift k) at_least),
+        not_above k is
+            (lt_fails_from_le (shift_of p.matrix shift k) (v k) at_most),
+      )
 
   marked : (k : ℕ) → IsVariable p.matrix k → (side : Side) → side_ahead (v k) (shift_of p.matrix shift k) ≡ Some side → is_in (basics_of s) k ≡ true
   marked k is side ahead = (basic_if_moves p shift lawful s at z v point slope k is (apart_if_ahead (v k) (shift_of p.matrix shift k) side ahead)).1
@@ -131,13 +145,17 @@ module _ (p : LinearProgram) (shift : List ℚ) (theta : ℚ) (s : List Status) 
       by_side None ahead = let h = by_none k is ahead in and_right (is_in (basics_of s) k) (below k || above k) (ap₂ (λ a b. a || b) h.0 h.1)
       by_side (Some Lower) ahead =
           let h = by_lower k is ahead in
-          ap₂ (λ m b. m && b) (marked k is Lower ahead) (ap₂ (λ a b. a || b) h.0 h.1 ∙ or_false _) ∙ sym (found_if (on_limit (stands_at theta (z k) (v k) (shift_of p.matrix shift k)) (lower_of p k)) Lower)
+          ap₂ (λ m b. m && b) (marked k is Lower ahead) (ap₂ (λ a b. a || b) h.0 h.1 ∙ or_false _)
+          ∙ sym (found_if (on_limit (stands_at theta (z k) (v k) (shift_of p.matrix shift k)) (lower_of p k)) Lower)
       by_side (Some Upper) ahead =
           let h = by_upper k is ahead in
-          ap₂ (λ m b. m && b) (marked k is Upper ahead) (ap₂ (λ a b. a || b) h.0 h.1) ∙ sym (found_if (on_limit (stands_at theta (z k) (v k) (shift_of p.matrix shift k)) (upper_of p k)) Upper)
+          ap₂ (λ m b. m && b) (marked k is Upper ahead) (ap₂ (λ a b. a || b) h.0 h.1)
+          ∙ sym (found_if (on_limit (stands_at theta (z k) (v k) (shift_of p.matrix shift k)) (upper_of p k)) Upper)
 
   same_leaver : leaving (rhs_family p shift theta) shift theta s t w ≡ least p (leaves p shift theta z v)
-  same_leaver = find_same (λ k. is_in (basics_of s) k && (below k || above k)) (leaves p shift theta z v) (size p.matrix) 1 (λ k low high. same_test k (low, omega (arith, high)))
+  same_leaver =
+      find_same (λ k. is_in (basics_of s) k && (below k || above k)) (leaves p shift theta z v) (size p.matrix) 1
+      (λ k low high. same_test k (low, omega (arith, high)))
 
   some_side : (b : Bool) (side other : Side) → cond b (Some side) None ≡ Some other → (b ≡ true) × (side ≡ other)
   some_side true side other e = let same : side ≡ other = cc in (refl, same)
@@ -147,7 +165,8 @@ module _ (p : LinearProgram) (shift : List ℚ) (theta : ℚ) (s : List Status) 
   which : (k : ℕ) → IsVariable p.matrix k → (side : Side) → leaving_side p shift theta z v k ≡ Some side → below k ≡ not (is_upper side)
   which k is side found = by_side (side_ahead (v k) (shift_of p.matrix shift k)) refl found
     where
-      by_side : (o : Option Side) → side_ahead (v k) (shift_of p.matrix shift k) ≡ o → leaving_on p theta (z k) (v k) (shift_of p.matrix shift k) k o ≡ Some side → below k ≡ not (is_upper side)
+      by_side : (o : Option Side) → side_ahead (v k) (shift_of p.matrix shift k) ≡ o →
+          leaving_on p theta (z k) (v k) (shift_of p.matrix shift k) k o ≡ Some side → below k ≡ not (is_upper side)
       by_side None ahead e = cc
       by_side (Some Lower) ahead e =
           let h = some_side (on_limit (stands_at theta (z k) (v k) (shift_of p.matrix shift k)) (lower_of p k)) Lower side e in

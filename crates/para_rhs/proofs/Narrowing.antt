@@ -97,14 +97,17 @@ module _ (p : LinearProgram) (shift : List ℚ) (k : ℕ) (z v : ℚ) where
   first_is None l x e = absurd (let P : None ≡ Some l → ⊥ = λ e. cc in P e)
   first_is (Some y) l x e = (
     λ h. subst (λ y. (y -ℚ z) ≤ℚ x *ℚ c) (some_same e) (le_by_one h (by_ring4 y z x c (λ y z x c. x ⊗ c ≐ (y ⊖ z) ⊕ ((z ⊖ y) ⊕ x ⊗ c ⊖ number (pos 0))) refl)),
-    λ h. le_by_one (subst (λ y. (y -ℚ z) ≤ℚ x *ℚ c) (sym (some_same e)) h) (by_ring4 y z x c (λ y z x c. (z ⊖ y) ⊕ x ⊗ c ≐ number (pos 0) ⊕ (x ⊗ c ⊖ (y ⊖ z))) refl),
+    λ h. le_by_one (subst (λ y. (y -ℚ z) ≤ℚ x *ℚ c) (sym (some_same e)) h)
+        (by_ring4 y z x c (λ y z x c. (z ⊖ y) ⊕ x ⊗ c ≐ number (pos 0) ⊕ (x ⊗ c ⊖ (y ⊖ z))) refl),
   )
 
   second_is : (high : Option ℚ) (u x : ℚ) → high ≡ Some u → IfSome (second high) (λ e. Holds e x) ↔ (x *ℚ c ≤ℚ (u -ℚ z))
   second_is None u x e = absurd (let P : None ≡ Some u → ⊥ = λ e. cc in P e)
   second_is (Some y) u x e = (
-    λ h. subst (λ y. x *ℚ c ≤ℚ (y -ℚ z)) (some_same e) (le_by_one h (by_ring4 y z x c (λ y z x c. y ⊖ z ≐ x ⊗ c ⊕ ((y ⊖ z) ⊕ x ⊗ opposite c ⊖ number (pos 0))) refl)),
-    λ h. le_by_one (subst (λ y. x *ℚ c ≤ℚ (y -ℚ z)) (sym (some_same e)) h) (by_ring4 y z x c (λ y z x c. (y ⊖ z) ⊕ x ⊗ opposite c ≐ number (pos 0) ⊕ ((y ⊖ z) ⊖ x ⊗ c)) refl),
+    λ h. subst (λ y. x *ℚ c ≤ℚ (y -ℚ z)) (some_same e)
+        (le_by_one h (by_ring4 y z x c (λ y z x c. y ⊖ z ≐ x ⊗ c ⊕ ((y ⊖ z) ⊕ x ⊗ opposite c ⊖ number (pos 0))) refl)),
+    λ h. le_by_one (subst (λ y. x *ℚ c ≤ℚ (y -ℚ z)) (sym (some_same e)) h)
+        (by_ring4 y z x c (λ y z x c. (y ⊖ z) ⊕ x ⊗ opposite c ≐ number (pos 0) ⊕ ((y ⊖ z) ⊖ x ⊗ c)) refl),
   )
 
   abbrev Narrowed : Ends → Ends → Type 0
@@ -120,21 +123,51 @@ module _ (p : LinearProgram) (shift : List ℚ) (k : ℕ) (z v : ℚ) where
 
   -- there is no limit ahead
   pub narrowed_free : (ends : Ends) (side : Side) → side_ahead v by ≡ Some side → limit_on p side k ≡ None → Narrowed ends ends
-  narrowed_free ends Lower ahead none from h x forward =
-      (λ b. (b, (none_there (λ l. condition (z -ℚ l) c) (lower_of p k) x none, second_on (upper_of p k) from x (le_of_lt (closing_below v by (comes_lower v by ahead))) forward h.1)), λ both. both.0)
-  narrowed_free ends Upper ahead none from h x forward =
-      (λ b. (b, (first_on (lower_of p k) from x (le_of_lt (closing_above v by (comes_upper v by ahead))) forward h.0, none_there (λ u. condition (u -ℚ z) (neg_ℚ c)) (upper_of p k) x none)), λ both. both.0)
+  narrowed_free ends Lower ahead none from h x forward = (
+    λ b. (
+      b,
+      (
+        none_there (λ l. condition (z -ℚ l) c) (lower_of p k) x none,
+        second_on (upper_of p k) from x
+            (le_of_lt (closing_below v by (comes_lower v by ahead))) forward h.1,
+      ),
+    ),
+    λ both. both.0,
+  )
+  narrowed_free ends Upper ahead none from h x forward = (
+    λ b. (
+      b,
+      (
+        first_on (lower_of p k) from x (le_of_lt (closing_above v by (comes_upper v by ahead))) forward h.0,
+        none_there
+            (λ u. condition (u -ℚ z) (neg_ℚ c)) (upper_of p k) x none,
+      ),
+    ),
+    λ both. both.0,
+  )
 
   -- there is one
-  pub narrowed_limit : (ends now : Ends) (side : Side) (l : ℚ) → side_ahead v by ≡ Some side → limit_on p side k ≡ Some l → IsTightened ends (bound_of side c (l -ℚ z) k) now → Narrowed ends now
+  pub narrowed_limit : (ends now : Ends) (side : Side) (l : ℚ) → side_ahead v by ≡ Some side → limit_on p side k ≡ Some l →
+      IsTightened ends (bound_of side c (l -ℚ z) k) now → Narrowed ends now
   narrowed_limit ends now Lower l ahead limit tight from h x forward = (
-    λ b. let both = (tight.exact x).0 b in
-        (both.0, ((first_is (lower_of p k) l x limit).1 both.1, second_on (upper_of p k) from x (le_of_lt (closing_below v by (comes_lower v by ahead))) forward h.1)),
+    λ b. let both = (tight.exact x).0 b in (
+      both.0,
+      (
+        (first_is (lower_of p k) l x limit).1 both.1,
+        second_on (upper_of p k) from x
+            (le_of_lt (closing_below v by (comes_lower v by ahead))) forward h.1,
+      ),
+    ),
     λ both. (tight.exact x).1 (both.0, (first_is (lower_of p k) l x limit).0 both.1.0),
   )
   narrowed_limit ends now Upper l ahead limit tight from h x forward = (
-    λ b. let both = (tight.exact x).0 b in
-        (both.0, (first_on (lower_of p k) from x (le_of_lt (closing_above v by (comes_upper v by ahead))) forward h.0, (second_is (upper_of p k) l x limit).1 both.1)),
+    λ b. let both = (tight.exact x).0 b in (
+      both.0,
+      (
+        first_on (lower_of p k) from x (le_of_lt (closing_above v by (comes_upper v by ahead))) forward h.0,
+        (second_is (upper_of p k) l x limit).1 both.1,
+      ),
+    ),
     λ both. (tight.exact x).1 (both.0, (second_is (upper_of p k) l x limit).0 both.1.1),
   )
 
@@ -157,7 +190,8 @@ module _ (p : LinearProgram) (shift : List ℚ) (z v : Vector) (max : ℚ) where
     λ b. let two = (narrowed from (own from (last from all)) x forward).0 b in
         let one = (before from most (first from all) x forward).0 two.0 in
         (one.0, up_to_next n x one.1 (back x two.1)),
-    λ both. (narrowed from (own from (last from all)) x forward).1 ((before from most (first from all) x forward).1 (both.0, first x both.1), own x (last x both.1)),
+    λ both. (narrowed from (own from (last from all)) x forward).1
+        ((before from most (first from all) x forward).1 (both.0, first x both.1), own x (last x both.1)),
   )
     where
       first : (y : ℚ) → StaysTo p shift z v (n + 1) y → StaysTo p shift z v n y
@@ -167,10 +201,14 @@ module _ (p : LinearProgram) (shift : List ℚ) (z v : Vector) (max : ℚ) where
       last y h = h (n + 1) (omega arith) (omega arith)
 
       own : (y : ℚ) → SidesHold (limit_sides p shift z v (n + 1)) y → SidesHold (limit_sides p shift (λ _. here) (λ _. rate) (n + 1)) y
-      own y h = subst (λ b. SidesHold (limit_sides p shift (λ _. here) (λ _. b) (n + 1)) y) rate_is (subst (λ a. SidesHold (limit_sides p shift (λ _. a) (λ _. v (n + 1)) (n + 1)) y) here_is h)
+      own y h =
+          subst (λ b. SidesHold (limit_sides p shift (λ _. here) (λ _. b) (n + 1)) y) rate_is
+          (subst (λ a. SidesHold (limit_sides p shift (λ _. a) (λ _. v (n + 1)) (n + 1)) y) here_is h)
 
       back : (y : ℚ) → SidesHold (limit_sides p shift (λ _. here) (λ _. rate) (n + 1)) y → SidesHold (limit_sides p shift z v (n + 1)) y
-      back y h = subst (λ a. SidesHold (limit_sides p shift (λ _. a) (λ _. v (n + 1)) (n + 1)) y) (sym here_is) (subst (λ b. SidesHold (limit_sides p shift (λ _. here) (λ _. b) (n + 1)) y) (sym rate_is) h)
+      back y h =
+          subst (λ a. SidesHold (limit_sides p shift (λ _. a) (λ _. v (n + 1)) (n + 1)) y) (sym here_is)
+          (subst (λ b. SidesHold (limit_sides p shift (λ _. here) (λ _. b) (n + 1)) y) (sym rate_is) h)
 
   -- and a refusal
   pub refused_at : (n : ℕ) (here rate : ℚ) (e : Evidence) → n < size p.matrix → z (n + 1) ≡ here → v (n + 1) ≡ rate → rate ≢ shift_of p.matrix shift (n + 1) →
@@ -184,6 +222,8 @@ module _ (p : LinearProgram) (shift : List ℚ) (z v : Vector) (max : ℚ) where
     where
       back : VariableRefused p shift (λ _. here) (λ _. rate) (n + 1) e → VariableRefused p shift z v (n + 1) e
       back (of_closing r) = of_closing (subst (λ (x : ℚ). IsRefusal (basic_formula 18 (n + 1) 0) Sub x (shift_of p.matrix shift (n + 1)) e) (sym rate_is) r)
-      back (of_distance side l limit r) = of_distance side l limit (subst (λ (x : ℚ). IsRefusal (basic_formula 6 (n + 1) (number_of side)) Sub l x e) (sym here_is) r)
+      back (of_distance side l limit r) =
+          of_distance side l limit (subst (λ (x : ℚ). IsRefusal (basic_formula 6 (n + 1) (number_of side)) Sub l x e) (sym here_is) r)
       back (of_quotient side l limit r) = of_quotient side l limit
-          (subst₂ (λ (x y : ℚ). IsRefusal (basic_formula 18 (n + 1) (number_of side)) Div (l -ℚ x) (y -ℚ shift_of p.matrix shift (n + 1)) e) (sym here_is) (sym rate_is) r)
+          (subst₂ (λ (x y : ℚ). IsRefusal (basic_formula 18 (n + 1) (number_of side)) Div (l -ℚ x) (y -ℚ shift_of p.matrix shift (n + 1)) e) (sym here_is)
+          (sym rate_is) r)

@@ -23,10 +23,12 @@ found_in test (suc n) first term j e = at (test first) refl term e (λ term. fou
     some_same : {a b : ℕ} → Some a ≡ Some b → a ≡ b
     some_same e = cc
 
-    at : (b : Bool) → test first ≡ b → (term : ℕ) → slice_get (cond b (first ∷ filter test (numbers_from (suc first) n)) (filter test (numbers_from (suc first) n))) term ≡ Some j →
+    at : (b : Bool) → test first ≡ b → (term : ℕ) →
+        slice_get (cond b (first ∷ filter test (numbers_from (suc first) n)) (filter test (numbers_from (suc first) n))) term ≡ Some j →
         ((term : ℕ) → slice_get (filter test (numbers_from (suc first) n)) term ≡ Some j → IsFound test (suc first) n j) → IsFound test first (suc n) j
     at false is term e rest = later (rest term e)
-    at true is zero e rest = let same : first ≡ j = some_same e in record { low = omega (arith, same); high = omega (arith, same); passes = ap test (sym same) ∙ is }
+    at true is zero e rest =
+        let same : first ≡ j = some_same e in record { low = omega (arith, same); high = omega (arith, same); passes = ap test (sym same) ∙ is }
     at true is (suc term) e rest = later (rest term e)
 
 pub nonbasic_at : (a : Matrix) (b : Basics) (term j : ℕ) → slice_get (nonbasics a b) term ≡ Some j → IsNonbasic a b j
@@ -56,4 +58,5 @@ taken_same test f g (suc n) first m same =
 pub sum_same : (a : Matrix) (b : Basics) (f g : ℕ → ℚ) (term : ℕ) → ((k : ℕ) → IsNonbasic a b k → f k ≡ g k) →
     sum_from zero_ℚ (map f (take term (nonbasics a b))) ≡ sum_from zero_ℚ (map g (take term (nonbasics a b)))
 sum_same a b f g term same =
-    ap (sum_from zero_ℚ) (taken_same (λ k. not (is_in b k)) f g (size a) 1 term (λ k low high passes. same k ((low, omega (arith, high)), not-true (is_in b k) passes)))
+    ap (sum_from zero_ℚ)
+    (taken_same (λ k. not (is_in b k)) f g (size a) 1 term (λ k low high passes. same k ((low, omega (arith, high)), not-true (is_in b k) passes)))

@@ -36,7 +36,8 @@ use Rattle.simplex_definitions.specs.RhsRun.{rhs_family, IsRhsFace}
 use Rattle.para_rhs.specs.Method.{rhs_problem}
 use Rattle.para_rhs.specs.Runs.{reported_at}
 
-step_belongs : (n term : ℕ) → (is_between 1 12 n && (not (nat_eq n 6) || not (nat_eq term 3))) ≡ true → ((is_between 1 14 n || nat_eq n 18) && (not (nat_eq n 6) || not (nat_eq term 3))) ≡ true
+step_belongs : (n term : ℕ) → (is_between 1 12 n && (not (nat_eq n 6) || not (nat_eq term 3))) ≡ true →
+    ((is_between 1 14 n || nat_eq n 18) && (not (nat_eq n 6) || not (nat_eq term 3))) ≡ true
 step_belongs n term h = grind arith
 
 -- ---- evidence of the path of the linear program at theta, as evidence at theta
@@ -59,7 +60,8 @@ module _ (e : Evidence) (theta : ℚ) where
   entry_too a b rate (f11_product i j term x n is col at r) = f11_product i j term x (names _ _ _ _ _ _ n) is col at (refuses_too _ _ _ r)
   entry_too a b rate (f11_sum i j term x n is col at r) = f11_sum i j term x (names _ _ _ _ _ _ n) is col at (refuses_too _ _ _ r)
 
-  carried_too : (a : Matrix) (b : Basics) (rate : ℕ → ℕ → ℚ) (w : Basics) (way_rate : ℕ → ℕ → ℚ) → CarriedFormula a b rate w way_rate e → CarriedFormula a b rate w way_rate (record e { theta = theta })
+  carried_too : (a : Matrix) (b : Basics) (rate : ℕ → ℕ → ℚ) (w : Basics) (way_rate : ℕ → ℕ → ℚ) → CarriedFormula a b rate w way_rate e →
+      CarriedFormula a b rate w way_rate (record e { theta = theta })
   carried_too a b rate w way_rate (f12_product p q i j term n is x at r) = f12_product p q i j term (names _ _ _ _ _ _ n) is x at (refuses_too _ _ _ r)
   carried_too a b rate w way_rate (f12_sum p q i j term n is x at r) = f12_sum p q i j term (names _ _ _ _ _ _ n) is x at (refuses_too _ _ _ r)
   carried_too a b rate w way_rate (f12_quotient p q j n is x r) = f12_quotient p q j (names _ _ _ _ _ _ n) is x (refuses_too _ _ _ r)
@@ -92,13 +94,15 @@ no_objective lp s t h e number (f16 j n out apart r) = clash (sym number ∙ ap 
 no_objective lp s t h e number (f17_product j n out r) = clash (sym number ∙ ap (is_between 1 12) n.is_formula)
 no_objective lp s t h e number (f17_sum j n out r) = clash (sym number ∙ ap (is_between 1 12) n.is_formula)
 
-no_slope : (lp : LinearProgram) (s : List Status) (t : Tableau) (shift : Vector) (e : Evidence) → is_between 1 12 e.formula ≡ true → SlopeFormula lp s t shift e → ⊥
+no_slope : (lp : LinearProgram) (s : List Status) (t : Tableau) (shift : Vector) (e : Evidence) → is_between 1 12 e.formula ≡ true →
+    SlopeFormula lp s t shift e → ⊥
 no_slope lp s t shift e number (f18_product i j term n is at r) = clash (sym number ∙ ap (is_between 1 12) n.is_formula)
 no_slope lp s t shift e number (f18_sum i j term n is at r) = clash (sym number ∙ ap (is_between 1 12) n.is_formula)
 no_slope lp s t shift e number (f18_difference i n is r) = clash (sym number ∙ ap (is_between 1 12) n.is_formula)
 no_slope lp s t shift e number (f18_quotient i which l n is at apart r) = clash (sym number ∙ ap (is_between 1 12) n.is_formula)
 
-module _ (p : LinearProgram) (shift : List ℚ) (from : ℚ) (Goes Other : Status → Type 0) (s : List Status) (e : Evidence) (number : is_between 1 12 e.formula ≡ true)
+module _ (p : LinearProgram) (shift : List ℚ) (from : ℚ) (Goes Other : Status → Type 0) (s : List Status) (e : Evidence)
+    (number : is_between 1 12 e.formula ≡ true)
     (goes : (to : Status) → Goes to → Other to) where
   formula_of : (t : Tableau) (w : Basics) (rate : ℕ → ℕ → ℚ) → Formula (Primal (rhs_family p shift from)) Goes s t w rate e →
       Formula (Pararhs p shift from) Other s t w rate (record e { theta = from })
@@ -127,14 +131,18 @@ module _ (p : LinearProgram) (shift : List ℚ) (from : ℚ) (Goes Other : Statu
   }
 
 holds_of : (p : LinearProgram) (shift : List ℚ) (from : ℚ) (left : ℕ) (bases : List (List Status)) (s : List Status) (w : Basics) (e : Evidence) →
-    EvidenceHolds (Primal (rhs_family p shift from)) None left bases [] s w e → EvidenceHolds (Pararhs p shift from) None left bases [] s w (record e { theta = from })
+    EvidenceHolds (Primal (rhs_family p shift from)) None left bases [] s w e →
+    EvidenceHolds (Pararhs p shift from) None left bases [] s w (record e { theta = from })
 holds_of p shift from left bases s w e r = record {
   before = r.before;
   reached = r.reached;
   ahead = r.ahead;
   is_ahead = is_ahead r.ahead r.is_ahead;
-  shows = shows_of p shift from (GoesTo (Primal (rhs_family p shift from)) None s e) (GoesTo (Pararhs p shift from) None s (record e { theta = from })) s e (step_number e.formula e.term r.of_statement)
-      (λ to l. record { move = l.move; moves = l.moves; enters = l.enters; leaves = l.leaves; goes_to = l.goes_to }) (map basics_of (with_ahead bases r.ahead)) w r.shows;
+  shows =
+      shows_of p shift from (GoesTo (Primal (rhs_family p shift from)) None s e) (GoesTo (Pararhs p shift from) None s (record e { theta = from })) s e
+      (step_number e.formula e.term r.of_statement)
+      (λ to l. record { move = l.move; moves = l.moves; enters = l.enters; leaves = l.leaves; goes_to = l.goes_to })
+      (map basics_of (with_ahead bases r.ahead)) w r.shows;
   is_theta = (1, omega arith, refl);
   of_move = record { enters = r.of_move.enters; brings = λ is. absurd (clash (sym is ∙ step_brings_not e.formula e.term r.of_statement)); steps = λ _. tt };
   of_statement = step_belongs e.formula e.term r.of_statement;
@@ -166,24 +174,29 @@ module _ (p : LinearProgram) (shift : List ℚ) (from : ℚ) (a : Matrix) (b : B
 -- ---- the opening path
 
 module _ (p : LinearProgram) (shift : List ℚ) (span : Span) (s now : List Status) (before after : List Basics) where
-  pub opening_stops : p.change ≡ None → (why : PrimalStop) → PrimalStopsAlong (rhs_family p shift span.from) s now span.limit before after why → MethodStops (rhs_problem p shift) span s now before after (reported_at span.from why)
+  pub opening_stops : p.change ≡ None → (why : PrimalStop) → PrimalStopsAlong (rhs_family p shift span.from) s now span.limit before after why →
+      MethodStops (rhs_problem p shift) span s now before after (reported_at span.from why)
   opening_stops no_change Limit h = opening_goes_on (rhs_family p shift) (IsRhsFace p shift) span.from span.to p.matrix s before now span.limit h
   opening_stops no_change (Overflow e) h = inl (record {
     stands = opening_stands (rhs_family p shift) (IsRhsFace p shift) span.from span.to p.matrix s before now span.limit h.bases h.is_path h.reaches h.within;
     is_way = h.is_way;
     shows = λ earlier lie.
         holds_of p shift span.from (span.limit - length h.bases) (earlier ++ s ∷ h.bases) now (waypoint (basics_of now) after e.way) e
-        (subst (λ (o : Option Change). EvidenceHolds (job_of (rhs_family p shift span.from) o) None (span.limit - length h.bases) (earlier ++ s ∷ h.bases) [] now (waypoint (basics_of now) after e.way) e) no_change
+        (subst (λ (o : Option Change). EvidenceHolds (job_of (rhs_family p shift span.from) o) None (span.limit - length h.bases)
+        (earlier ++ s ∷ h.bases) [] now (waypoint (basics_of now) after e.way) e) no_change
         (h.shows earlier lie));
   })
-  opening_stops no_change NoMemory h = opening_stands (rhs_family p shift) (IsRhsFace p shift) span.from span.to p.matrix s before now span.limit h.0 h.1.0 h.1.1 h.2
+  opening_stops no_change NoMemory h =
+      opening_stands (rhs_family p shift) (IsRhsFace p shift) span.from span.to p.matrix s before now span.limit h.0 h.1.0 h.1.1 h.2
 
   -- nothing is done yet
-  pub no_opening : s ≡ now → (why : Stop) → IfOverflow why (ShiftHolds (Pararhs p shift span.from) []) → MethodStops (rhs_problem p shift) span s now before after (primal_stop_of why)
+  pub no_opening : s ≡ now → (why : Stop) → IfOverflow why (ShiftHolds (Pararhs p shift span.from) []) →
+      MethodStops (rhs_problem p shift) span s now before after (primal_stop_of why)
   no_opening same (stop.Overflow e) h = inr (record { place = InOpening s; path = []; ends = []; reaches = begins; is_now = same; within = omega arith }, h)
   no_opening same stop.NoMemory h = record { place = InOpening s; path = []; ends = []; reaches = begins; is_now = same; within = omega arith }
 
 -- ---- what is asked of the family
 
 pub rhs_parametric : (p : LinearProgram) (shift : List ℚ) → IsLinearProgram p → IsParametric (rhs_problem p shift)
-rhs_parametric p shift lawful = record { same_matrix = λ theta. refl; one_face = rhs_faces p shift lawful; grows = rhs_grows p shift lawful; true_runs = rhs_runs p shift lawful }
+rhs_parametric p shift lawful =
+    record { same_matrix = λ theta. refl; one_face = rhs_faces p shift lawful; grows = rhs_grows p shift lawful; true_runs = rhs_runs p shift lawful }

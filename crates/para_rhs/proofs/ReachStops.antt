@@ -34,7 +34,8 @@ not_three : (side : Side) → nat_eq (number_of side) 3 ≡ false
 not_three Lower = refl
 not_three Upper = refl
 
-module _ (p : LinearProgram) (shift : List ℚ) (lawful : IsLinearProgram p) (s : List Status) (at : IsNonsingularBasis p s) (z v : Vector) (point : IsPointOf p s z) (slope : IsSlope p s shift v) where
+module _ (p : LinearProgram) (shift : List ℚ) (lawful : IsLinearProgram p) (s : List Status) (at : IsNonsingularBasis p s) (z v : Vector)
+    (point : IsPointOf p s z) (slope : IsSlope p s shift v) where
   pub rate : ℕ → ℕ → ℚ
   rate = (rates_exist p.matrix (basics_of s) at.nonsingular).0
 
@@ -61,12 +62,15 @@ module _ (p : LinearProgram) (shift : List ℚ) (lawful : IsLinearProgram p) (s 
   slope_is_sum k is =
       by_nonbasics p.matrix (basics_of s) rate are at.nonsingular v slope.keeps k is
       ∙ sym (combination_in_order p.matrix (basics_of s) rate v k)
-      ∙ ap (λ ks. sum_from zero_ℚ (map (λ j. rate k j *ℚ v j) ks)) (sym (take_all (length (nonbasics p.matrix (basics_of s))) (nonbasics p.matrix (basics_of s)) (omega arith)))
+      ∙ ap (λ ks. sum_from zero_ℚ (map (λ j. rate k j *ℚ v j) ks))
+      (sym (take_all (length (nonbasics p.matrix (basics_of s))) (nonbasics p.matrix (basics_of s)) (omega arith)))
       ∙ sum_same p.matrix (basics_of s) (λ j. rate k j *ℚ v j) (λ j. rate k j *ℚ shift_of p.matrix shift j) (length (nonbasics p.matrix (basics_of s)))
       (λ j out. ap (λ x. rate k j *ℚ x) (slope.placed j out))
 
-  module _ (e : Evidence) (no_way : e.way ≡ 0) (none : e.theta ≡ zero_ℚ) (names : names_waypoint e.formula ≡ false) (quiet : is_quiet e.formula) (of_run : (from : ℚ) → IsTrue (belongs (Pararhs p shift from) e)) where
-    viewed : (from : ℚ) (Goes : Status → Type 0) (wider : List Basics) → IsWithinOne p.matrix (basics_of s) wider → Formula (Pararhs p shift from) Goes s tableau (basics_of s) rate e →
+  module _ (e : Evidence) (no_way : e.way ≡ 0) (none : e.theta ≡ zero_ℚ) (names : names_waypoint e.formula ≡ false) (quiet : is_quiet e.formula)
+      (of_run : (from : ℚ) → IsTrue (belongs (Pararhs p shift from) e)) where
+    viewed : (from : ℚ) (Goes : Status → Type 0) (wider : List Basics) → IsWithinOne p.matrix (basics_of s) wider →
+        Formula (Pararhs p shift from) Goes s tableau (basics_of s) rate e →
         ShowsRefusal (Pararhs p shift from) Goes wider s (basics_of s) e
     viewed from Goes wider own formula = record {
       tableau = tableau;
@@ -79,11 +83,13 @@ module _ (p : LinearProgram) (shift : List ℚ) (lawful : IsLinearProgram p) (s 
       no_way = λ h. (no_way, refl);
     }
 
-    pub here : (before after : List Basics) → ((from : ℚ) (Goes : Status → Type 0) → Formula (Pararhs p shift from) Goes s tableau (basics_of s) rate e) → RunRefused p shift s before after e
+    pub here : (before after : List Basics) → ((from : ℚ) (Goes : Status → Type 0) → Formula (Pararhs p shift from) Goes s tableau (basics_of s) rate e) →
+        RunRefused p shift s before after e
     here before after formula =
         run_refused p shift s before after e (omega (arith, no_way)) none quiet of_run
         (λ from wider cover Goes.
-        subst (λ (w : Basics). ShowsRefusal (Pararhs p shift from) Goes wider s w e) (sym (ap (waypoint (basics_of s) after) no_way)) (viewed from Goes wider cover.0 (formula from Goes)))
+        subst (λ (w : Basics). ShowsRefusal (Pararhs p shift from) Goes wider s w e) (sym (ap (waypoint (basics_of s) after) no_way))
+        (viewed from Goes wider cover.0 (formula from Goes)))
 
     pub by_slopes : (before after : List Basics) → SlopeFormula p s tableau (shift_of p.matrix shift) e → RunRefused p shift s before after e
     by_slopes before after f = here before after (λ from Goes. by_slope tableau
@@ -91,17 +97,22 @@ module _ (p : LinearProgram) (shift : List ℚ) (lawful : IsLinearProgram p) (s 
         (subst (λ (q : LinearProgram). SlopeFormula q s tableau (shift_of p.matrix shift) e) (family_at_zero p shift lawful zero_ℚ refl) f))
 
     pub by_points : (before after : List Basics) → PointFormula p s tableau e → RunRefused p shift s before after e
-    by_points before after f = here before after (λ from Goes. by_point (subst (λ (q : LinearProgram). PointFormula q s tableau e) (family_at_zero p shift lawful e.theta none) f))
+    by_points before after f =
+        here before after (λ from Goes. by_point (subst (λ (q : LinearProgram). PointFormula q s tableau e) (family_at_zero p shift lawful e.theta none) f))
 
-  variable_refused : (before after : List Basics) (k : ℕ) (e : Evidence) → IsVariable p.matrix k → v k ≢ shift_of p.matrix shift k → VariableRefused p shift z v k e → RunRefused p shift s before after e
+  variable_refused : (before after : List Basics) (k : ℕ) (e : Evidence) → IsVariable p.matrix k → v k ≢ shift_of p.matrix shift k →
+      VariableRefused p shift z v k e → RunRefused p shift s before after e
   variable_refused before after k e is moves (of_closing r) =
-      by_slopes e r.no_way r.is_theta (ap names_waypoint r.names.is_formula) (rw r.names.is_formula (refl, refl)) (λ from. rw r.names.is_formula refl) before after
+      by_slopes e r.no_way r.is_theta (ap names_waypoint r.names.is_formula) (rw r.names.is_formula (refl, refl))
+      (λ from. rw r.names.is_formula refl) before after
       (f18_difference k r.names (basic_if_moves k is moves) (subst (λ (x : ℚ). Refuses e Sub x (shift_of p.matrix shift k)) (slope_is_sum k is) r.refuses))
   variable_refused before after k e is moves (of_distance side l limit r) =
-      by_points e r.no_way r.is_theta (ap names_waypoint r.names.is_formula) (rw r.names.is_formula (refl, refl)) (λ from. rw (r.names.is_formula, r.names.is_term, not_three side) refl) before after
+      by_points e r.no_way r.is_theta (ap names_waypoint r.names.is_formula) (rw r.names.is_formula (refl, refl))
+      (λ from. rw (r.names.is_formula, r.names.is_term, not_three side) refl) before after
       (f6 k (number_of side) l r.names is (is_numbered p side k ∙ limit) r.refuses)
   variable_refused before after k e is moves (of_quotient side l limit r) =
-      by_slopes e r.no_way r.is_theta (ap names_waypoint r.names.is_formula) (rw r.names.is_formula (refl, refl)) (λ from. rw r.names.is_formula refl) before after
+      by_slopes e r.no_way r.is_theta (ap names_waypoint r.names.is_formula) (rw r.names.is_formula (refl, refl))
+      (λ from. rw r.names.is_formula refl) before after
       (f18_quotient k (number_of side) l r.names (basic_if_moves k is moves) (is_numbered p side k ∙ limit)
       (λ zero. closing_apart (v k) (shift_of p.matrix shift k) moves (ap (λ x. x -ℚ shift_of p.matrix shift k) (slope_is_sum k is) ∙ zero))
       (subst (λ (x : ℚ). Refuses e Div (l -ℚ z k) (x -ℚ shift_of p.matrix shift k)) (slope_is_sum k is) r.refuses))

@@ -18,9 +18,11 @@ use Rattle.sensitivity_laws.proofs.RightHandSides.{right_hand_sides, dual_feasib
 use Rattle.sensitivity_laws.proofs.Rows.{lawful_rows}
 use Rattle.para_rhs.specs.Reach.{StaysTo, IsReachOf}
 
-module _ (p : LinearProgram) (shift : List ℚ) (lawful : IsLinearProgram p) (s : List Status) (at : IsNonsingularBasis p s) (z v : Vector) (point : IsPointOf p s z) (slope : IsSlope p s shift v) where
+module _ (p : LinearProgram) (shift : List ℚ) (lawful : IsLinearProgram p) (s : List Status) (at : IsNonsingularBasis p s) (z v : Vector)
+    (point : IsPointOf p s z) (slope : IsSlope p s shift v) where
   -- a basis that is optimal at one value is so just where each variable is within its limits
-  pub optimal_where : (from : ℚ) → IsOptimalBasis (rhs_family p shift from) s → (x : ℚ) → IsOptimalBasis (rhs_family p shift x) s ↔ StaysTo p shift z v (size p.matrix) x
+  pub optimal_where : (from : ℚ) → IsOptimalBasis (rhs_family p shift from) s → (x : ℚ) →
+      IsOptimalBasis (rhs_family p shift x) s ↔ StaysTo p shift z v (size p.matrix) x
   optimal_where from optimal x = (λ o k low high. stays.0 o k (low, high), λ h. stays.1 (λ k is. h k is.0 is.1))
     where
       dual : IsDualFeasibleBasis p s (record { point = z; rate = optimal.tableau.rate })
@@ -32,7 +34,8 @@ module _ (p : LinearProgram) (shift : List ℚ) (lawful : IsLinearProgram p) (s 
 
   -- ---- the reach
 
-  module _ (max : ℚ) (ends : Ends) (reach : IsReachOf p shift z v (size p.matrix) max ends) (from : ℚ) (before : from ≤ℚ max) (optimal : IsOptimalBasis (rhs_family p shift from) s) where
+  module _ (max : ℚ) (ends : Ends) (reach : IsReachOf p shift z v (size p.matrix) max ends) (from : ℚ) (before : from ≤ℚ max)
+      (optimal : IsOptimalBasis (rhs_family p shift from) s) where
     pub there : StaysTo p shift z v (size p.matrix) from
     there = (optimal_where from optimal from).0 optimal
 
@@ -46,7 +49,8 @@ module _ (p : LinearProgram) (shift : List ℚ) (lawful : IsLinearProgram p) (s 
       stays : (x : ℚ) → from ≤ℚ x → x ≤ℚ to → (x ≤ℚ max) × StaysTo p shift z v (size p.matrix) x
       stays x low high = (reach from before there x low).0 ((is_high x low).1 high)
 
-      greatest : (u : ℚ) → u ≤ℚ max → ((theta : ℚ) → from ≤ℚ theta → theta ≤ℚ u → IsOptimalBasis (rhs_family p shift theta) s) → (u <ℚ from) ⊎ (from ≤ℚ u) → u ≤ℚ to
+      greatest : (u : ℚ) → u ≤ℚ max → ((theta : ℚ) → from ≤ℚ theta → theta ≤ℚ u → IsOptimalBasis (rhs_family p shift theta) s) → (u <ℚ from) ⊎ (from ≤ℚ u) →
+          u ≤ℚ to
       greatest u within all (inl less) = le_trans (le_of_lt less) forward
       greatest u within all (inr le) = (is_high u le).0 ((reach from before there u le).1 (within, (optimal_where from optimal u).0 (all u le (le_refl u))))
 
@@ -68,5 +72,6 @@ module _ (low high : Option Endpoint) (from : ℚ) (starts : IsBetweenEnds (reco
   below_high None max there x = absurd (let P : IsSome (let o : Option Endpoint = None in o) → ⊥ = λ e. cc in P there)
   below_high (Some e) max there x = (λ h. h, λ h. h)
 
-  pub up_to_high : (max : ℚ) → IsSome high → (x : ℚ) → from ≤ℚ x → IsBetweenEnds (record { low = low; high = high }) x ↔ (x ≤ℚ unwrap_or (option_map (λ e. e.value) high) max)
+  pub up_to_high : (max : ℚ) → IsSome high → (x : ℚ) → from ≤ℚ x →
+      IsBetweenEnds (record { low = low; high = high }) x ↔ (x ≤ℚ unwrap_or (option_map (λ e. e.value) high) max)
   up_to_high max there x after = (λ b. (below_high high max there x).0 b.1, λ le. (above_low low starts.0 x after, (below_high high max there x).1 le))

@@ -27,7 +27,8 @@ module _ (p : LinearProgram) (shift : List ℚ) (s : List Status) (before after 
   theta_is from ends none = (0, omega arith, sym none)
 
   pub quiet_move : (from : ℚ) (breakpoint : Option ℚ) → is_quiet e.formula → IsOfMove (Pararhs p shift from) breakpoint s e
-  quiet_move from breakpoint quiet = record { enters = λ is. absurd (clash (sym is ∙ quiet.0)); brings = λ is. absurd (clash (sym is ∙ quiet.1)); steps = λ is. tt }
+  quiet_move from breakpoint quiet =
+      record { enters = λ is. absurd (clash (sym is ∙ quiet.0)); brings = λ is. absurd (clash (sym is ∙ quiet.1)); steps = λ is. tt }
 
   own_within : (xs : List (List Status)) → IsWithinOne p.matrix (basics_of s) (map basics_of (xs ++ s ∷ []))
   own_within [] = inl (within_itself p.matrix (basics_of s))
@@ -35,7 +36,8 @@ module _ (p : LinearProgram) (shift : List ℚ) (s : List Status) (before after 
 
   -- what shows it wherever the waypoints lie
   pub run_refused : e.way ≤ length after → e.theta ≡ zero_ℚ → is_quiet e.formula → ((from : ℚ) → IsTrue (belongs (Pararhs p shift from) e)) →
-      ((from : ℚ) (wider : List Basics) → Covers p.matrix (basics_of s ∷ before) wider → (Goes : Status → Type 0) → ShowsRefusal (Pararhs p shift from) Goes wider s (waypoint (basics_of s) after e.way) e) →
+      ((from : ℚ) (wider : List Basics) → Covers p.matrix (basics_of s ∷ before) wider → (Goes : Status → Type 0) →
+      ShowsRefusal (Pararhs p shift from) Goes wider s (waypoint (basics_of s) after e.way) e) →
       RunRefused p shift s before after e
   run_refused is_way none quiet of_run shows from breakpoint left = record {
     is_way = is_way;
@@ -44,7 +46,9 @@ module _ (p : LinearProgram) (shift : List ℚ) (s : List Status) (before after 
       reached = refl;
       ahead = None;
       is_ahead = tt;
-      shows = shows from (map basics_of (earlier ++ s ∷ [])) (own_within earlier, Covers-all p.matrix before (map basics_of (earlier ++ s ∷ [])) lie) (GoesTo (Pararhs p shift from) breakpoint s e);
+      shows =
+          shows from (map basics_of (earlier ++ s ∷ [])) (own_within earlier, Covers-all p.matrix before (map basics_of (earlier ++ s ∷ [])) lie)
+          (GoesTo (Pararhs p shift from) breakpoint s e);
       is_theta = theta_is from ends none;
       of_move = quiet_move from breakpoint quiet;
       of_statement = of_run from;
@@ -71,14 +75,18 @@ point_number n h = grind arith
 point_quiet : (n : ℕ) → (is_between 1 5 n || is_between 10 12 n) ≡ true → is_quiet n
 point_quiet n h = (grind arith, grind arith)
 
-point_belongs : (n term : ℕ) → (is_between 1 5 n || is_between 10 12 n) ≡ true → ((is_between 1 14 n || nat_eq n 18) && (not (nat_eq n 6) || not (nat_eq term 3))) ≡ true
+point_belongs : (n term : ℕ) → (is_between 1 5 n || is_between 10 12 n) ≡ true →
+    ((is_between 1 14 n || nat_eq n 18) && (not (nat_eq n 6) || not (nat_eq term 3))) ≡ true
 point_belongs n term h = grind arith
 
-module _ (p : LinearProgram) (shift : List ℚ) (lawful : IsLinearProgram p) (no_change : p.change ≡ None) (s : List Status) (before now : List Basics) (e : Evidence) where
+module _ (p : LinearProgram) (shift : List ℚ) (lawful : IsLinearProgram p) (no_change : p.change ≡ None) (s : List Status) (before now : List Basics)
+    (e : Evidence) where
   pub no_theta : (Goes : Status → Type 0) (around : List Basics) → StopsAt Goes p around s now e → e.theta ≡ zero_ℚ
-  no_theta Goes around stops = only_zero p shift s before now e (subst (λ (o : Option Change). Contains (thetas_of (job_of p o) []) e.theta) no_change stops.is_theta)
+  no_theta Goes around stops =
+      only_zero p shift s before now e (subst (λ (o : Option Change). Contains (thetas_of (job_of p o) []) e.theta) no_change stops.is_theta)
 
-  pub of_stops : (from : ℚ) (breakpoint : Option ℚ) (left : ℕ) → is_between 1 12 e.formula ≡ true → IsOfMove (Pararhs p shift from) breakpoint s e → IsTrue (belongs (Pararhs p shift from) e) →
+  pub of_stops : (from : ℚ) (breakpoint : Option ℚ) (left : ℕ) → is_between 1 12 e.formula ≡ true → IsOfMove (Pararhs p shift from) breakpoint s e →
+      IsTrue (belongs (Pararhs p shift from) e) →
       StopsAt (λ to. ⊥) p (basics_of s ∷ before) s now e → EvidenceHere (Pararhs p shift from) p.matrix breakpoint left s before now e
   of_stops from breakpoint left number of_move of_run stops =
       let none = no_theta (λ to. ⊥) (basics_of s ∷ before) stops in
@@ -88,5 +96,7 @@ module _ (p : LinearProgram) (shift : List ℚ) (lawful : IsLinearProgram p) (no
   -- a point, prices, and the rates of a row or a column
   pub of_point : PointRefused p before s now e → RunRefused p shift s before now e
   of_point r from breakpoint left =
-      let number : (is_between 1 5 e.formula || is_between 10 12 e.formula) ≡ true = subst (λ (o : Option Change). IsTrue (is_of_point o e.formula)) no_change r.of_call in
-      of_stops from breakpoint left (point_number e.formula number) (quiet_move p shift s before now e from breakpoint (point_quiet e.formula number)) (point_belongs e.formula e.term number) r.stops
+      let number : (is_between 1 5 e.formula || is_between 10 12 e.formula) ≡ true =
+      subst (λ (o : Option Change). IsTrue (is_of_point o e.formula)) no_change r.of_call in
+      of_stops from breakpoint left (point_number e.formula number) (quiet_move p shift s before now e from breakpoint (point_quiet e.formula number))
+      (point_belongs e.formula e.term number) r.stops

@@ -35,10 +35,13 @@ is_numbered p Lower i = refl
 is_numbered p Upper i = refl
 
 module _ (p : LinearProgram) (shift : List ℚ) (theta : ℚ) (lawful : IsLinearProgram p) (side : Side) (e : Evidence) where
-  formula_here : (i : ℕ) (l : ℚ) → IsRow p.matrix i → limit_on p side i ≡ Some l → MoveRefused theta (shift_of p.matrix shift i) l i (number_of side) e → ShiftFormula p (shift_of p.matrix shift) e
-  formula_here i l row is (of_product r) = f13_product i r.names row (limited p side i l is) (subst (λ (x : ℚ). Refuses e Mul x (shift_of p.matrix shift i)) (sym r.is_theta) r.refuses)
+  formula_here : (i : ℕ) (l : ℚ) → IsRow p.matrix i → limit_on p side i ≡ Some l → MoveRefused theta (shift_of p.matrix shift i) l i (number_of side) e →
+      ShiftFormula p (shift_of p.matrix shift) e
+  formula_here i l row is (of_product r) =
+      f13_product i r.names row (limited p side i l is) (subst (λ (x : ℚ). Refuses e Mul x (shift_of p.matrix shift i)) (sym r.is_theta) r.refuses)
   formula_here i l row is (of_sum r) =
-      f13_limit i (number_of side) l r.names row (is_numbered p side i ∙ is) (subst (λ (x : ℚ). Refuses e Add l (x *ℚ shift_of p.matrix shift i)) (sym r.is_theta) r.refuses)
+      f13_limit i (number_of side) l r.names row (is_numbered p side i ∙ is)
+      (subst (λ (x : ℚ). Refuses e Add l (x *ℚ shift_of p.matrix shift i)) (sym r.is_theta) r.refuses)
 
   facts : (by l : ℚ) (i which : ℕ) → MoveRefused theta by l i which e → (e.formula ≡ 13) × (e.way ≡ 0) × (e.theta ≡ theta)
   facts by l i which (of_product r) = (r.names.is_formula, r.no_way, r.is_theta)

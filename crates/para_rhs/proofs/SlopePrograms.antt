@@ -92,7 +92,9 @@ module _ (p : LinearProgram) (shift : List ℚ) where
       }
 
 -- what a call keeps at the program of the shifts, it keeps at the program
-pub kept_slope : (p : LinearProgram) (shift : List ℚ) (q : LinearProgram) → q ≡ slope_program p shift → {a c : Matrix} {b d : Basics} {s : List Status} {before after : List Basics} → HasRates a b p s → KeepsRates c d q s before after → KeepsRates c d p s before after
+pub kept_slope : (p : LinearProgram) (shift : List ℚ) (q : LinearProgram) → q ≡ slope_program p shift →
+    {a c : Matrix} {b d : Basics} {s : List Status} {before after : List Basics} → HasRates a b p s → KeepsRates c d q s before after →
+    KeepsRates c d p s before after
 kept_slope p shift q is {a} {c} {b} {d} {s} {before} {after} has kept =
     let there : KeepsRates c d (slope_program p shift) s before after = subst (λ (q : LinearProgram). KeepsRates c d q s before after) is kept in
     (record { is_basis = has.is_basis; nonsingular = has.nonsingular; same_matrix = there.0.same_matrix; same_basics = there.0.same_basics }, there.1)

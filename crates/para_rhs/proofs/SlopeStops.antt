@@ -114,7 +114,8 @@ module _ (p : LinearProgram) (shift : List ℚ) (lawful : IsLinearProgram p) (s 
     placed : (k : ℕ) → IsNonbasic p.matrix (basics_of s) k → t.point k ≡ shift_of p.matrix shift k
     placed k out = (is_slope p shift s at t.point is_t.is_point).placed k out
 
-    same_formula : nat_eq e.formula 10 ≡ false → of_call e.formula → Formula (Primal (slope_program p shift)) (λ to. ⊥) s t w rate e → Formula (Pararhs p shift from) Goes s u w rate e
+    same_formula : nat_eq e.formula 10 ≡ false → of_call e.formula → Formula (Primal (slope_program p shift)) (λ to. ⊥) s t w rate e →
+        Formula (Pararhs p shift from) Goes s u w rate e
     same_formula other call (by_exchange f) = by_exchange f
     same_formula other call (by_entry f) = by_entry f
     same_formula other call (by_carried f) = by_carried f
@@ -123,46 +124,61 @@ module _ (p : LinearProgram) (shift : List ℚ) (lawful : IsLinearProgram p) (s 
     same_formula other call (by_move to goes f) = absurd goes
     same_formula other call (by_ratio f) = absurd (clash (sym (ratio_number (slope_program p shift) s t e f) ∙ not_later e.formula call))
     same_formula other call (by_range f) = absurd (clash (sym (range_number (slope_program p shift) s t e f) ∙ not_later e.formula call))
-    same_formula other call (by_objective f) = absurd (clash (sym (objective_number (slope_program p shift) s t e (change_row (Primal (slope_program p shift))) f) ∙ not_later e.formula call))
-    same_formula other call (by_slope u is f) = absurd (clash (sym (slope_number (slope_program p shift) s u e (shift_at (Primal (slope_program p shift))) f) ∙ not_later e.formula call))
+    same_formula other call (by_objective f) =
+        absurd (clash (sym (objective_number (slope_program p shift) s t e (change_row (Primal (slope_program p shift))) f) ∙ not_later e.formula call))
+    same_formula other call (by_slope u is f) =
+        absurd (clash (sym (slope_number (slope_program p shift) s u e (shift_at (Primal (slope_program p shift))) f) ∙ not_later e.formula call))
 
-    by_sum : IsTableau p s u → SlopeFormula p s u (shift_of p.matrix shift) (record e { formula = 18 }) → Formula (Pararhs p shift from) Goes s u w rate (record e { formula = 18 })
+    by_sum : IsTableau p s u → SlopeFormula p s u (shift_of p.matrix shift) (record e { formula = 18 }) →
+        Formula (Pararhs p shift from) Goes s u w rate (record e { formula = 18 })
     by_sum is f =
         by_slope u (subst (λ (q : LinearProgram). IsTableau q s u) (family_at_zero p shift lawful zero_ℚ refl) is)
         (subst (λ (q : LinearProgram). SlopeFormula q s u (shift_of p.matrix shift) (record e { formula = 18 })) (family_at_zero p shift lawful zero_ℚ refl) f)
 
     of_point : of_call e.formula → PointFormula (slope_program p shift) s t e → SlopeFormula p s u (shift_of p.matrix shift) (record e { formula = 18 })
     of_point call (f6 i which l names is limit refused) = absurd (clash (sym call ∙ ap (λ n. is_between 1 5 n || is_between 10 12 n) names.is_formula))
-    of_point call (f7 q i which l names is out limit rate refused) = absurd (clash (sym call ∙ ap (λ n. is_between 1 5 n || is_between 10 12 n) names.is_formula))
+    of_point call (f7 q i which l names is out limit rate refused) =
+        absurd (clash (sym call ∙ ap (λ n. is_between 1 5 n || is_between 10 12 n) names.is_formula))
     of_point call (f10_product i j term names is next refused) =
-        f18_product i j term (names_as e i j term names) is next (refuses_as e _ (t.rate i j) (t.point j) (t.rate i j) (shift_of p.matrix shift j) refl (placed j (nonbasic_at p.matrix (basics_of s) term j next)) refused)
+        f18_product i j term (names_as e i j term names) is next
+        (refuses_as e _ (t.rate i j) (t.point j) (t.rate i j) (shift_of p.matrix shift j) refl
+        (placed j (nonbasic_at p.matrix (basics_of s) term j next)) refused)
     of_point call (f10_sum i j term names is next refused) =
         f18_sum i j term (names_as e i j term names) is next
-        (refuses_as e _ (nonbasic_sum (slope_program p shift) s t t.point i term) (t.rate i j *ℚ t.point j) (nonbasic_sum p s u (shift_of p.matrix shift) i term) (t.rate i j *ℚ shift_of p.matrix shift j)
-        (sum_same p.matrix (basics_of s) (λ k. t.rate i k *ℚ t.point k) (λ k. t.rate i k *ℚ shift_of p.matrix shift k) term (λ k out. ap (λ x. t.rate i k *ℚ x) (placed k out)))
+        (refuses_as e _ (nonbasic_sum (slope_program p shift) s t t.point i term) (t.rate i j *ℚ t.point j)
+        (nonbasic_sum p s u (shift_of p.matrix shift) i term) (t.rate i j *ℚ shift_of p.matrix shift j)
+        (sum_same p.matrix (basics_of s) (λ k. t.rate i k *ℚ t.point k) (λ k. t.rate i k *ℚ shift_of p.matrix shift k) term
+        (λ k out. ap (λ x. t.rate i k *ℚ x) (placed k out)))
         (ap (λ x. t.rate i j *ℚ x) (placed j (nonbasic_at p.matrix (basics_of s) term j next))) refused)
 
-    slope_formula : nat_eq e.formula 10 ≡ true → of_call e.formula → Formula (Primal (slope_program p shift)) (λ to. ⊥) s t w rate e → Formula (Pararhs p shift from) Goes s u w rate (record e { formula = 18 })
+    slope_formula : nat_eq e.formula 10 ≡ true → of_call e.formula → Formula (Primal (slope_program p shift)) (λ to. ⊥) s t w rate e →
+        Formula (Pararhs p shift from) Goes s u w rate (record e { formula = 18 })
     slope_formula ten call (by_exchange f) = absurd (clash (sym ten ∙ exchange_number (slope_program p shift) s t e w rate f))
     slope_formula ten call (by_entry f) = absurd (clash (sym ten ∙ entry_number (slope_program p shift) s t e w rate f))
     slope_formula ten call (by_carried f) = absurd (clash (sym ten ∙ carried_number (slope_program p shift) s t e w rate f))
     slope_formula ten call (by_point f) = by_sum is_u (of_point call f)
-    slope_formula ten call (by_slack (f6_slack i names is refused)) = absurd (clash (sym call ∙ ap (λ n. is_between 1 5 n || is_between 10 12 n) names.is_formula))
+    slope_formula ten call (by_slack (f6_slack i names is refused)) =
+        absurd (clash (sym call ∙ ap (λ n. is_between 1 5 n || is_between 10 12 n) names.is_formula))
     slope_formula ten call (by_move to goes f) = absurd goes
     slope_formula ten call (by_ratio f) = absurd (clash (sym (ratio_number (slope_program p shift) s t e f) ∙ not_later e.formula call))
     slope_formula ten call (by_range f) = absurd (clash (sym (range_number (slope_program p shift) s t e f) ∙ not_later e.formula call))
-    slope_formula ten call (by_objective f) = absurd (clash (sym (objective_number (slope_program p shift) s t e (change_row (Primal (slope_program p shift))) f) ∙ not_later e.formula call))
-    slope_formula ten call (by_slope u is f) = absurd (clash (sym (slope_number (slope_program p shift) s u e (shift_at (Primal (slope_program p shift))) f) ∙ not_later e.formula call))
+    slope_formula ten call (by_objective f) =
+        absurd (clash (sym (objective_number (slope_program p shift) s t e (change_row (Primal (slope_program p shift))) f) ∙ not_later e.formula call))
+    slope_formula ten call (by_slope u is f) =
+        absurd (clash (sym (slope_number (slope_program p shift) s u e (shift_at (Primal (slope_program p shift))) f) ∙ not_later e.formula call))
 
   names_point : nat_eq e.formula 10 ≡ true → e.formula ≡ 10
   names_point ten = grind arith
 
-  module _ (from : ℚ) (Goes : Status → Type 0) (around wider : List Basics) (w : Basics) (none : e.theta ≡ zero_ℚ) (call : of_call e.formula) (cover : Covers p.matrix around wider)
+  module _ (from : ℚ) (Goes : Status → Type 0) (around wider : List Basics) (w : Basics) (none : e.theta ≡ zero_ℚ) (call : of_call e.formula)
+      (cover : Covers p.matrix around wider)
       (h : ShowsRefusal (Primal (slope_program p shift)) (λ to. ⊥) around s w e) where
     same_view : nat_eq e.formula 10 ≡ false → ShowsRefusal (Pararhs p shift from) Goes wider s w e
     same_view other = record {
       tableau = u from Goes h.tableau h.is_tableau w h.way_rate;
-      is_tableau = subst (λ (q : LinearProgram). IsTableau q s (u from Goes h.tableau h.is_tableau w h.way_rate)) (family_at_zero p shift lawful e.theta none) (is_u from Goes h.tableau h.is_tableau w h.way_rate);
+      is_tableau =
+          subst (λ (q : LinearProgram). IsTableau q s (u from Goes h.tableau h.is_tableau w h.way_rate)) (family_at_zero p shift lawful e.theta none)
+          (is_u from Goes h.tableau h.is_tableau w h.way_rate);
       way_rate = h.way_rate;
       are_way_rates = h.are_way_rates;
       formula = same_formula from Goes h.tableau h.is_tableau w h.way_rate other call h.formula;
@@ -174,7 +190,9 @@ module _ (p : LinearProgram) (shift : List ℚ) (lawful : IsLinearProgram p) (s 
     slope_view : nat_eq e.formula 10 ≡ true → ShowsRefusal (Pararhs p shift from) Goes wider s w (record e { formula = 18 })
     slope_view ten = record {
       tableau = u from Goes h.tableau h.is_tableau w h.way_rate;
-      is_tableau = subst (λ (q : LinearProgram). IsTableau q s (u from Goes h.tableau h.is_tableau w h.way_rate)) (family_at_zero p shift lawful e.theta none) (is_u from Goes h.tableau h.is_tableau w h.way_rate);
+      is_tableau =
+          subst (λ (q : LinearProgram). IsTableau q s (u from Goes h.tableau h.is_tableau w h.way_rate)) (family_at_zero p shift lawful e.theta none)
+          (is_u from Goes h.tableau h.is_tableau w h.way_rate);
       way_rate = h.way_rate;
       are_way_rates = h.are_way_rates;
       formula = slope_formula from Goes h.tableau h.is_tableau w h.way_rate ten call h.formula;
@@ -183,17 +201,22 @@ module _ (p : LinearProgram) (shift : List ℚ) (lawful : IsLinearProgram p) (s 
       no_way = λ names. h.no_way (rw (names_point ten) refl);
     }
 
-  pub slope_refused : p.change ≡ None → (before after : List Basics) → PointRefused (slope_program p shift) before s after e → RunRefused p shift s before after (slope_evidence e)
+  pub slope_refused : p.change ≡ None → (before after : List Basics) → PointRefused (slope_program p shift) before s after e →
+      RunRefused p shift s before after (slope_evidence e)
   slope_refused no_change before after h = by_number (nat_eq e.formula 10) refl
     where
       call : of_call e.formula
       call = subst (λ (o : Option Change). IsTrue (is_of_point o e.formula)) no_change h.of_call
 
       none : e.theta ≡ zero_ℚ
-      none = only_zero p shift s before after e (subst (λ (o : Option Change). Contains (thetas_of (job_of (slope_program p shift) o) []) e.theta) no_change h.stops.is_theta)
+      none =
+          only_zero p shift s before after e
+          (subst (λ (o : Option Change). Contains (thetas_of (job_of (slope_program p shift) o) []) e.theta) no_change h.stops.is_theta)
 
       viewed : ShowsRefusal (Primal (slope_program p shift)) (λ to. ⊥) (basics_of s ∷ before) s (waypoint (basics_of s) after e.way) e
-      viewed = subst (λ (o : Option Change). ShowsRefusal (job_of (slope_program p shift) o) (λ to. ⊥) (basics_of s ∷ before) s (waypoint (basics_of s) after e.way) e) no_change h.stops.shows
+      viewed =
+          subst (λ (o : Option Change). ShowsRefusal (job_of (slope_program p shift) o) (λ to. ⊥) (basics_of s ∷ before) s
+          (waypoint (basics_of s) after e.way) e) no_change h.stops.shows
 
       by_number : (b : Bool) → nat_eq e.formula 10 ≡ b → RunRefused p shift s before after (cond b (record e { formula = 18 }) e)
       by_number true ten =

@@ -11,4 +11,5 @@ use Rattle.bounded_primal.specs.Calls.{EvidenceHere}
 
 -- with any number of steps left, at a breakpoint or where an interval begins; before and after are the waypoints of the call
 abbrev pub RunRefused : LinearProgram → List ℚ → List Status → List Basics → List Basics → Evidence → Type 0
-RunRefused p shift s before after e = (from : ℚ) (breakpoint : Option ℚ) (left : ℕ) → EvidenceHere (Pararhs p shift from) p.matrix breakpoint left s before after e
+RunRefused p shift s before after e =
+    (from : ℚ) (breakpoint : Option ℚ) (left : ℕ) → EvidenceHere (Pararhs p shift from) p.matrix breakpoint left s before after e

@@ -106,7 +106,8 @@ pub fn infeasible_end(
     theta: Frac,
 ) -> Result<ParaEnd, NoMemory>
     requires { length workspace.now.row.items ≡ size lp.now.matrix }
-    ensures { IfOk result (IsInfeasiblePast lp.now theta (ray_from (value_at workspace.now.row.items)
+    ensures { IfOk result
+        (IsInfeasiblePast lp.now theta (ray_from (value_at workspace.now.row.items)
         leaver.now.r (not (is_upper leaver.now.side)))) }
 {
     let below = is_lower(leaver.side);

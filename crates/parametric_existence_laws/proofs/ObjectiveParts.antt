@@ -40,7 +40,8 @@ module _ (p : LinearProgram) (h : ℕ) (lawful : IsLinearProgram p) (row : IsRow
       is_basis = at.is_basis;
       nonsingular = at.nonsingular;
       objective_row = lawful.objective_row;
-      is_tableau = let tab = optimal.is_tableau in record { is_point = record { keeps = tab.is_point.keeps; placed = tab.is_point.placed }; are_rates = tab.are_rates };
+      is_tableau =
+          let tab = optimal.is_tableau in record { is_point = record { keeps = tab.is_point.keeps; placed = tab.is_point.placed }; are_rates = tab.are_rates };
       feasible = record { keeps = optimal.feasible.keeps; within = optimal.feasible.within };
     }
 
@@ -71,7 +72,9 @@ module _ (p : LinearProgram) (h : ℕ) (lawful : IsLinearProgram p) (row : IsRow
       prices = λ k is. along_listed p.matrix theta (row_prices p.objective) (row_prices h) k is ∙ by_mark k (is_in (basics_of s) k);
     }
       where
-        by_mark : (k : ℕ) (mark : Bool) → cond mark zero_ℚ (t.rate p.objective k) +ℚ theta *ℚ cond mark zero_ℚ (t.rate h k) ≡ cond mark zero_ℚ (objective_rate (objective_family p h theta) t.rate k)
+        by_mark : (k : ℕ) (mark : Bool) →
+            cond mark zero_ℚ (t.rate p.objective k) +ℚ theta *ℚ cond mark zero_ℚ (t.rate h k) ≡ cond mark zero_ℚ
+            (objective_rate (objective_family p h theta) t.rate k)
         by_mark k true = by_ring1 theta (λ x. number (pos 0) ⊕ x ⊗ number (pos 0) ≐ number (pos 0)) refl
         by_mark k false = refl
 

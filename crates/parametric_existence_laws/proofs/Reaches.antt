@@ -37,10 +37,12 @@ module _ (family : ℚ → LinearProgram) (s : List Status) (cs : List Condition
 sized : (a : Matrix) (f : Vector) → length (listed a f) ≡ size a
 sized a f = length-map (variables a) f ∙ length-numbers_from 1 (size a)
 
-pub are_counted : (family : ℚ → LinearProgram) (from : ℚ) (value rate : Vector) → AreCounted family from (listed (family from).matrix value) (listed (family from).matrix rate)
+pub are_counted : (family : ℚ → LinearProgram) (from : ℚ) (value rate : Vector) →
+    AreCounted family from (listed (family from).matrix value) (listed (family from).matrix rate)
 are_counted family from value rate = record { value_counted = sized (family from).matrix value; rate_counted = sized (family from).matrix rate }
 
-pub along_listed : (a : Matrix) (theta : ℚ) (value rate : Vector) (k : ℕ) → IsVariable a k → along theta (listed a value) (listed a rate) k ≡ value k +ℚ theta *ℚ rate k
+pub along_listed : (a : Matrix) (theta : ℚ) (value rate : Vector) (k : ℕ) → IsVariable a k →
+    along theta (listed a value) (listed a rate) k ≡ value k +ℚ theta *ℚ rate k
 along_listed a theta value rate k is = ap₂ (λ z v. z +ℚ theta *ℚ v) (value_at-listed a value k is) (value_at-listed a rate k is)
 
 -- a vector with the values of the point of a basis is its point

@@ -81,7 +81,8 @@ module _ (p : LinearProgram) (shift : List ℚ) (theta : ℚ) (s : List Status) 
   unfolding rhs_face
   is_exchange m e = leaving_by m (leaving p shift theta s t v) refl e
 
-module _ (p : LinearProgram) (shift : List ℚ) (lawful : IsLinearProgram p) (no_change : p.change ≡ None) (theta : ℚ) (s : List Status) (at : IsNonsingularBasis p s)
+module _ (p : LinearProgram) (shift : List ℚ) (lawful : IsLinearProgram p) (no_change : p.change ≡ None) (theta : ℚ) (s : List Status)
+    (at : IsNonsingularBasis p s)
     (optimal : IsOptimalBasis (rhs_family p shift theta) s) (t : Tableau) (tab : IsTableau (rhs_family p shift theta) s t) (v : Vector)
     (m : Move) (move : IsFaceExchange (rhs_family p shift theta) shift theta s t v m) where
   abbrev now : LinearProgram
@@ -124,10 +125,12 @@ module _ (p : LinearProgram) (shift : List ℚ) (lawful : IsLinearProgram p) (no
   least j is own =
       le_from_test (ratio now s t move.r move.q) (ratio now s t move.r j)
       (passes_left (restores_feasibility now s t move.r below j) _
-      (list_all_true (λ j. not (restores_feasibility now s t move.r below j) || le_ℚ (ratio now s t move.r move.q) (ratio now s t move.r j)) (size p.matrix) 1 tests.1 j is.0 (omega (arith, is.1))) own)
+      (list_all_true (λ j. not (restores_feasibility now s t move.r below j) || le_ℚ (ratio now s t move.r move.q) (ratio now s t move.r j))
+      (size p.matrix) 1 tests.1 j is.0 (omega (arith, is.1))) own)
 
   -- what leaves stands at the limit to which it goes
-  stands : (b : Bool) → leaves_below now shift theta s t v move.r ≡ b → StandsAt (if b then Ll else Ul) (lower_of now move.r) (upper_of now move.r) (t.point move.r)
+  stands : (b : Bool) → leaves_below now shift theta s t v move.r ≡ b →
+      StandsAt (if b then Ll else Ul) (lower_of now move.r) (upper_of now move.r) (t.point move.r)
   stands true e = stands_on (t.point move.r) (lower_of now move.r) (and_parts _ _ e).0
   stands false e = stands_on (t.point move.r) (upper_of now move.r) (and_parts _ _ (other_of _ _ e marks.1)).0
 
@@ -138,8 +141,10 @@ module _ (p : LinearProgram) (shift : List ℚ) (lawful : IsLinearProgram p) (no
   point_after : IsPointOf now (after s exchange) t.point
   point_after =
       subst (IsPointOf now (after s exchange)) (λ i k. by_ring2 (t.point k) (t.rate k move.q) (λ y d. y ⊕ number (pos 0) ⊗ d ≐ y) refl i)
-      (IsPointOf-replaced now s there.is_basis t.point tab.is_point move.q enters_now.0 (λ i. t.rate i move.q) (tab.are_rates move.q enters_now) zero_ℚ move.r to basic.0
-      (subst (λ y. StandsAt to (lower_of now move.r) (upper_of now move.r) y) (sym (by_ring2 (t.point move.r) (t.rate move.r move.q) (λ y d. y ⊕ number (pos 0) ⊗ d ≐ y) refl))
+      (IsPointOf-replaced now s there.is_basis t.point tab.is_point move.q enters_now.0 (λ i. t.rate i move.q)
+      (tab.are_rates move.q enters_now) zero_ℚ move.r to basic.0
+      (subst (λ y. StandsAt to (lower_of now move.r) (upper_of now move.r) y)
+      (sym (by_ring2 (t.point move.r) (t.rate move.r move.q) (λ y d. y ⊕ number (pos 0) ⊗ d ≐ y) refl))
       (stands below refl)))
 
   exchanged_optimal : IsNonsingularBasis p (after s exchange) → IsOptimalBasis now (after s exchange)
@@ -213,7 +218,8 @@ module _ (p : LinearProgram) (shift : List ℚ) (lawful : IsLinearProgram p) (no
 
     moved : (theta : ℚ) → IsPointOf (rhs_family p shift theta) s (along theta (listed p.matrix t.point) (listed p.matrix v))
     moved theta =
-        point_same (rhs_family p shift theta) s _ (along theta (listed p.matrix t.point) (listed p.matrix v)) (λ k is. along_listed p.matrix theta t.point v k is)
+        point_same (rhs_family p shift theta) s _ (along theta (listed p.matrix t.point) (listed p.matrix v))
+        (λ k is. along_listed p.matrix theta t.point v k is)
         (points p shift s at t.point v has.is_tableau.is_point slope theta)
 
     abbrev prices : Vector

@@ -26,15 +26,19 @@ pub record HasParts (p : LinearProgram) (family : ℚ → LinearProgram) (Face :
   pub lawful : (theta : ℚ) → IsLinearProgram (family theta)
   pub bases : KeepsBases p family Face
   pub face : (theta : ℚ) (s : List Status) → IsNonsingularBasis p s → (turn : FaceTurn) × Face theta s turn
-  pub part : (from max : ℚ) (s : List Status) → from ≤ℚ max → IsNonsingularBasis p s → IsOptimalBasis (family from) s → (part : Part) × IsPart family from max s part
-  pub keeps : (theta : ℚ) (s : List Status) (m : Move) → IsNonsingularBasis p s → IsOptimalBasis (family theta) s → Face theta s (FaceMoves m) → IsOptimalBasis (family theta) (after s m)
-  pub grows : (theta max : ℚ) (s : List Status) (part : Part) → IsNonsingularBasis p s → theta <ℚ max → Face theta s FaceDone → IsPart family theta max s part → theta <ℚ part.to
+  pub part : (from max : ℚ) (s : List Status) → from ≤ℚ max → IsNonsingularBasis p s → IsOptimalBasis (family from) s →
+      (part : Part) × IsPart family from max s part
+  pub keeps : (theta : ℚ) (s : List Status) (m : Move) → IsNonsingularBasis p s → IsOptimalBasis (family theta) s → Face theta s (FaceMoves m) →
+      IsOptimalBasis (family theta) (after s m)
+  pub grows : (theta max : ℚ) (s : List Status) (part : Part) → IsNonsingularBasis p s → theta <ℚ max → Face theta s FaceDone → IsPart family theta max s part →
+      theta <ℚ part.to
 
 module _ (p : LinearProgram) (family : ℚ → LinearProgram) (Face : Faces) (has : HasParts p family Face) where
   -- where an interval has ended before the last value, something is left to do
   no_progress : (theta max to : ℚ) (now : List Status) → IsNonsingularBasis p now → ReachesTo family now theta max to → to <ℚ max → Face to now FaceDone → ⊥
   no_progress theta max to now at reaches below done =
-      lt_not_le (has.grows to max now part at below done is) (reaches.greatest part.to is.reaches.within (λ x past before. by_order x past before (lt_or_le x to)))
+      lt_not_le (has.grows to max now part at below done is)
+      (reaches.greatest part.to is.reaches.within (λ x past before. by_order x past before (lt_or_le x to)))
     where
       next : (part : Part) × IsPart family to max now part
       next = has.part to max now (le_of_lt below) at (reaches.optimal to reaches.forward (le_refl to))
@@ -54,7 +58,8 @@ module _ (p : LinearProgram) (family : ℚ → LinearProgram) (Face : Faces) (ha
     On = RunGoesOnFor family Face from max s steps
 
     abbrev Arrives : ℚ → List Status → List (List Status) → Type 0
-    Arrives theta now path = (to : ℚ) → ReachesTo family now theta max to → to <ℚ max → (ends : List ℚ) × Reaches family Face from max s (AtBreakpoint to now) path ends
+    Arrives theta now path =
+        (to : ℚ) → ReachesTo family now theta max to → to <ℚ max → (ends : List ℚ) × Reaches family Face from max s (AtBreakpoint to now) path ends
 
     -- the intervals from a value on, with at most so many face steps
     record ChainWithin (left : ℕ) (theta : ℚ) (now : List Status) : Type 0 where
@@ -66,13 +71,17 @@ module _ (p : LinearProgram) (family : ℚ → LinearProgram) (Face : Faces) (ha
 
     -- what is done at a breakpoint, and after it
     data RestWithin (left : ℕ) (theta : ℚ) (now : List Status) : Type 0 where
-      closes : (bases : List (List Status)) (end : ChainEnd) → FacesTo family Face max theta now bases (FaceEnds end) → length bases ≤ left → RestWithin left theta now
-      continues : (bases : List (List Status)) (parts : List Part) (end : ChainEnd) (later : List (List Status)) → FacesTo family Face max theta now bases FaceDone →
+      closes : (bases : List (List Status)) (end : ChainEnd) → FacesTo family Face max theta now bases (FaceEnds end) → length bases ≤ left →
+          RestWithin left theta now
+      continues : (bases : List (List Status)) (parts : List Part) (end : ChainEnd) (later : List (List Status)) →
+          FacesTo family Face max theta now bases FaceDone →
           IsChain family Face max theta (last_of now bases) parts end later → length bases + length later ≤ left → RestWithin left theta now
 
     -- at a breakpoint of a run that has taken its steps but for so many
     abbrev Rests : ℕ → Type 0
-    Rests left = (theta : ℚ) (now : List Status) (path : List (List Status)) (ends : List ℚ) → IsNonsingularBasis p now → IsOptimalBasis (family theta) now → theta <ℚ max →
+    Rests left =
+        (theta : ℚ) (now : List Status) (path : List (List Status)) (ends : List ℚ) → IsNonsingularBasis p now → IsOptimalBasis (family theta) now →
+        theta <ℚ max →
         length path + left ≡ steps → Reaches family Face from max s (AtBreakpoint theta now) path ends → RestWithin left theta now ⊎ On
 
     -- what is known of fewer steps
@@ -82,11 +91,13 @@ module _ (p : LinearProgram) (family : ℚ → LinearProgram) (Face : Faces) (ha
 
     -- ---- a face step
 
-    one_more : (left : ℕ) (theta : ℚ) (now next : List Status) → IsFaceStep family Face theta now next → RestWithin left theta next → RestWithin (suc left) theta now
+    one_more : (left : ℕ) (theta : ℚ) (now next : List Status) → IsFaceStep family Face theta now next → RestWithin left theta next →
+        RestWithin (suc left) theta now
     one_more left theta now next step (closes bases end faces within) =
         closes (next ∷ bases) end (record { before_max = faces.before_max; face_path = (step, faces.face_path); last = faces.last }) (omega (arith, within))
     one_more left theta now next step (continues bases parts end later faces chain within) =
-        continues (next ∷ bases) parts end later (record { before_max = faces.before_max; face_path = (step, faces.face_path); last = faces.last }) chain (omega (arith, within))
+        continues (next ∷ bases) parts end later (record { before_max = faces.before_max; face_path = (step, faces.face_path); last = faces.last }) chain
+        (omega (arith, within))
 
     or_on : {A B : Type 0} → (A → B) → A ⊎ On → B ⊎ On
     or_on f (inl a) = inl (f a)
@@ -95,10 +106,20 @@ module _ (p : LinearProgram) (family : ℚ → LinearProgram) (Face : Faces) (ha
     counted_more : (path : List (List Status)) (next : List Status) (left : ℕ) → length path + suc left ≡ steps → length (path ++ next ∷ []) + left ≡ steps
     counted_more path next left count = let longer = length-append path (next ∷ []) in omega (arith, count, longer)
 
-    moves : (left : ℕ) → Earlier left → (theta : ℚ) (now : List Status) (path : List (List Status)) (ends : List ℚ) → IsNonsingularBasis p now → IsOptimalBasis (family theta) now → theta <ℚ max →
-        length path + left ≡ steps → Reaches family Face from max s (AtBreakpoint theta now) path ends → (m : Move) → Face theta now (FaceMoves m) → RestWithin left theta now ⊎ On
+    moves : (left : ℕ) → Earlier left → (theta : ℚ) (now : List Status) (path : List (List Status)) (ends : List ℚ) → IsNonsingularBasis p now →
+        IsOptimalBasis (family theta) now → theta <ℚ max →
+        length path + left ≡ steps → Reaches family Face from max s (AtBreakpoint theta now) path ends → (m : Move) → Face theta now (FaceMoves m) →
+        RestWithin left theta now ⊎ On
     moves zero earlier theta now path ends at optimal below count reaches m face =
-        inr (record { place = AtBreakpoint theta now; path = path; ends = ends; reaches = reaches; taken = omega (arith, count); goes_on = (after now m, (m, face, refl)) })
+        inr (record {
+          place = AtBreakpoint theta now;
+          path = path;
+          ends = ends;
+          reaches = reaches;
+          taken = omega (arith, count);
+          goes_on =
+              (after now m, (m, face, refl));
+        })
     moves (suc left) earlier theta now path ends at optimal below count reaches m face =
         or_on (one_more left theta now (after now m) (m, face, refl))
         (earlier theta (after now m) (path ++ after now m ∷ []) ends (has.bases.face_leads theta now m at face) (has.keeps theta now m at optimal face) below
@@ -106,7 +127,8 @@ module _ (p : LinearProgram) (family : ℚ → LinearProgram) (Face : Faces) (ha
 
     -- ---- an interval
 
-    module _ (left : ℕ) (earlier : Earlier left) (theta : ℚ) (now : List Status) (path : List (List Status)) (at : IsNonsingularBasis p now) (count : length path + left ≡ steps)
+    module _ (left : ℕ) (earlier : Earlier left) (theta : ℚ) (now : List Status) (path : List (List Status)) (at : IsNonsingularBasis p now)
+        (count : length path + left ≡ steps)
         (arrives : Arrives theta now path) (part : Part) (is : IsPart family theta max now part) where
       followed : RestWithin left part.to now → ChainWithin left theta now
       followed (closes bases end faces within) = record { parts = part ∷ []; end = end; path = bases; chain = past_breakpoint is faces; within = within }
@@ -128,13 +150,22 @@ module _ (p : LinearProgram) (family : ℚ → LinearProgram) (Face : Faces) (ha
             or_on followed (moves left earlier part.to now path there.0 at optimal_there below count there.1 m face)
         at_breakpoint FaceDone face = absurd (no_progress theta max part.to now at is.reaches below face)
         at_breakpoint (FaceEnds end) face =
-            inl (record { parts = part ∷ []; end = end; path = []; chain = past_breakpoint is (record { before_max = below; face_path = tt; last = face }); within = omega arith })
+            inl (record {
+              parts = part ∷ [];
+              end = end;
+              path = [];
+              chain = past_breakpoint is
+                  (record { before_max = below; face_path = tt; last = face });
+              within = omega arith;
+            })
 
       by_end : (part.to <ℚ max) ⊎ (max ≤ℚ part.to) → ChainWithin left theta now ⊎ On
       by_end (inl below) = let face = has.face part.to now at in at_breakpoint below face.0 face.1
-      by_end (inr last) = inl (record { parts = part ∷ []; end = AtMax; path = []; chain = at_max is (le_antisymm is.reaches.within last); within = omega arith })
+      by_end (inr last) =
+          inl (record { parts = part ∷ []; end = AtMax; path = []; chain = at_max is (le_antisymm is.reaches.within last); within = omega arith })
 
-    chain_from : (left : ℕ) → Earlier left → (theta : ℚ) (now : List Status) (path : List (List Status)) → IsNonsingularBasis p now → IsOptimalBasis (family theta) now → theta ≤ℚ max →
+    chain_from : (left : ℕ) → Earlier left → (theta : ℚ) (now : List Status) (path : List (List Status)) → IsNonsingularBasis p now →
+        IsOptimalBasis (family theta) now → theta ≤ℚ max →
         length path + left ≡ steps → Arrives theta now path → ChainWithin left theta now ⊎ On
     chain_from left earlier theta now path at optimal forward count arrives =
         let own = has.part theta max now forward at optimal in
@@ -149,8 +180,10 @@ module _ (p : LinearProgram) (family : ℚ → LinearProgram) (Face : Faces) (ha
         by_turn (FaceMoves m) face = moves left earlier theta now path ends at optimal below count reaches m face
         by_turn (FaceEnds end) face = inl (closes [] end (record { before_max = below; face_path = tt; last = face }) (omega arith))
         by_turn FaceDone face =
-            or_on (λ (chain : ChainWithin left theta now). continues [] chain.parts chain.end chain.path (record { before_max = below; face_path = tt; last = face }) chain.chain (let within = chain.within in omega (arith, within)))
-            (chain_from left earlier theta now path at optimal (le_of_lt below) count (λ to there within. (to ∷ ends, next_breakpoint reaches face there within)))
+            or_on (λ (chain : ChainWithin left theta now). continues [] chain.parts chain.end chain.path
+            (record { before_max = below; face_path = tt; last = face }) chain.chain (let within = chain.within in omega (arith, within)))
+            (chain_from left earlier theta now path at optimal (le_of_lt below) count
+            (λ to there within. (to ∷ ends, next_breakpoint reaches face there within)))
 
     rests : (left : ℕ) → Rests left
     rests zero = rests_from zero tt
@@ -162,7 +195,8 @@ module _ (p : LinearProgram) (family : ℚ → LinearProgram) (Face : Faces) (ha
 
     -- ---- the opening path
 
-    opens_over : (now : List Status) (path bases : List (List Status)) → Reaches family Face from max s (InOpening now) path [] → RulePath turn (family from) now bases →
+    opens_over : (now : List Status) (path bases : List (List Status)) → Reaches family Face from max s (InOpening now) path [] →
+        RulePath turn (family from) now bases →
         Reaches family Face from max s (InOpening (last_of now bases)) (path ++ bases) []
     opens_over now path [] reaches is_path = subst (λ xs. Reaches family Face from max s (InOpening now) xs []) (sym (append-nil path)) reaches
     opens_over now path (next ∷ bases) reaches is_path =
@@ -180,10 +214,14 @@ module _ (p : LinearProgram) (family : ℚ → LinearProgram) (Face : Faces) (ha
         goes_on = (on.next, on.is_step);
       }
 
-      opened : (bases : List (List Status)) (ending : PathEnding) → PathEnds (family from) s bases ending → length bases ≤ steps → EndsRun family Face from max s steps ⊎ On
-      opened bases (EndsCrossed k) ends within = inl (record { report = FailedOpening (EndsCrossed k); path = bases; is_report = record { opens = ends; is_failure = tt }; within = within })
-      opened bases (EndsInfeasible w) ends within = inl (record { report = FailedOpening (EndsInfeasible w); path = bases; is_report = record { opens = ends; is_failure = tt }; within = within })
-      opened bases (EndsUnbounded z d) ends within = inl (record { report = FailedOpening (EndsUnbounded z d); path = bases; is_report = record { opens = ends; is_failure = tt }; within = within })
+      opened : (bases : List (List Status)) (ending : PathEnding) → PathEnds (family from) s bases ending → length bases ≤ steps →
+          EndsRun family Face from max s steps ⊎ On
+      opened bases (EndsCrossed k) ends within =
+          inl (record { report = FailedOpening (EndsCrossed k); path = bases; is_report = record { opens = ends; is_failure = tt }; within = within })
+      opened bases (EndsInfeasible w) ends within =
+          inl (record { report = FailedOpening (EndsInfeasible w); path = bases; is_report = record { opens = ends; is_failure = tt }; within = within })
+      opened bases (EndsUnbounded z d) ends within =
+          inl (record { report = FailedOpening (EndsUnbounded z d); path = bases; is_report = record { opens = ends; is_failure = tt }; within = within })
       opened bases (EndsOptimal z y) ends within =
           or_on whole
           (chain_from (steps - length bases) (earlier_of (steps - length bases)) from (last_of s bases) bases there optimal forward (omega (arith, within))

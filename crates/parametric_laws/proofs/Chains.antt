@@ -38,10 +38,12 @@ covered_more from theta part parts begins after (inr past) rest =
     record { part = there.part; among = (suc there.among.0, omega (arith, there.among.1), there.among.2); after = there.after; before = there.before }
 
 -- a failed opening
-failure_true : (p : LinearProgram) (s : List Status) (ending : PathEnding) (path : List (List Status)) → IsLinearProgram p → IsNonsingularBasis p (last_of s path) →
+failure_true : (p : LinearProgram) (s : List Status) (ending : PathEnding) (path : List (List Status)) → IsLinearProgram p →
+    IsNonsingularBasis p (last_of s path) →
     PathEnds p s path ending → IsFailure ending → IsTrueFailure p ending
 failure_true p s (EndsOptimal z y) path lawful at ends failure = failure
-failure_true p s (EndsCrossed k) path lawful at ends failure = let crossed = crossed_end p (last_of s path) k ends.ends in (crossed, infeasible_by_crossed p k crossed)
+failure_true p s (EndsCrossed k) path lawful at ends failure =
+    let crossed = crossed_end p (last_of s path) k ends.ends in (crossed, infeasible_by_crossed p k crossed)
 failure_true p s (EndsInfeasible w) path lawful at ends failure =
     let ray = infeasible_end p (last_of s path) w at.is_basis at.nonsingular ends.ends in
     record { ray = ray; infeasible = infeasible_by_ray p _ ray }
@@ -55,27 +57,35 @@ module _ (p : LinearProgram) (family : ℚ → LinearProgram) (Face : ℚ → Li
     (lawful : (theta : ℚ) → IsLinearProgram (family theta)) (Known : ℚ → List Status → Type 0)
     (known : (theta : ℚ) (s : List Status) → IsOptimalBasis (family theta) s → Known theta s)
     (kept : (theta : ℚ) (s : List Status) (m : Move) → IsNonsingularBasis p s → Known theta s → Face theta s (FaceMoves m) → Known theta (after s m))
-    (grows : (theta max : ℚ) (s : List Status) (part : Part) → IsNonsingularBasis p s → theta <ℚ max → Face theta s FaceDone → IsPart family theta max s part → theta <ℚ part.to)
-    (closes : (theta max : ℚ) (s : List Status) (end : ChainEnd) → IsNonsingularBasis p s → theta <ℚ max → Known theta s → Face theta s (FaceEnds end) → IsTrueEnd family max theta end) where
+    (grows : (theta max : ℚ) (s : List Status) (part : Part) → IsNonsingularBasis p s → theta <ℚ max → Face theta s FaceDone → IsPart family theta max s part →
+    theta <ℚ part.to)
+    (closes : (theta max : ℚ) (s : List Status) (end : ChainEnd) → IsNonsingularBasis p s → theta <ℚ max → Known theta s → Face theta s (FaceEnds end) →
+    IsTrueEnd family max theta end) where
   kept_by_step : (theta : ℚ) (s next : List Status) → IsNonsingularBasis p s → Known theta s → IsFaceStep family Face theta s next → Known theta next
   kept_by_step theta s next at have step = rw step.2 (kept theta s step.0 at have step.1)
 
-  kept_by_path : (theta : ℚ) (s : List Status) (bases : List (List Status)) → IsNonsingularBasis p s → Known theta s → IsFacePath family Face theta s bases → Known theta (last_of s bases)
+  kept_by_path : (theta : ℚ) (s : List Status) (bases : List (List Status)) → IsNonsingularBasis p s → Known theta s → IsFacePath family Face theta s bases →
+      Known theta (last_of s bases)
   kept_by_path theta s [] at have path = have
   kept_by_path theta s (next ∷ bases) at have path =
       kept_by_path theta next bases (face_step_leads p family Face keeps theta s next at path.0) (kept_by_step theta s next at have path.0) path.1
 
-  long : (from max : ℚ) (s : List Status) (part : Part) → IsNonsingularBasis p s → from <ℚ max → Face from s FaceDone → IsPart family from max s part → IsLong part
+  long : (from max : ℚ) (s : List Status) (part : Part) → IsNonsingularBasis p s → from <ℚ max → Face from s FaceDone → IsPart family from max s part →
+      IsLong part
   long from max s part at before done is = rw is.begins (grows from max s part at before done is)
 
   -- the intervals past a breakpoint
-  chain_long : (max from : ℚ) (s : List Status) (parts : List Part) (end : ChainEnd) (path : List (List Status)) → IsNonsingularBasis p s → from <ℚ max → Face from s FaceDone →
+  chain_long : (max from : ℚ) (s : List Status) (parts : List Part) (end : ChainEnd) (path : List (List Status)) → IsNonsingularBasis p s → from <ℚ max →
+      Face from s FaceDone →
       IsChain family Face max from s parts end path → All IsLong parts
-  chain_long max _ _ _ _ _ at before done (at_max {from} {s} {part} is whole) = All-cons IsLong part [] (long from max s part at before done is) (none_fails IsLong)
-  chain_long max _ _ _ _ _ at before done (past_breakpoint {from} {s} {part} is faces) = All-cons IsLong part [] (long from max s part at before done is) (none_fails IsLong)
+  chain_long max _ _ _ _ _ at before done (at_max {from} {s} {part} is whole) =
+      All-cons IsLong part [] (long from max s part at before done is) (none_fails IsLong)
+  chain_long max _ _ _ _ _ at before done (past_breakpoint {from} {s} {part} is faces) =
+      All-cons IsLong part [] (long from max s part at before done is) (none_fails IsLong)
   chain_long max _ _ _ _ _ at before done (goes_on {from} {s} {part} {parts} {end} {bases} {later} is faces chain) =
       All-cons IsLong part parts (long from max s part at before done is)
-      (chain_long max part.to (last_of s bases) parts end later (face_path_leads p family Face keeps part.to s bases at faces.face_path) faces.before_max faces.last chain)
+      (chain_long max part.to (last_of s bases) parts end later
+      (face_path_leads p family Face keeps part.to s bases at faces.face_path) faces.before_max faces.last chain)
 
   chain_true : (max from : ℚ) (s : List Status) (parts : List Part) (end : ChainEnd) (path : List (List Status)) → IsNonsingularBasis p s →
       IsChain family Face max from s parts end path → IsTrueRun family from max parts end
@@ -107,6 +117,8 @@ module _ (p : LinearProgram) (family : ℚ → LinearProgram) (Face : ℚ → Li
 
   pub report_true : HasTrueRuns p family Face
   report_true from max s (FailedOpening ending) path at failed =
-      failure_true (family from) s ending path (lawful from) (keeps.to_family from (last_of s path) (opening_leads p family Face keeps from s path ending at failed.opens)) failed.opens failed.is_failure
+      failure_true (family from) s ending path (lawful from)
+      (keeps.to_family from (last_of s path) (opening_leads p family Face keeps from s path ending at failed.opens)) failed.opens failed.is_failure
   report_true from max s (Chain parts end) path at run =
-      chain_true max from (last_of s run.opening) parts end run.faces (opening_leads p family Face keeps from s run.opening (EndsOptimal run.point run.prices) at run.opens) run.chain
+      chain_true max from (last_of s run.opening) parts end run.faces
+      (opening_leads p family Face keeps from s run.opening (EndsOptimal run.point run.prices) at run.opens) run.chain

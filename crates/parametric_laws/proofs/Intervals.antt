@@ -28,7 +28,8 @@ module _ (p : LinearProgram) (lawful : IsLinearProgram p) (s : List Status) (opt
         by_mark true mark = refl
         by_mark false mark =
             objective_value-same p (λ i. prices.rate i k) (λ i. optimal.tableau.rate i k) lawful
-            (λ i out. one_table p.matrix (basics_of s) prices.rate optimal.tableau.rate optimal.nonsingular prices.are_rates optimal.is_tableau.are_rates i k out (is, mark))
+            (λ i out. one_table p.matrix
+            (basics_of s) prices.rate optimal.tableau.rate optimal.nonsingular prices.are_rates optimal.is_tableau.are_rates i k out (is, mark))
 
     certificate : IsDualCertificate p z y
     certificate =
@@ -37,7 +38,8 @@ module _ (p : LinearProgram) (lawful : IsLinearProgram p) (s : List Status) (opt
     pub solved : IsBestBy p z y
     solved = record { best = best_by_prices p lawful z y point_feasible certificate; certificate = certificate }
 
-module _ (family : ℚ → LinearProgram) (lawful : (theta : ℚ) → IsLinearProgram (family theta)) (from max : ℚ) (s : List Status) (part : Part) (is : IsPart family from max s part) where
+module _ (family : ℚ → LinearProgram) (lawful : (theta : ℚ) → IsLinearProgram (family theta)) (from max : ℚ) (s : List Status) (part : Part)
+    (is : IsPart family from max s part) where
   pub is_true_part : IsTruePart family max part
   is_true_part = record {
     forward = rw is.begins is.reaches.forward;

@@ -17,7 +17,8 @@ pub record HasFeasiblePoint (p : LinearProgram) (s : List Status) : Type 0 where
   pub feasible : IsFeasible p point
 
 pub stopped_feasible : (p : LinearProgram) (s : List Status) (t : Tableau) → IsNonsingularBasis p s → IsTableau p s t → IsFeasible p t.point →
-    (q k : ℕ) (up : Bool) → IsNonbasic p.matrix (basics_of s) q → stopper p t.point (speeds t.rate up q) ≡ Some k → HasFeasiblePoint p (after s (stopped_by q (speeds t.rate up q) k))
+    (q k : ℕ) (up : Bool) → IsNonbasic p.matrix (basics_of s) q → stopper p t.point (speeds t.rate up q) ≡ Some k →
+    HasFeasiblePoint p (after s (stopped_by q (speeds t.rate up q) k))
 stopped_feasible p s t at tab feasible q k up enters stops = record {
   point = along t.point (length_of p t q k up stops).0 (speeds t.rate up q);
   is_point = moved_point p t q k up stops feasible s at tab enters;

@@ -46,19 +46,26 @@ module _ (p : LinearProgram) (family : ℚ → LinearProgram) (Face : ℚ → Li
     is_next : opening ≡ next ∷ rest
     ends : PathEnds (family from) next rest ending
 
-  opening_steps : (from : ℚ) (now next : List Status) (opening : List (List Status)) (ending : PathEnding) → IsNonsingularBasis p now → PathEnds (family from) now opening ending →
+  opening_steps : (from : ℚ) (now next : List Status) (opening : List (List Status)) (ending : PathEnding) → IsNonsingularBasis p now →
+      PathEnds (family from) now opening ending →
       IsStep (family from) now next → StepsOn from next opening ending
   opening_steps from now next [] ending at path step =
       absurd (step_or_end (family from) (one.lawful from) now next ending (one.keeps.to_family from now at) step path.ends)
   opening_steps from now next (x ∷ opening) ending at path step =
       let same : x ≡ next = one_step (family from) (one.lawful from) now x next (one.keeps.to_family from now at) path.is_path.0 step in
-      record { rest = opening; is_next = ap (λ s. s ∷ opening) same; ends = subst (λ s. PathEnds (family from) s opening ending) same (record { is_path = path.is_path.1; ends = path.ends }) }
+      record {
+        rest = opening;
+        is_next = ap (λ s. s ∷ opening) same;
+        ends = subst (λ s. PathEnds (family from) s opening ending) same
+            (record { is_path = path.is_path.1; ends = path.ends });
+      }
 
   record HasEnded (opening : List (List Status)) (ending other : PathEnding) : Type 0 where
     no_step : opening ≡ []
     same_ending : ending ≡ other
 
-  opening_ended : (from : ℚ) (now : List Status) (opening : List (List Status)) (ending other : PathEnding) → IsNonsingularBasis p now → PathEnds (family from) now opening ending →
+  opening_ended : (from : ℚ) (now : List Status) (opening : List (List Status)) (ending other : PathEnding) → IsNonsingularBasis p now →
+      PathEnds (family from) now opening ending →
       EndsAt (family from) now other → HasEnded opening ending other
   opening_ended from now [] ending other at path ended =
       record { no_step = refl; same_ending = one_end (family from) (one.lawful from) now ending other (one.keeps.to_family from now at) path.ends ended }
@@ -71,7 +78,8 @@ module _ (p : LinearProgram) (family : ℚ → LinearProgram) (Face : ℚ → Li
     is_next : rest ≡ next ∷ rest_after
     remains : Remains from max place rest_after
 
-  step_took : (from max : ℚ) (now next : List Status) (report : RunReport) (rest : List (List Status)) → IsNonsingularBasis p now → IsReport family Face from max now report rest →
+  step_took : (from max : ℚ) (now next : List Status) (report : RunReport) (rest : List (List Status)) → IsNonsingularBasis p now →
+      IsReport family Face from max now report rest →
       IsStep (family from) now next → Took from max next (InOpening next) rest
   step_took from max now next (FailedOpening ending) rest at failed step =
       let on = opening_steps from now next rest ending at failed.opens step in
@@ -97,7 +105,8 @@ module _ (p : LinearProgram) (family : ℚ → LinearProgram) (Face : ℚ → Li
 
   -- ---- breakpoints
 
-  chain_breaks : (max from : ℚ) (now : List Status) (parts : List Part) (end : ChainEnd) (rest : List (List Status)) (to : ℚ) → IsChain family Face max from now parts end rest →
+  chain_breaks : (max from : ℚ) (now : List Status) (parts : List Part) (end : ChainEnd) (rest : List (List Status)) (to : ℚ) →
+      IsChain family Face max from now parts end rest →
       ReachesTo family now from max to → to <ℚ max → RestOfFaces max to now rest
   chain_breaks max _ _ _ _ _ to (at_max {from} {s} {part} is whole) reaches within =
       absurd (lt_irrefl (subst (λ x. x <ℚ max) (one_reach family s from max to part.to reaches is.reaches ∙ whole) within))
@@ -124,8 +133,10 @@ module _ (p : LinearProgram) (family : ℚ → LinearProgram) (Face : ℚ → Li
         whole = refl;
       }
 
-  report_breaks : (from max : ℚ) (now : List Status) (report : RunReport) (rest : List (List Status)) (point prices : List ℚ) (to : ℚ) → IsNonsingularBasis p now →
-      IsReport family Face from max now report rest → EndsAt (family from) now (EndsOptimal point prices) → ReachesTo family now from max to → to <ℚ max → RestOfFaces max to now rest
+  report_breaks : (from max : ℚ) (now : List Status) (report : RunReport) (rest : List (List Status)) (point prices : List ℚ) (to : ℚ) →
+      IsNonsingularBasis p now →
+      IsReport family Face from max now report rest → EndsAt (family from) now (EndsOptimal point prices) → ReachesTo family now from max to → to <ℚ max →
+      RestOfFaces max to now rest
   report_breaks from max now (FailedOpening ending) rest point prices to at failed ended reaches within =
       absurd (subst IsFailure (opening_ended from now rest ending (EndsOptimal point prices) at failed.opens ended).same_ending failed.is_failure)
   report_breaks from max now (Chain parts end) rest point prices to at run ended reaches within =
@@ -133,13 +144,16 @@ module _ (p : LinearProgram) (family : ℚ → LinearProgram) (Face : ℚ → Li
       let chain = subst (λ xs. IsChain family Face max from (last_of now xs) parts end run.faces) none run.chain in
       subst (RestOfFaces max to now) (sym (run.whole ∙ ap (λ xs. xs ++ run.faces) none)) (chain_breaks max from now parts end run.faces to chain reaches within)
 
-  face_took : (from max theta : ℚ) (now next : List Status) (rest : List (List Status)) → IsNonsingularBasis p now → RestOfFaces max theta now rest → IsFaceStep family Face theta now next →
+  face_took : (from max theta : ℚ) (now next : List Status) (rest : List (List Status)) → IsNonsingularBasis p now → RestOfFaces max theta now rest →
+      IsFaceStep family Face theta now next →
       Took from max next (AtBreakpoint theta next) rest
   face_took from max theta now next rest at h step = by_bases h.bases h.face_path h.last h.follows h.whole
     where
-      by_bases : (bases : List (List Status)) → IsFacePath family Face theta now bases → Face theta (last_of now bases) h.turn → Follows max theta (last_of now bases) h.turn h.later →
+      by_bases : (bases : List (List Status)) → IsFacePath family Face theta now bases → Face theta (last_of now bases) h.turn →
+          Follows max theta (last_of now bases) h.turn h.later →
           rest ≡ bases ++ h.later → Took from max next (AtBreakpoint theta next) rest
-      by_bases [] path last follows whole = absurd (still_or_steps p family Face one theta now next h.turn at last (still_by max theta now h.turn h.later follows) step)
+      by_bases [] path last follows whole =
+          absurd (still_or_steps p family Face one theta now next h.turn at last (still_by max theta now h.turn h.later follows) step)
       by_bases (x ∷ bases) path last follows whole =
           let same : x ≡ next = one_face_step p family Face one theta now x next at path.0 step in
           record {
@@ -156,7 +170,8 @@ module _ (p : LinearProgram) (family : ℚ → LinearProgram) (Face : ℚ → Li
             };
           }
 
-  faces_done : (max theta : ℚ) (now : List Status) (rest : List (List Status)) (to : ℚ) → IsNonsingularBasis p now → RestOfFaces max theta now rest → Face theta now FaceDone →
+  faces_done : (max theta : ℚ) (now : List Status) (rest : List (List Status)) (to : ℚ) → IsNonsingularBasis p now → RestOfFaces max theta now rest →
+      Face theta now FaceDone →
       ReachesTo family now theta max to → to <ℚ max → RestOfFaces max to now rest
   faces_done max theta now rest to at h done reaches within = by_bases h.bases h.face_path h.last h.follows h.whole
     where
@@ -165,9 +180,11 @@ module _ (p : LinearProgram) (family : ℚ → LinearProgram) (Face : ℚ → Li
       by_turn FaceDone e follows = chain_breaks max theta now follows.0 follows.1 h.later to follows.2 reaches within
       by_turn (FaceEnds end) e follows = cc
 
-      by_bases : (bases : List (List Status)) → IsFacePath family Face theta now bases → Face theta (last_of now bases) h.turn → Follows max theta (last_of now bases) h.turn h.later →
+      by_bases : (bases : List (List Status)) → IsFacePath family Face theta now bases → Face theta (last_of now bases) h.turn →
+          Follows max theta (last_of now bases) h.turn h.later →
           rest ≡ bases ++ h.later → RestOfFaces max to now rest
-      by_bases [] path last follows whole = subst (RestOfFaces max to now) (sym whole) (by_turn h.turn (one.one_face theta now h.turn FaceDone at last done) follows)
+      by_bases [] path last follows whole =
+          subst (RestOfFaces max to now) (sym whole) (by_turn h.turn (one.one_face theta now h.turn FaceDone at last done) follows)
       by_bases (x ∷ bases) path last follows whole = absurd (still_or_steps p family Face one theta now x FaceDone at done tt path.0)
 
   -- ---- a run that has ended
@@ -177,11 +194,14 @@ module _ (p : LinearProgram) (family : ℚ → LinearProgram) (Face : ℚ → Li
     is_whole : whole ≡ path ++ rest
     remains : Remains from max place rest
 
-  module _ (from max : ℚ) (s : List Status) (at : IsNonsingularBasis p s) (report : RunReport) (whole : List (List Status)) (is_report : IsReport family Face from max s report whole) where
-    stands : (place : RunPlace) (path : List (List Status)) (ends : List ℚ) → Reaches family Face from max s place path ends → IsNonsingularBasis p (basis_of place)
+  module _ (from max : ℚ) (s : List Status) (at : IsNonsingularBasis p s) (report : RunReport) (whole : List (List Status))
+      (is_report : IsReport family Face from max s report whole) where
+    stands : (place : RunPlace) (path : List (List Status)) (ends : List ℚ) → Reaches family Face from max s place path ends →
+        IsNonsingularBasis p (basis_of place)
     stands = reached_leads p family Face one.keeps from max s at
 
-    took : (place next_place : RunPlace) (path : List (List Status)) (next : List Status) → (left : HasLeft from max place path whole) → Took from max next next_place left.rest →
+    took : (place next_place : RunPlace) (path : List (List Status)) (next : List Status) → (left : HasLeft from max place path whole) →
+        Took from max next next_place left.rest →
         HasLeft from max next_place (path ++ next ∷ []) whole
     took place next_place path next left step = record {
       rest = step.rest_after;
@@ -189,21 +209,25 @@ module _ (p : LinearProgram) (family : ℚ → LinearProgram) (Face : ℚ → Li
       remains = step.remains;
     }
 
-    has_left : (place : RunPlace) (path : List (List Status)) (ends : List ℚ) → Reaches family Face from max s place path ends → HasLeft from max place path whole
+    has_left : (place : RunPlace) (path : List (List Status)) (ends : List ℚ) → Reaches family Face from max s place path ends →
+        HasLeft from max place path whole
     has_left _ _ _ begins = record { rest = whole; is_whole = refl; remains = (report, is_report) }
     has_left _ _ _ (path_step {now} {next} {path} before step) =
         let left = has_left (InOpening now) path [] before in
-        took (InOpening now) (InOpening next) path next left (step_took from max now next left.remains.0 left.rest (stands (InOpening now) path [] before) left.remains.1 step)
+        took (InOpening now) (InOpening next) path next left
+        (step_took from max now next left.remains.0 left.rest (stands (InOpening now) path [] before) left.remains.1 step)
     has_left _ _ _ (first_breakpoint {now} {path} {to} point prices before ends reaches within) =
         let left = has_left (InOpening now) path [] before in
         record {
           rest = left.rest;
           is_whole = left.is_whole;
-          remains = report_breaks from max now left.remains.0 left.rest point prices to (stands (InOpening now) path [] before) left.remains.1 ends reaches within;
+          remains =
+              report_breaks from max now left.remains.0 left.rest point prices to (stands (InOpening now) path [] before) left.remains.1 ends reaches within;
         }
     has_left _ _ _ (face_step {theta} {now} {next} {path} {ends} before step) =
         let left = has_left (AtBreakpoint theta now) path ends before in
-        took (AtBreakpoint theta now) (AtBreakpoint theta next) path next left (face_took from max theta now next left.rest (stands (AtBreakpoint theta now) path ends before) left.remains step)
+        took (AtBreakpoint theta now) (AtBreakpoint theta next) path next left
+        (face_took from max theta now next left.rest (stands (AtBreakpoint theta now) path ends before) left.remains step)
     has_left _ _ _ (next_breakpoint {theta} {now} {path} {ends} {to} before done reaches within) =
         let left = has_left (AtBreakpoint theta now) path ends before in
         record {
@@ -220,7 +244,8 @@ module _ (p : LinearProgram) (family : ℚ → LinearProgram) (Face : ℚ → Li
         let longer : length left.rest ≡ suc (length step.rest_after) = ap length step.is_next in
         absurd (omega (arith, within, taken, counted, longer))
 
-    goes_on_not : (place : RunPlace) (path : List (List Status)) (ends : List ℚ) (steps : ℕ) → length whole ≤ steps → length path ≡ steps → Reaches family Face from max s place path ends →
+    goes_on_not : (place : RunPlace) (path : List (List Status)) (ends : List ℚ) (steps : ℕ) → length whole ≤ steps → length path ≡ steps →
+        Reaches family Face from max s place path ends →
         GoesOn family Face from max s place → ⊥
     goes_on_not (InOpening now) path ends steps within taken reaches on =
         let left = has_left (InOpening now) path ends reaches in
@@ -231,13 +256,17 @@ module _ (p : LinearProgram) (family : ℚ → LinearProgram) (Face : ℚ → Li
         one_more (AtBreakpoint theta now) (AtBreakpoint theta on.0) path on.0 steps within taken left
         (face_took from max theta now on.0 left.rest (stands (AtBreakpoint theta now) path ends reaches) left.remains on.1)
 
-  pub not_both : (from max : ℚ) (s : List Status) (report : RunReport) (path : List (List Status)) (steps : ℕ) → IsNonsingularBasis p s → IsReport family Face from max s report path →
+  pub not_both : (from max : ℚ) (s : List Status) (report : RunReport) (path : List (List Status)) (steps : ℕ) → IsNonsingularBasis p s →
+      IsReport family Face from max s report path →
       length path ≤ steps → RunGoesOnFor family Face from max s steps → ⊥
-  not_both from max s report path steps at is_report within on = goes_on_not from max s at report path is_report on.place on.path on.ends steps within on.taken on.reaches on.goes_on
+  not_both from max s report path steps at is_report within on =
+      goes_on_not from max s at report path is_report on.place on.path on.ends steps within on.taken on.reaches on.goes_on
 
   -- a place of it after as many steps as it has is where it ends
-  pub same_path : (from max : ℚ) (s : List Status) (report : RunReport) (whole : List (List Status)) → IsNonsingularBasis p s → IsReport family Face from max s report whole →
-      (place : RunPlace) (path : List (List Status)) (ends : List ℚ) → Reaches family Face from max s place path ends → length path ≡ length whole → path ≡ whole
+  pub same_path : (from max : ℚ) (s : List Status) (report : RunReport) (whole : List (List Status)) → IsNonsingularBasis p s →
+      IsReport family Face from max s report whole →
+      (place : RunPlace) (path : List (List Status)) (ends : List ℚ) → Reaches family Face from max s place path ends → length path ≡ length whole →
+      path ≡ whole
   same_path from max s report whole at is_report place path ends reaches counted =
       let left = has_left from max s at report whole is_report place path ends reaches in by_rest left.rest left.is_whole
     where

@@ -44,7 +44,8 @@ module _ (p : LinearProgram) (h : ℕ) (theta : ℚ) (s : List Status) (t : Tabl
   stopped_move m q found (Some k) stops e = (q, k, record { found = found; stops = stops; gives = let same : m ≡ stopped_by q (motion q) k = cc in same })
   stopped_move m q found None stops e = cc
 
-  found_move : (m : Move) (o : Option ℕ) → face_entering_variable p h theta s t ≡ o → face_by p h theta s t o ≡ FaceMoves m → (q : ℕ) × (k : ℕ) × IsFaceMove m q k
+  found_move : (m : Move) (o : Option ℕ) → face_entering_variable p h theta s t ≡ o → face_by p h theta s t o ≡ FaceMoves m →
+      (q : ℕ) × (k : ℕ) × IsFaceMove m q k
   found_move m (Some q) found e = stopped_move m q found (stopper p t.point (motion q)) refl e
   found_move m None found e = cc
 
@@ -63,6 +64,7 @@ module _ (p : LinearProgram) (h : ℕ) (theta : ℚ) (s : List Status) (t : Tabl
           subst (λ m. IsNonsingularBasis p (after s m)) (sym move.gives)
           (stopped_leads p s t at tab q k (goes_up (change_rate p h theta s t) q) entering_variable.nonbasic move.stops)
 
-pub objective_leads : (p : LinearProgram) (h : ℕ) (theta : ℚ) (s : List Status) (m : Move) → IsNonsingularBasis p s → IsObjectiveFace p h theta s (FaceMoves m) → IsNonsingularBasis p (after s m)
+pub objective_leads : (p : LinearProgram) (h : ℕ) (theta : ℚ) (s : List Status) (m : Move) → IsNonsingularBasis p s →
+    IsObjectiveFace p h theta s (FaceMoves m) → IsNonsingularBasis p (after s m)
 objective_leads p h theta s m at face =
     from_objective p h theta (after s m) (move_leads (objective_family p h theta) h theta s face.0 m (to_objective p h theta s at) face.1 face.2)

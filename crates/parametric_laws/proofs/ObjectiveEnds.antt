@@ -54,7 +54,8 @@ module _ (p : LinearProgram) (h : ℕ) (theta : ℚ) (s : List Status) (t : Tabl
 
   stopped_by_one : (m : Move) (q : ℕ) → face_entering_variable p h theta s t ≡ Some q → (o : Option ℕ) → stopper p t.point (motion q) ≡ o →
       face_until p h theta s t q (motion q) o ≡ FaceMoves m → IsStopped m
-  stopped_by_one m q found (Some k) stops e = record { q = q; k = k; found = found; stops = stops; gives = let same : m ≡ stopped_by q (motion q) k = cc in same }
+  stopped_by_one m q found (Some k) stops e =
+      record { q = q; k = k; found = found; stops = stops; gives = let same : m ≡ stopped_by q (motion q) k = cc in same }
   stopped_by_one m q found None stops e = cc
 
   moving : (m : Move) (o : Option ℕ) → face_entering_variable p h theta s t ≡ o → face_by p h theta s t o ≡ FaceMoves m → IsStopped m
@@ -69,7 +70,13 @@ module _ (p : LinearProgram) (h : ℕ) (theta : ℚ) (s : List Status) (t : Tabl
       face_until p h theta s t q (motion q) o ≡ FaceEnds end → IsUnboundedEnd end
   stopped_by_none end q found (Some k) stops e = cc
   stopped_by_none end q found None stops e =
-      record { q = q; found = found; stops = stops; gives = let same : end ≡ UnboundedPast theta (listed p.matrix t.point) (listed p.matrix (motion q)) = cc in same }
+      record {
+        q = q;
+        found = found;
+        stops = stops;
+        gives = let same : end ≡ UnboundedPast theta (listed p.matrix t.point)
+            (listed p.matrix (motion q)) = cc in same;
+      }
 
   ending : (end : ChainEnd) (o : Option ℕ) → face_entering_variable p h theta s t ≡ o → face_by p h theta s t o ≡ FaceEnds end → IsUnboundedEnd end
   ending end (Some q) found e = stopped_by_none end q found (stopper p t.point (motion q)) refl e
@@ -108,20 +115,24 @@ module _ (p : LinearProgram) (h : ℕ) (theta : ℚ) (s : List Status) where
   }
 
 pub objective_known : (p : LinearProgram) (h : ℕ) (theta : ℚ) (s : List Status) → IsOptimalBasis (objective_family p h theta) s → HasFeasiblePoint p s
-objective_known p h theta s optimal = from_family p h theta s (record { point = optimal.tableau.point; is_point = optimal.is_tableau.is_point; feasible = optimal.feasible })
+objective_known p h theta s optimal =
+    from_family p h theta s (record { point = optimal.tableau.point; is_point = optimal.is_tableau.is_point; feasible = optimal.feasible })
 
 -- the tableau of the basis has its feasible point
-tableau_feasible : (p : LinearProgram) (s : List Status) (t : Tableau) → IsNonsingularBasis p s → IsTableau p s t → (have : HasFeasiblePoint p s) → IsFeasible p t.point
+tableau_feasible : (p : LinearProgram) (s : List Status) (t : Tableau) → IsNonsingularBasis p s → IsTableau p s t → (have : HasFeasiblePoint p s) →
+    IsFeasible p t.point
 tableau_feasible p s t at tab have =
     IsFeasible-same p have.point t.point (one_point p s have.point t.point at.is_basis.counted at.nonsingular have.is_point tab.is_point) have.feasible
 
-moves_kept : (p : LinearProgram) (h : ℕ) (theta : ℚ) (s : List Status) (t : Tableau) (m : Move) → IsNonsingularBasis p s → IsTableau p s t → HasFeasiblePoint p s →
+moves_kept : (p : LinearProgram) (h : ℕ) (theta : ℚ) (s : List Status) (t : Tableau) (m : Move) → IsNonsingularBasis p s → IsTableau p s t →
+    HasFeasiblePoint p s →
     objective_face p h theta s t ≡ FaceMoves m → HasFeasiblePoint p (after s m)
 moves_kept p h theta s t m at tab have e =
     let move = is_stopped p h theta s t m e in
     let entering_variable = face_entering_variable_is p h theta s t move.q at move.found in
     subst (λ m. HasFeasiblePoint p (after s m)) (sym move.gives)
-    (stopped_feasible p s t at tab (tableau_feasible p s t at tab have) move.q move.k (goes_up (change_rate p h theta s t) move.q) entering_variable.entering_variable.nonbasic move.stops)
+    (stopped_feasible p s t at tab (tableau_feasible p s t at tab have) move.q move.k
+    (goes_up (change_rate p h theta s t) move.q) entering_variable.entering_variable.nonbasic move.stops)
 
 pub objective_kept : (p : LinearProgram) (h : ℕ) (theta : ℚ) (s : List Status) (m : Move) → IsNonsingularBasis p s → HasFeasiblePoint p s →
     IsObjectiveFace p h theta s (FaceMoves m) → HasFeasiblePoint p (after s m)
@@ -132,14 +143,20 @@ objective_kept p h theta s m at have face =
 -- ---- a direction without end
 
 -- past theta the objective improves: its rate is 0 at theta, and theta's part improves
-value_past : (sense : Sense) (up : Bool) (o h theta x : ℚ) → o +ℚ theta *ℚ h ≡ zero_ℚ → for_min sense (signed up o +ℚ x *ℚ signed up h) ≡ (x -ℚ theta) *ℚ signed up (for_min sense h)
-value_past Min true o h theta x e = same_by_one one_ℚ e (by_ring4 o h theta x (λ o h y x. o ⊕ x ⊗ h ≐ (x ⊖ y) ⊗ h ⊕ number (pos 1) ⊗ (o ⊕ y ⊗ h ⊖ number (pos 0))) refl)
+value_past : (sense : Sense) (up : Bool) (o h theta x : ℚ) → o +ℚ theta *ℚ h ≡ zero_ℚ →
+    for_min sense (signed up o +ℚ x *ℚ signed up h) ≡ (x -ℚ theta) *ℚ signed up (for_min sense h)
+value_past Min true o h theta x e =
+    same_by_one one_ℚ e (by_ring4 o h theta x (λ o h y x. o ⊕ x ⊗ h ≐ (x ⊖ y) ⊗ h ⊕ number (pos 1) ⊗ (o ⊕ y ⊗ h ⊖ number (pos 0))) refl)
 value_past Min false o h theta x e =
-    same_by_one (neg_ℚ one_ℚ) e (by_ring4 o h theta x (λ o h y x. opposite o ⊕ x ⊗ opposite h ≐ (x ⊖ y) ⊗ opposite h ⊕ opposite (number (pos 1)) ⊗ (o ⊕ y ⊗ h ⊖ number (pos 0))) refl)
+    same_by_one (neg_ℚ one_ℚ) e
+    (by_ring4 o h theta x (λ o h y x. opposite o ⊕ x ⊗ opposite h ≐ (x ⊖ y) ⊗ opposite h ⊕ opposite (number (pos 1)) ⊗ (o ⊕ y ⊗ h ⊖ number (pos 0))) refl)
 value_past Max true o h theta x e =
-    same_by_one (neg_ℚ one_ℚ) e (by_ring4 o h theta x (λ o h y x. opposite (o ⊕ x ⊗ h) ≐ (x ⊖ y) ⊗ opposite h ⊕ opposite (number (pos 1)) ⊗ (o ⊕ y ⊗ h ⊖ number (pos 0))) refl)
+    same_by_one (neg_ℚ one_ℚ) e
+    (by_ring4 o h theta x (λ o h y x. opposite (o ⊕ x ⊗ h) ≐ (x ⊖ y) ⊗ opposite h ⊕ opposite (number (pos 1)) ⊗ (o ⊕ y ⊗ h ⊖ number (pos 0))) refl)
 value_past Max false o h theta x e =
-    same_by_one one_ℚ e (by_ring4 o h theta x (λ o h y x. opposite (opposite o ⊕ x ⊗ opposite h) ≐ (x ⊖ y) ⊗ opposite (opposite h) ⊕ number (pos 1) ⊗ (o ⊕ y ⊗ h ⊖ number (pos 0))) refl)
+    same_by_one one_ℚ e
+    (by_ring4 o h theta x
+    (λ o h y x. opposite (opposite o ⊕ x ⊗ opposite h) ≐ (x ⊖ y) ⊗ opposite (opposite h) ⊕ number (pos 1) ⊗ (o ⊕ y ⊗ h ⊖ number (pos 0))) refl)
 
 falls_past : (c theta x : ℚ) → theta <ℚ x → c <ℚ zero_ℚ → (x -ℚ theta) *ℚ c <ℚ zero_ℚ
 falls_past c theta x past below = lt_by_product past below (by_ring3 c theta x (λ c y x. number (pos 0) ≐ (x ⊖ y) ⊗ c ⊕ (x ⊖ y) ⊗ (number (pos 0) ⊖ c)) refl)
@@ -151,8 +168,10 @@ turned_below c apart = by_test (lt_ℚ c zero_ℚ) refl
     by_test true is = lt_from_test c zero_ℚ is
     by_test false is = neg_below c (lt_from_le (le_from_lt_fails c zero_ℚ is) (λ e. apart (sym e)))
 
-module _ (p : LinearProgram) (h : ℕ) (theta : ℚ) (s : List Status) (t : Tableau) (lawful : (x : ℚ) → IsLinearProgram (objective_family p h x)) (at : IsNonsingularBasis p s)
-    (tab : IsTableau (objective_family p h theta) s t) (have : HasFeasiblePoint p s) (q : ℕ) (entering_variable : IsFaceEnteringVariable (objective_family p h theta) h theta s t q)
+module _ (p : LinearProgram) (h : ℕ) (theta : ℚ) (s : List Status) (t : Tableau) (lawful : (x : ℚ) → IsLinearProgram (objective_family p h x))
+    (at : IsNonsingularBasis p s)
+    (tab : IsTableau (objective_family p h theta) s t) (have : HasFeasiblePoint p s) (q : ℕ)
+    (entering_variable : IsFaceEnteringVariable (objective_family p h theta) h theta s t q)
     (stops : stopper (objective_family p h theta) t.point (motion (objective_family p h theta) h theta s t q) ≡ None) (x : ℚ) (past : theta <ℚ x) where
   abbrev c : ℚ
   c = change_rate (objective_family p h theta) h theta s t q
@@ -165,17 +184,26 @@ module _ (p : LinearProgram) (h : ℕ) (theta : ℚ) (s : List Status) (t : Tabl
 
   improves : for_min p.sense (objective_value (objective_family p h x) d) <ℚ zero_ℚ
   improves =
-      subst (λ y. y <ℚ zero_ℚ) (sym (value_past p.sense (goes_up (change_rate (objective_family p h theta) h theta s t) q) (t.rate p.objective q) (t.rate h q) theta x entering_variable.zero_rate))
+      subst (λ y. y <ℚ zero_ℚ)
+      (sym (value_past p.sense (goes_up (change_rate (objective_family p h theta) h theta s t) q) (t.rate p.objective q)
+      (t.rate h q) theta x entering_variable.zero_rate))
       (falls_past (signed (lt_ℚ c zero_ℚ) c) theta x past (turned_below c entering_variable.entering_variable.rate_apart))
 
   pub unbounded_end : IsUnboundedBy (objective_family p h x) (value_at (listed p.matrix t.point)) (value_at (listed p.matrix d))
-  unbounded_end = record { proof = proof; unbounded = unbounded_by_direction (objective_family p h x) (value_at (listed p.matrix t.point)) (value_at (listed p.matrix d)) proof }
+  unbounded_end =
+      record {
+        proof = proof;
+        unbounded = unbounded_by_direction (objective_family p h x) (value_at (listed p.matrix t.point))
+            (value_at (listed p.matrix d)) proof;
+      }
     where
       proof : ProvesUnbounded (objective_family p h x) (value_at (listed p.matrix t.point)) (value_at (listed p.matrix d))
       proof = motion_proves (objective_family p h x) t.point d (lawful x) (record { keeps = feasible_here.keeps; within = feasible_here.within })
-          (keeps-signed p.matrix (goes_up (change_rate (objective_family p h theta) h theta s t) q) (λ i. t.rate i q) (tab.are_rates q entering_variable.entering_variable.nonbasic).keeps) stops improves
+          (keeps-signed p.matrix (goes_up (change_rate (objective_family p h theta) h theta s t) q) (λ i. t.rate i q)
+          (tab.are_rates q entering_variable.entering_variable.nonbasic).keeps) stops improves
 
-pub objective_closes : (p : LinearProgram) (h : ℕ) → IsLinearProgram p → IsRow p.matrix h → HasNoLimits p h → (theta max : ℚ) (s : List Status) (end : ChainEnd) → IsNonsingularBasis p s → theta <ℚ max →
+pub objective_closes : (p : LinearProgram) (h : ℕ) → IsLinearProgram p → IsRow p.matrix h → HasNoLimits p h →
+    (theta max : ℚ) (s : List Status) (end : ChainEnd) → IsNonsingularBasis p s → theta <ℚ max →
     HasFeasiblePoint p s → IsObjectiveFace p h theta s (FaceEnds end) → IsTrueEnd (objective_family p h) max theta end
 objective_closes p h lawful row free theta max s end at before have face =
     let last = is_unbounded (objective_family p h theta) h theta s face.0 end face.2 in

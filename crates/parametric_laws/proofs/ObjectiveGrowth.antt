@@ -35,7 +35,8 @@ module _ (p : LinearProgram) (h : ℕ) (theta : ℚ) (s : List Status) (t : Tabl
   goes_or_ends q v (Some k) e = cc
   goes_or_ends q v None e = cc
 
-  by_entering_variable : (o : Option ℕ) → face_entering_variable p h theta s t ≡ o → face_by p h theta s t o ≡ FaceDone → face_entering_variable p h theta s t ≡ None
+  by_entering_variable : (o : Option ℕ) → face_entering_variable p h theta s t ≡ o → face_by p h theta s t o ≡ FaceDone →
+      face_entering_variable p h theta s t ≡ None
   by_entering_variable (Some q) is e =
       let v : Vector = speeds t.rate (goes_up (change_rate p h theta s t) q) q in
       absurd (goes_or_ends q v (stopper p t.point v) e)
@@ -65,7 +66,9 @@ still_first w v x rises falls may ends = record { zero_rate = ends.is_zero; move
 
 still_second : (w v x : ℚ) (rises falls : Bool) → falls ≡ true → EndsAt x (condition (neg_ℚ w) (neg_ℚ v)) → IsStill w v x rises falls
 still_second w v x rises falls may ends = record {
-  zero_rate = by_ring3 w x v (λ w x v. w ⊕ x ⊗ v ≐ opposite (opposite w ⊕ x ⊗ opposite v)) refl ∙ ap neg_ℚ ends.is_zero ∙ by_ring1 v (λ v. opposite (number (pos 0)) ≐ number (pos 0)) refl;
+  zero_rate =
+      by_ring3 w x v (λ w x v. w ⊕ x ⊗ v ≐ opposite (opposite w ⊕ x ⊗ opposite v)) refl ∙ ap neg_ℚ ends.is_zero
+      ∙ by_ring1 v (λ v. opposite (number (pos 0)) ≐ number (pos 0)) refl;
   moves = rw (test_from_lt zero_ℚ v above, may) (or_right (lt_ℚ v zero_ℚ && rises) true refl);
 }
   where
@@ -101,17 +104,20 @@ module _ (p : LinearProgram) (h : ℕ) (lawful : IsLinearProgram p) (row : IsRow
       let zero_rate : objective_rate (objective_family p h theta) t.rate k ≡ zero_ℚ =
       for_min_zero p.sense _ (for_min-add p.sense (t.rate p.objective k) theta (t.rate h k) ∙ still.zero_rate) in
       let fails = none_passes (objective_family p h theta)
-      (λ q. eq_ℚ (objective_rate (objective_family p h theta) t.rate q) zero_ℚ && lowers (objective_family p h theta) s (change_rate (objective_family p h theta) h theta s t) q)
+      (λ q. eq_ℚ (objective_rate (objective_family p h theta) t.rate q) zero_ℚ && lowers (objective_family p h theta) s
+      (change_rate (objective_family p h theta) h theta s t) q)
       (done_entering_variable (objective_family p h theta) h theta s t done) k is_k in
       clash (sym (ap₂ (λ a b. a && b) (test_from_same _ zero_ℚ zero_rate) still.moves) ∙ fails)
 
   none_ends : (k : ℕ) → IsVariable p.matrix k → SideEnds (sides k) theta → ⊥
   none_ends k is_k (first_ends c is_c ends) =
       let there = if_there (may_rise p s k) (worths p t k) (slopes p t h k) c is_c in
-      no_entering_variable k is_k (still_first (worths p t k) (slopes p t h k) theta (may_rise p s k) (may_fall p s k) there.0 (subst (EndsAt theta) (sym there.1) ends))
+      no_entering_variable k is_k
+      (still_first (worths p t k) (slopes p t h k) theta (may_rise p s k) (may_fall p s k) there.0 (subst (EndsAt theta) (sym there.1) ends))
   none_ends k is_k (second_ends c is_c ends) =
       let there = if_there (may_fall p s k) (neg_ℚ (worths p t k)) (neg_ℚ (slopes p t h k)) c is_c in
-      no_entering_variable k is_k (still_second (worths p t k) (slopes p t h k) theta (may_rise p s k) (may_fall p s k) there.0 (subst (EndsAt theta) (sym there.1) ends))
+      no_entering_variable k is_k
+      (still_second (worths p t k) (slopes p t h k) theta (may_rise p s k) (may_fall p s k) there.0 (subst (EndsAt theta) (sym there.1) ends))
 
   spans : IsSpan sides (size p.matrix) theta max
   spans = span sides (size p.matrix) theta max before (λ k low high. hold k (low, high)) (λ k low high. none_ends k (low, high))
@@ -120,6 +126,7 @@ module _ (p : LinearProgram) (h : ℕ) (lawful : IsLinearProgram p) (row : IsRow
   grown = lt_of_lt_of_le spans.past
       (is.reaches.greatest spans.to spans.within (λ x after up_to. (objective p s t feasible h row x).1 (λ k is_k. spans.holds x after up_to k is_k.0 is_k.1)))
 
-pub objective_grows : (p : LinearProgram) (h : ℕ) → IsLinearProgram p → IsRow p.matrix h → HasNoLimits p h → (theta max : ℚ) (s : List Status) (part : Part) → IsNonsingularBasis p s → theta <ℚ max →
+pub objective_grows : (p : LinearProgram) (h : ℕ) → IsLinearProgram p → IsRow p.matrix h → HasNoLimits p h → (theta max : ℚ) (s : List Status) (part : Part) →
+    IsNonsingularBasis p s → theta <ℚ max →
     IsObjectiveFace p h theta s FaceDone → IsPart (objective_family p h) theta max s part → theta <ℚ part.to
 objective_grows p h lawful row free theta max s part at before face is = grown p h lawful row free theta max s part at before is face.0 face.1 face.2

@@ -23,7 +23,8 @@ use Rattle.simplex_laws.proofs.OneTurn.{listed_same, lowers_idle, lowers_same, s
 use Rattle.simplex_laws.proofs.OnePath.{same_tableau}
 
 -- a row without limits is added to the objective
-pub lawful_objective : (p : LinearProgram) (h : ℕ) → IsLinearProgram p → IsRow p.matrix h → HasNoLimits p h → (theta : ℚ) → IsLinearProgram (objective_family p h theta)
+pub lawful_objective : (p : LinearProgram) (h : ℕ) → IsLinearProgram p → IsRow p.matrix h → HasNoLimits p h → (theta : ℚ) →
+    IsLinearProgram (objective_family p h theta)
 lawful_objective p h lawful row free theta = record {
   is_matrix = lawful.is_matrix;
   lower_counted = lawful.lower_counted;
@@ -34,7 +35,8 @@ lawful_objective p h lawful row free theta = record {
   change_free = (row, free);
 }
 
-module _ (p : LinearProgram) (h : ℕ) (theta : ℚ) (s : List Status) (t u : Tableau) (lawful : IsLinearProgram p) (row : IsRow p.matrix h) (at : IsNonsingularBasis p s) (same : SameTableau p s t u) where
+module _ (p : LinearProgram) (h : ℕ) (theta : ℚ) (s : List Status) (t u : Tableau) (lawful : IsLinearProgram p) (row : IsRow p.matrix h)
+    (at : IsNonsingularBasis p s) (same : SameTableau p s t u) where
   rate_same : (q : ℕ) → IsNonbasic p.matrix (basics_of s) q → objective_rate p t.rate q ≡ objective_rate p u.rate q
   rate_same q out = objective_value-same p (λ i. t.rate i q) (λ i. u.rate i q) lawful (λ i is. same.rates i q is out)
 
@@ -49,10 +51,13 @@ module _ (p : LinearProgram) (h : ℕ) (theta : ℚ) (s : List Status) (t u : Ta
     where
       by_mark : (mark : Bool) → is_in (basics_of s) q ≡ mark → moves t q ≡ moves u q
       by_mark true mark =
-          and_right (eq_ℚ (objective_rate p t.rate q) zero_ℚ) (lowers p s (change_rate p h theta s t) q) (lowers_idle p s at.is_basis (change_rate p h theta s t) q is mark)
-          ∙ sym (and_right (eq_ℚ (objective_rate p u.rate q) zero_ℚ) (lowers p s (change_rate p h theta s u) q) (lowers_idle p s at.is_basis (change_rate p h theta s u) q is mark))
+          and_right (eq_ℚ (objective_rate p t.rate q) zero_ℚ) (lowers p s (change_rate p h theta s t) q)
+          (lowers_idle p s at.is_basis (change_rate p h theta s t) q is mark)
+          ∙ sym (and_right (eq_ℚ (objective_rate p u.rate q) zero_ℚ) (lowers p s (change_rate p h theta s u) q)
+          (lowers_idle p s at.is_basis (change_rate p h theta s u) q is mark))
       by_mark false mark =
-          ap₂ (λ r b. eq_ℚ r zero_ℚ && b) (rate_same q (is, mark)) (lowers_same p s at.is_basis (change_rate p h theta s t) (change_rate p h theta s u) q is (change_same q))
+          ap₂ (λ r b. eq_ℚ r zero_ℚ && b) (rate_same q (is, mark))
+          (lowers_same p s at.is_basis (change_rate p h theta s t) (change_rate p h theta s u) q is (change_same q))
 
   entering_variable_same : face_entering_variable p h theta s t ≡ face_entering_variable p h theta s u
   entering_variable_same = find_same (moves t) (moves u) (size p.matrix) 1 (λ k low high. moves_same k (low, omega (arith, high)))
@@ -66,7 +71,8 @@ module _ (p : LinearProgram) (h : ℕ) (theta : ℚ) (s : List Status) (t u : Ta
   until_same : (q : ℕ) (v w : Vector) → ((k : ℕ) → IsVariable p.matrix k → v k ≡ w k) → (o : Option ℕ) → ((k : ℕ) → o ≡ Some k → IsVariable p.matrix k) →
       face_until p h theta s t q v o ≡ face_until p h theta s u q w o
   until_same q v w h (Some k) found = ap (λ x. FaceMoves (record { enters = q; leaves = k; to = if lt_ℚ zero_ℚ x then Ul else Ll })) (h k (found k refl))
-  until_same q v w h None found = ap₂ (λ xs ys. FaceEnds (UnboundedPast theta xs ys)) (listed_same p.matrix t.point u.point same.points) (listed_same p.matrix v w h)
+  until_same q v w h None found =
+      ap₂ (λ xs ys. FaceEnds (UnboundedPast theta xs ys)) (listed_same p.matrix t.point u.point same.points) (listed_same p.matrix v w h)
 
   by_same : (o : Option ℕ) → ((q : ℕ) → o ≡ Some q → IsNonbasic p.matrix (basics_of s) q) → face_by p h theta s t o ≡ face_by p h theta s u o
   by_same (Some q) out =
@@ -78,13 +84,15 @@ module _ (p : LinearProgram) (h : ℕ) (theta : ℚ) (s : List Status) (t u : Ta
   moves_nonbasic : (q : ℕ) → face_entering_variable p h theta s t ≡ Some q → IsNonbasic p.matrix (basics_of s) q
   moves_nonbasic q e =
       let found = found_passes p (moves t) q e in
-      (is_entering_variable p s (change_rate p h theta s t) q at found.0 (and_parts (eq_ℚ (objective_rate p t.rate q) zero_ℚ) (lowers p s (change_rate p h theta s t) q) found.1).1).nonbasic
+      (is_entering_variable p s (change_rate p h theta s t) q at found.0
+      (and_parts (eq_ℚ (objective_rate p t.rate q) zero_ℚ) (lowers p s (change_rate p h theta s t) q) found.1).1).nonbasic
 
   face_same : objective_face p h theta s t ≡ objective_face p h theta s u
   unfolding objective_face
   face_same = by_same (face_entering_variable p h theta s t) moves_nonbasic ∙ ap (face_by p h theta s u) entering_variable_same
 
-pub one_objective_face : (p : LinearProgram) (h : ℕ) → IsLinearProgram p → IsRow p.matrix h → HasNoLimits p h → (theta : ℚ) (s : List Status) (turn other : FaceTurn) → IsNonsingularBasis p s →
+pub one_objective_face : (p : LinearProgram) (h : ℕ) → IsLinearProgram p → IsRow p.matrix h → HasNoLimits p h →
+    (theta : ℚ) (s : List Status) (turn other : FaceTurn) → IsNonsingularBasis p s →
     IsObjectiveFace p h theta s turn → IsObjectiveFace p h theta s other → turn ≡ other
 one_objective_face p h lawful row free theta s turn other at first second =
     let there = to_objective p h theta s at in

@@ -46,7 +46,8 @@ lawful_rhs p shift lawful theta = record {
 
 -- ---- one face
 
-module _ (p : LinearProgram) (shift : List ℚ) (theta : ℚ) (s : List Status) (t u : Tableau) (v w : Vector) (lawful : IsLinearProgram p) (at : IsNonsingularBasis p s)
+module _ (p : LinearProgram) (shift : List ℚ) (theta : ℚ) (s : List Status) (t u : Tableau) (v w : Vector) (lawful : IsLinearProgram p)
+    (at : IsNonsingularBasis p s)
     (same : SameTableau p s t u) (slopes : (k : ℕ) → IsVariable p.matrix k → v k ≡ w k) where
   below_same : (r : ℕ) → IsVariable p.matrix r → leaves_below p shift theta s t v r ≡ leaves_below p shift theta s u w r
   below_same r is = ap₂ (λ z x. on_limit (λ l. eq_ℚ z l) (lower_of p r) && lt_ℚ x (shift_of p.matrix shift r)) (same.points r is) (slopes r is)
@@ -58,17 +59,23 @@ module _ (p : LinearProgram) (shift : List ℚ) (theta : ℚ) (s : List Status) 
   leaving_same =
       find_same (λ k. is_in (basics_of s) k && (leaves_below p shift theta s t v k || leaves_above p shift theta s t v k))
       (λ k. is_in (basics_of s) k && (leaves_below p shift theta s u w k || leaves_above p shift theta s u w k)) (size p.matrix) 1
-      (λ k low high. let is : IsVariable p.matrix k = (low, omega (arith, high)) in ap₂ (λ a b. is_in (basics_of s) k && (a || b)) (below_same k is) (above_same k is))
+      (λ k low high. let is : IsVariable p.matrix k = (low, omega (arith, high)) in ap₂ (λ a b. is_in (basics_of s) k && (a || b)) (below_same k is)
+      (above_same k is))
 
   -- the basic r, with the side on which it leaves
-  exchange_same : (r : ℕ) → IsVariable p.matrix r → (below : Bool) (o : Option ℕ) → face_exchange p shift theta s t v r below o ≡ face_exchange p shift theta s u w r below o
+  exchange_same : (r : ℕ) → IsVariable p.matrix r → (below : Bool) (o : Option ℕ) →
+      face_exchange p shift theta s t v r below o ≡ face_exchange p shift theta s u w r below o
   exchange_same r is_r below (Some q) = refl
-  exchange_same r is_r below None = ap (λ xs. FaceEnds (InfeasiblePast theta xs)) (listed_same p.matrix (ray_of (basics_of s) t.rate r below) (ray_of (basics_of s) u.rate r below) (ray_same p s t u lawful at.is_basis same r is_r below))
+  exchange_same r is_r below None =
+      ap (λ xs. FaceEnds (InfeasiblePast theta xs))
+      (listed_same p.matrix (ray_of (basics_of s) t.rate r below) (ray_of (basics_of s) u.rate r below)
+      (ray_same p s t u lawful at.is_basis same r is_r below))
 
   at_same : (o : Option ℕ) → ((r : ℕ) → o ≡ Some r → IsVariable p.matrix r) → face_at p shift theta s t v o ≡ face_at p shift theta s u w o
   at_same (Some r) found =
       ap (λ b. face_exchange p shift theta s t v r b (cheapest p s t r b)) (below_same r (found r refl))
-      ∙ ap (face_exchange p shift theta s t v r (leaves_below p shift theta s u w r)) (cheapest_same p s t u lawful at.is_basis same r (found r refl) (leaves_below p shift theta s u w r))
+      ∙ ap (face_exchange p shift theta s t v r (leaves_below p shift theta s u w r))
+      (cheapest_same p s t u lawful at.is_basis same r (found r refl) (leaves_below p shift theta s u w r))
       ∙ exchange_same r (found r refl) (leaves_below p shift theta s u w r) (cheapest p s u r (leaves_below p shift theta s u w r))
   at_same None found = refl
 
@@ -77,7 +84,8 @@ module _ (p : LinearProgram) (shift : List ℚ) (theta : ℚ) (s : List Status) 
   face_same = at_same (leaving p shift theta s t v) (λ r e. (found_passes p _ r e).0) ∙ ap (face_at p shift theta s u w) leaving_same
 
 -- a basis has one slope
-one_slope : (p : LinearProgram) (s : List Status) (shift : List ℚ) (v w : Vector) → IsNonsingularBasis p s → IsSlope p s shift v → IsSlope p s shift w → (k : ℕ) → IsVariable p.matrix k → v k ≡ w k
+one_slope : (p : LinearProgram) (s : List Status) (shift : List ℚ) (v w : Vector) → IsNonsingularBasis p s → IsSlope p s shift v → IsSlope p s shift w →
+    (k : ℕ) → IsVariable p.matrix k → v k ≡ w k
 one_slope p s shift v w at first second =
     same_from_nonbasics p.matrix (basics_of s) v w at.nonsingular first.keeps second.keeps (λ k out. first.placed k out ∙ sym (second.placed k out))
 
@@ -87,5 +95,6 @@ one_rhs_face p shift lawful theta s turn other at first second =
     let there = to_rhs p shift theta s at in
     sym first.4
     ∙ face_same (rhs_family p shift theta) shift theta s first.0 second.0 first.1 second.1 (lawful_rhs p shift lawful theta) there
-    (same_tableau (rhs_family p shift theta) s there first.0 second.0 first.2 second.2) (one_slope (rhs_family p shift theta) s shift first.1 second.1 there first.3 second.3)
+    (same_tableau (rhs_family p shift theta) s there first.0 second.0 first.2 second.2)
+    (one_slope (rhs_family p shift theta) s shift first.1 second.1 there first.3 second.3)
     ∙ second.4

@@ -51,16 +51,23 @@ record SameLists (value rate other slope : List ℚ) : Type 0 where
 lines_same : (n : ℕ) (value rate other slope : List ℚ) → length value ≡ n → length rate ≡ n → length other ≡ n → length slope ≡ n →
     ((theta : ℚ) (k : ℕ) → 1 ≤ k → k ≤ n → along theta value rate k ≡ along theta other slope k) → SameLists value rate other slope
 lines_same n value rate other slope l1 l2 l3 l4 same = record {
-  values = lists_same n value other l1 l3 (λ k low high. same_value (value_at value k) (value_at rate k) (value_at other k) (value_at slope k) (same zero_ℚ k low high) (same one_ℚ k low high));
-  rates = lists_same n rate slope l2 l4 (λ k low high. same_rate (value_at value k) (value_at rate k) (value_at other k) (value_at slope k) (same zero_ℚ k low high) (same one_ℚ k low high));
+  values =
+      lists_same n value other l1 l3
+      (λ k low high. same_value (value_at value k) (value_at rate k) (value_at other k) (value_at slope k) (same zero_ℚ k low high)
+      (same one_ℚ k low high));
+  rates =
+      lists_same n rate slope l2 l4
+      (λ k low high. same_rate (value_at value k) (value_at rate k) (value_at other k) (value_at slope k) (same zero_ℚ k low high) (same one_ℚ k low high));
 }
 
 -- ---- one point, one list of prices
 
-one_price : (p : LinearProgram) (s : List Status) (y w : Vector) → IsLinearProgram p → IsNonsingularBasis p s → ArePricesOf p s y → ArePricesOf p s w → (k : ℕ) → IsVariable p.matrix k → y k ≡ w k
+one_price : (p : LinearProgram) (s : List Status) (y w : Vector) → IsLinearProgram p → IsNonsingularBasis p s → ArePricesOf p s y → ArePricesOf p s w →
+    (k : ℕ) → IsVariable p.matrix k → y k ≡ w k
 one_price p s y w lawful at first second k is = first.prices k is ∙ by_mark (is_in (basics_of s) k) refl ∙ sym (second.prices k is)
   where
-    by_mark : (mark : Bool) → is_in (basics_of s) k ≡ mark → (if mark then zero_ℚ else objective_rate p first.rate k) ≡ (if mark then zero_ℚ else objective_rate p second.rate k)
+    by_mark : (mark : Bool) → is_in (basics_of s) k ≡ mark →
+        (if mark then zero_ℚ else objective_rate p first.rate k) ≡ (if mark then zero_ℚ else objective_rate p second.rate k)
     by_mark true mark = refl
     by_mark false mark =
         objective_value-same p (λ i. first.rate i k) (λ i. second.rate i k) lawful
@@ -74,8 +81,10 @@ IsStill (FaceMoves m) = ⊥
 IsStill FaceDone = Unit {0}
 IsStill (FaceEnds end) = Unit {0}
 
-pub one_reach : (family : ℚ → LinearProgram) (s : List Status) (from max to other : ℚ) → ReachesTo family s from max to → ReachesTo family s from max other → to ≡ other
-one_reach family s from max to other first second = le_antisymm (second.greatest to first.within first.optimal) (first.greatest other second.within second.optimal)
+pub one_reach : (family : ℚ → LinearProgram) (s : List Status) (from max to other : ℚ) → ReachesTo family s from max to → ReachesTo family s from max other →
+    to ≡ other
+one_reach family s from max to other first second =
+    le_antisymm (second.greatest to first.within first.optimal) (first.greatest other second.within second.optimal)
 
 pub record SameFaces (bases others : List (List Status)) (turn other : FaceTurn) : Type 0 where
   pub same_bases : bases ≡ others
@@ -87,7 +96,8 @@ pub record SameChains (parts parts' : List Part) (end end' : ChainEnd) (path pat
   pub same_path : path ≡ path'
 
 module _ (p : LinearProgram) (family : ℚ → LinearProgram) (Face : ℚ → List Status → FaceTurn → Type 0) (one : HasOneFace p family Face) where
-  pub one_part : (from max : ℚ) (s : List Status) (part other : Part) → IsNonsingularBasis p s → IsPart family from max s part → IsPart family from max s other → part ≡ other
+  pub one_part : (from max : ℚ) (s : List Status) (part other : Part) → IsNonsingularBasis p s → IsPart family from max s part →
+      IsPart family from max s other → part ≡ other
   one_part from max s part other at first second = λ i. record {
     from = (first.begins ∙ sym second.begins) i;
     to = one_reach family s from max part.to other.to first.reaches second.reaches i;
@@ -119,30 +129,36 @@ module _ (p : LinearProgram) (family : ℚ → LinearProgram) (Face : ℚ → Li
           (one.lawful theta) (there theta) (first.prices theta) (second.prices theta) k (within theta k low high))
 
   -- where nothing moves there is no face step
-  pub still_or_steps : (theta : ℚ) (s next : List Status) (turn : FaceTurn) → IsNonsingularBasis p s → Face theta s turn → IsStill turn → IsFaceStep family Face theta s next → ⊥
+  pub still_or_steps : (theta : ℚ) (s next : List Status) (turn : FaceTurn) → IsNonsingularBasis p s → Face theta s turn → IsStill turn →
+      IsFaceStep family Face theta s next → ⊥
   still_or_steps theta s next turn at face still step = subst IsStill (one.one_face theta s turn (FaceMoves step.0) at face step.1) still
 
-  pub one_face_step : (theta : ℚ) (s next other : List Status) → IsNonsingularBasis p s → IsFaceStep family Face theta s next → IsFaceStep family Face theta s other → next ≡ other
+  pub one_face_step : (theta : ℚ) (s next other : List Status) → IsNonsingularBasis p s → IsFaceStep family Face theta s next →
+      IsFaceStep family Face theta s other → next ≡ other
   one_face_step theta s next other at first second =
       let turns = one.one_face theta s (FaceMoves first.0) (FaceMoves second.0) at first.1 second.1 in
       let moves : first.0 ≡ second.0 = cc in
       first.2 ∙ ap (after s) moves ∙ sym second.2
 
   one_face_path : (theta : ℚ) (s : List Status) (bases others : List (List Status)) (turn other : FaceTurn) → IsNonsingularBasis p s →
-      IsFacePath family Face theta s bases → Face theta (last_of s bases) turn → IsStill turn → IsFacePath family Face theta s others → Face theta (last_of s others) other → IsStill other →
+      IsFacePath family Face theta s bases → Face theta (last_of s bases) turn → IsStill turn → IsFacePath family Face theta s others →
+      Face theta (last_of s others) other → IsStill other →
       SameFaces bases others turn other
-  one_face_path theta s [] [] turn other at path face still path' face' still' = record { same_bases = refl; same_turn = one.one_face theta s turn other at face face' }
+  one_face_path theta s [] [] turn other at path face still path' face' still' =
+      record { same_bases = refl; same_turn = one.one_face theta s turn other at face face' }
   one_face_path theta s [] (next ∷ others) turn other at path face still path' face' still' = absurd (still_or_steps theta s next turn at face still path'.0)
   one_face_path theta s (next ∷ bases) [] turn other at path face still path' face' still' = absurd (still_or_steps theta s next other at face' still' path.0)
   one_face_path theta s (next ∷ bases) (next' ∷ others) turn other at path face still path' face' still' =
       let same : next ≡ next' = one_face_step theta s next next' at path.0 path'.0 in
       let moved : IsFacePath family Face theta next others = subst (λ x. IsFacePath family Face theta x others) (sym same) path'.1 in
       let ended : Face theta (last_of next others) other = subst (λ x. Face theta (last_of x others) other) (sym same) face' in
-      let rest = one_face_path theta next bases others turn other (face_step_leads p family Face one.keeps theta s next at path.0) path.1 face still moved ended still' in
+      let rest =
+      one_face_path theta next bases others turn other (face_step_leads p family Face one.keeps theta s next at path.0) path.1 face still moved ended still' in
       record { same_bases = ap₂ (λ x xs. x ∷ xs) same rest.same_bases; same_turn = rest.same_turn }
 
   one_faces : (max theta : ℚ) (s : List Status) (bases others : List (List Status)) (turn other : FaceTurn) → IsNonsingularBasis p s →
-      FacesTo family Face max theta s bases turn → IsStill turn → FacesTo family Face max theta s others other → IsStill other → SameFaces bases others turn other
+      FacesTo family Face max theta s bases turn → IsStill turn → FacesTo family Face max theta s others other → IsStill other →
+      SameFaces bases others turn other
   one_faces max theta s bases others turn other at first still second still' =
       one_face_path theta s bases others turn other at first.face_path first.last still second.face_path second.last still'
 
@@ -159,9 +175,11 @@ module _ (p : LinearProgram) (family : ℚ → LinearProgram) (Face : ℚ → Li
       absurd (lt_irrefl (subst (λ x. x <ℚ max) (ap (λ (part : Part). part.to) (sym (one_part from max s part other at is is')) ∙ whole) faces'.before_max))
   one_chain max _ _ _ _ _ _ _ _ at (past_breakpoint {from} {s} {part} is faces) (at_max {part = other} is' whole') =
       absurd (lt_irrefl (subst (λ x. x <ℚ max) (ap (λ (part : Part). part.to) (one_part from max s part other at is is') ∙ whole') faces.before_max))
-  one_chain max _ _ _ _ _ _ _ _ at (past_breakpoint {from} {s} {part} {end} {path} is faces) (past_breakpoint {part = other} {end = end'} {path = path'} is' faces') =
+  one_chain max _ _ _ _ _ _ _ _ at (past_breakpoint {from} {s} {part} {end} {path} is faces)
+      (past_breakpoint {part = other} {end = end'} {path = path'} is' faces') =
       let same : part ≡ other = one_part from max s part other at is is' in
-      let moved : FacesTo family Face max part.to s path' (FaceEnds end') = subst (λ (x : Part). FacesTo family Face max x.to s path' (FaceEnds end')) (sym same) faces' in
+      let moved : FacesTo family Face max part.to s path' (FaceEnds end') =
+      subst (λ (x : Part). FacesTo family Face max x.to s path' (FaceEnds end')) (sym same) faces' in
       let all = one_faces max part.to s path path' (FaceEnds end) (FaceEnds end') at faces tt moved tt in
       let turns = all.same_turn in
       record { same_parts = ap (λ x. x ∷ []) same; same_end = cc; same_path = all.same_bases }
@@ -171,9 +189,11 @@ module _ (p : LinearProgram) (family : ℚ → LinearProgram) (Face : ℚ → Li
       let turns = (one_faces max part.to s path bases' (FaceEnds end) FaceDone at faces tt moved tt).same_turn in cc
   one_chain max _ _ _ _ _ _ _ _ at (goes_on {from} {s} {part} is faces chain) (at_max {part = other} is' whole') =
       absurd (lt_irrefl (subst (λ x. x <ℚ max) (ap (λ (part : Part). part.to) (one_part from max s part other at is is') ∙ whole') faces.before_max))
-  one_chain max _ _ _ _ _ _ _ _ at (goes_on {from} {s} {part} {bases = bases} is faces chain) (past_breakpoint {part = other} {end = end'} {path = path'} is' faces') =
+  one_chain max _ _ _ _ _ _ _ _ at (goes_on {from} {s} {part} {bases = bases} is faces chain)
+      (past_breakpoint {part = other} {end = end'} {path = path'} is' faces') =
       let same : part ≡ other = one_part from max s part other at is is' in
-      let moved : FacesTo family Face max part.to s path' (FaceEnds end') = subst (λ (x : Part). FacesTo family Face max x.to s path' (FaceEnds end')) (sym same) faces' in
+      let moved : FacesTo family Face max part.to s path' (FaceEnds end') =
+      subst (λ (x : Part). FacesTo family Face max x.to s path' (FaceEnds end')) (sym same) faces' in
       let turns = (one_faces max part.to s bases path' FaceDone (FaceEnds end') at faces tt moved tt).same_turn in cc
   one_chain max _ _ _ _ _ _ _ _ at (goes_on {from} {s} {part} {parts} {end} {bases} {later} is faces chain)
       (goes_on {part = other} {parts = parts'} {end = end'} {bases = bases'} {later = later'} is' faces' chain') =
@@ -183,7 +203,9 @@ module _ (p : LinearProgram) (family : ℚ → LinearProgram) (Face : ℚ → Li
       let there : IsChain family Face max part.to (last_of s bases) parts' end' later' =
       subst (λ (x : Part). IsChain family Face max x.to (last_of s bases) parts' end' later') (sym same)
       (subst (λ b. IsChain family Face max other.to (last_of s b) parts' end' later') (sym steps) chain') in
-      let rest = one_chain max part.to (last_of s bases) parts parts' end end' later later' (face_path_leads p family Face one.keeps part.to s bases at faces.face_path) chain there in
+      let rest =
+      one_chain max part.to (last_of s bases) parts parts' end end' later later'
+      (face_path_leads p family Face one.keeps part.to s bases at faces.face_path) chain there in
       record { same_parts = ap₂ (λ x xs. x ∷ xs) same rest.same_parts; same_end = rest.same_end; same_path = ap₂ ◌++◌ steps rest.same_path }
 
   -- ---- reports
@@ -192,7 +214,8 @@ module _ (p : LinearProgram) (family : ℚ → LinearProgram) (Face : ℚ → Li
       PathEnds (family from) s bases ending → PathEnds (family from) s others other → SameEnds bases others ending other
   one_opening from s bases others ending other at = one_path (family from) (one.lawful from) s bases others ending other (one.keeps.to_family from s at)
 
-  fails_or_runs : (from max : ℚ) (s : List Status) (ending : PathEnding) (parts : List Part) (end : ChainEnd) (path further : List (List Status)) → IsNonsingularBasis p s →
+  fails_or_runs : (from max : ℚ) (s : List Status) (ending : PathEnding) (parts : List Part) (end : ChainEnd) (path further : List (List Status)) →
+      IsNonsingularBasis p s →
       IsFailedOpening family Face from s ending path → IsRun family Face from max s parts end further → ⊥
   fails_or_runs from max s ending parts end path further at failed run =
       subst IsFailure (one_opening from s path run.opening ending (EndsOptimal run.point run.prices) at failed.opens run.opens).same_ending failed.is_failure
@@ -202,10 +225,14 @@ module _ (p : LinearProgram) (family : ℚ → LinearProgram) (Face : ℚ → Li
   one_report from max s (FailedOpening ending) (FailedOpening other) path further at first second =
       let same = one_opening from s path further ending other at first.opens second.opens in
       record { same_report = ap FailedOpening same.same_ending; same_path = same.same_bases }
-  one_report from max s (FailedOpening ending) (Chain parts end) path further at first second = absurd (fails_or_runs from max s ending parts end path further at first second)
-  one_report from max s (Chain parts end) (FailedOpening ending) path further at first second = absurd (fails_or_runs from max s ending parts end further path at second first)
+  one_report from max s (FailedOpening ending) (Chain parts end) path further at first second =
+      absurd (fails_or_runs from max s ending parts end path further at first second)
+  one_report from max s (Chain parts end) (FailedOpening ending) path further at first second =
+      absurd (fails_or_runs from max s ending parts end further path at second first)
   one_report from max s (Chain parts end) (Chain parts' end') path further at first second =
-      let opening = (one_opening from s first.opening second.opening (EndsOptimal first.point first.prices) (EndsOptimal second.point second.prices) at first.opens second.opens).same_bases in
+      let opening =
+      (one_opening from s first.opening second.opening (EndsOptimal first.point first.prices)
+      (EndsOptimal second.point second.prices) at first.opens second.opens).same_bases in
       let there : IsChain family Face max from (last_of s first.opening) parts' end' second.faces =
       subst (λ b. IsChain family Face max from (last_of s b) parts' end' second.faces) (sym opening) second.chain in
       let rest = one_chain max from (last_of s first.opening) parts parts' end end' first.faces second.faces
@@ -214,8 +241,11 @@ module _ (p : LinearProgram) (family : ℚ → LinearProgram) (Face : ℚ → Li
 
 -- ---- the two families
 
-pub objective_faces : (p : LinearProgram) (h : ℕ) → IsLinearProgram p → IsRow p.matrix h → HasNoLimits p h → HasOneFace p (objective_family p h) (IsObjectiveFace p h)
-objective_faces p h lawful row free = record { keeps = objective_keeps p h; lawful = lawful_objective p h lawful row free; sized = λ theta. refl; one_face = one_objective_face p h lawful row free }
+pub objective_faces : (p : LinearProgram) (h : ℕ) → IsLinearProgram p → IsRow p.matrix h → HasNoLimits p h →
+    HasOneFace p (objective_family p h) (IsObjectiveFace p h)
+objective_faces p h lawful row free =
+    record { keeps = objective_keeps p h; lawful = lawful_objective p h lawful row free; sized = λ theta. refl; one_face = one_objective_face p h lawful row free }
 
 pub rhs_faces : (p : LinearProgram) (shift : List ℚ) → IsLinearProgram p → HasOneFace p (rhs_family p shift) (IsRhsFace p shift)
-rhs_faces p shift lawful = record { keeps = rhs_keeps p shift; lawful = lawful_rhs p shift lawful; sized = λ theta. refl; one_face = one_rhs_face p shift lawful }
+rhs_faces p shift lawful =
+    record { keeps = rhs_keeps p shift; lawful = lawful_rhs p shift lawful; sized = λ theta. refl; one_face = one_rhs_face p shift lawful }

@@ -30,7 +30,8 @@ module _ (p : LinearProgram) (shift : List ℚ) (theta : ℚ) (s : List Status) 
 -- ---- a face step
 
 -- what leaves stands at the limit to which it goes
-stands_at : (low high : Option ℚ) (at_low at_high : ℚ → Bool) (c d below : Bool) → (on_limit at_low low && c) ≡ below → (below || (on_limit at_high high && d)) ≡ true →
+stands_at : (low high : Option ℚ) (at_low at_high : ℚ → Bool) (c d below : Bool) → (on_limit at_low low && c) ≡ below →
+    (below || (on_limit at_high high && d)) ≡ true →
     IsAllowed (if below then Ll else Ul) low high
 stands_at None high at_low at_high c d true is e = cc
 stands_at (Some l) high at_low at_high c d true is e = refl
@@ -54,10 +55,12 @@ module _ (p : LinearProgram) (shift : List ℚ) (theta : ℚ) (s : List Status) 
   entered_move : (m : Move) (r : ℕ) → leaving p shift theta s t v ≡ Some r → (o : Option ℕ) → cheapest p s t r (below r) ≡ o →
       face_exchange p shift theta s t v r (below r) o ≡ FaceMoves m → (r : ℕ) × (q : ℕ) × IsFaceExchange m r q
   entered_move m r leaves (Some q) enters e =
-      let same : m ≡ record { enters = q; leaves = r; to = if below r then Ll else Ul } = cc in (r, q, record { leaves = leaves; enters = enters; gives = same })
+      let same : m ≡ record { enters = q; leaves = r; to = if below r then Ll else Ul } = cc in
+      (r, q, record { leaves = leaves; enters = enters; gives = same })
   entered_move m r leaves None enters e = cc
 
-  found_move : (m : Move) (o : Option ℕ) → leaving p shift theta s t v ≡ o → face_at p shift theta s t v o ≡ FaceMoves m → (r : ℕ) × (q : ℕ) × IsFaceExchange m r q
+  found_move : (m : Move) (o : Option ℕ) → leaving p shift theta s t v ≡ o → face_at p shift theta s t v o ≡ FaceMoves m →
+      (r : ℕ) × (q : ℕ) × IsFaceExchange m r q
   found_move m (Some r) leaves e = entered_move m r leaves (cheapest p s t r (below r)) refl e
   found_move m None leaves e = cc
 
@@ -76,7 +79,9 @@ module _ (p : LinearProgram) (shift : List ℚ) (theta : ℚ) (s : List Status) 
     stands = record {
       nonbasic = (goes_apart (below r)).0;
       limited = (goes_apart (below r)).1;
-      allowed = stands_at (lower_of p r) (upper_of p r) (λ l. eq_ℚ (t.point r) l) (λ u. eq_ℚ (t.point r) u) (lt_ℚ (v r) (shift_of p.matrix shift r)) (lt_ℚ (shift_of p.matrix shift r) (v r))
+      allowed =
+          stands_at (lower_of p r) (upper_of p r) (λ l. eq_ℚ (t.point r) l) (λ u. eq_ℚ (t.point r) u) (lt_ℚ (v r) (shift_of p.matrix shift r))
+          (lt_ℚ (shift_of p.matrix shift r) (v r))
           (below r) refl tests.1;
     }
 
@@ -97,6 +102,7 @@ module _ (p : LinearProgram) (shift : List ℚ) (theta : ℚ) (s : List Status) 
   move_leads : (m : Move) → IsNonsingularBasis p s → IsTableau p s t → rhs_face p shift theta s t v ≡ FaceMoves m → IsNonsingularBasis p (after s m)
   move_leads m at tab e = let move = face_move m e in exchange_is at tab m move.0 move.1 move.2
 
-pub rhs_leads : (p : LinearProgram) (shift : List ℚ) (theta : ℚ) (s : List Status) (m : Move) → IsNonsingularBasis p s → IsRhsFace p shift theta s (FaceMoves m) → IsNonsingularBasis p (after s m)
+pub rhs_leads : (p : LinearProgram) (shift : List ℚ) (theta : ℚ) (s : List Status) (m : Move) → IsNonsingularBasis p s →
+    IsRhsFace p shift theta s (FaceMoves m) → IsNonsingularBasis p (after s m)
 rhs_leads p shift theta s m at face =
     from_rhs p shift theta (after s m) (move_leads (rhs_family p shift theta) shift theta s face.0 face.1 m (to_rhs p shift theta s at) face.2 face.4)

@@ -98,7 +98,8 @@ stands_on Ll low high theta x shift z v out free stands = rw (out refl) (moved_o
 stands_on Ul low high theta x shift z v out free stands = rw (out refl) (moved_on high theta x shift z stands)
 stands_on Fr low high theta x shift z v out free stands = still_zero theta x z v stands (out refl ∙ free refl)
 
-breaks_on : (low high : Option ℚ) (theta x shift z v : ℚ) (below : Bool) → theta <ℚ x → Crosses (moved theta shift low) (moved theta shift high) z v shift below →
+breaks_on : (low high : Option ℚ) (theta x shift z v : ℚ) (below : Bool) → theta <ℚ x →
+    Crosses (moved theta shift low) (moved theta shift high) z v shift below →
     Breaks (moved x shift low) (moved x shift high) (z +ℚ (x -ℚ theta) *ℚ v) below
 breaks_on low high theta x shift z v below past (crosses_lower is stands slower) =
     breaks_lower (z +ℚ (x -ℚ theta) *ℚ shift) is (moved_on low theta x shift z stands)
@@ -107,8 +108,10 @@ breaks_on low high theta x shift z v below past (crosses_upper is stands faster)
     breaks_upper (z +ℚ (x -ℚ theta) *ℚ shift) is (moved_on high theta x shift z stands)
     (lt_by_product past faster (by_ring5 theta x shift z v (λ y x s z v. z ⊕ (x ⊖ y) ⊗ v ≐ (z ⊕ (x ⊖ y) ⊗ s) ⊕ (x ⊖ y) ⊗ (v ⊖ s)) refl))
 
-module _ (p : LinearProgram) (shift : List ℚ) (theta : ℚ) (s : List Status) (at : IsNonsingularBasis p s) (t : Tableau) (tab : IsTableau (rhs_family p shift theta) s t)
-    (v : Vector) (slope : IsSlope (rhs_family p shift theta) s shift v) (end : ChainEnd) (infeasible_end : IsInfeasibleEnd (rhs_family p shift theta) shift theta s t v end) (x : ℚ) (past : theta <ℚ x) where
+module _ (p : LinearProgram) (shift : List ℚ) (theta : ℚ) (s : List Status) (at : IsNonsingularBasis p s) (t : Tableau)
+    (tab : IsTableau (rhs_family p shift theta) s t)
+    (v : Vector) (slope : IsSlope (rhs_family p shift theta) s shift v) (end : ChainEnd)
+    (infeasible_end : IsInfeasibleEnd (rhs_family p shift theta) shift theta s t v end) (x : ℚ) (past : theta <ℚ x) where
   abbrev by : ℕ → ℚ
   by k = shift_of p.matrix shift k
 
@@ -127,7 +130,8 @@ module _ (p : LinearProgram) (shift : List ℚ) (theta : ℚ) (s : List Status) 
   stands_here : (k : ℕ) → IsVariable p.matrix k → StandsAt (status_of s k) (moved theta (by k) (lower_of p k)) (moved theta (by k) (upper_of p k)) (t.point k)
   stands_here k is =
       subst (λ low. StandsAt (status_of s k) low (moved theta (by k) (upper_of p k)) (t.point k)) (lower_is p shift theta k is)
-      (subst (λ high. StandsAt (status_of s k) (lower_of (rhs_family p shift theta) k) high (t.point k)) (upper_is p shift theta k is) (tab.is_point.placed k is))
+      (subst (λ high. StandsAt (status_of s k) (lower_of (rhs_family p shift theta) k) high (t.point k)) (upper_is p shift theta k is)
+      (tab.is_point.placed k is))
 
   later_point : IsPointOf (rhs_family p shift x) s later
   later_point = record {
@@ -135,33 +139,46 @@ module _ (p : LinearProgram) (shift : List ℚ) (theta : ℚ) (s : List Status) 
     placed = λ k is.
         subst (λ low. StandsAt (status_of s k) low (upper_of (rhs_family p shift x) k) (later k)) (sym (lower_is p shift x k is))
         (subst (λ high. StandsAt (status_of s k) (moved x (by k) (lower_of p k)) high (later k)) (sym (upper_is p shift x k is))
-        (stands_on (status_of s k) (lower_of p k) (upper_of p k) theta x (by k) (t.point k) (v k) (out_of k is) (free_unshifted p shift s k at is) (stands_here k is)));
+        (stands_on (status_of s k) (lower_of p k) (upper_of p k) theta x (by k) (t.point k) (v k) (out_of k is) (free_unshifted p shift s k at is)
+        (stands_here k is)));
   }
 
   found : IsVariable p.matrix infeasible_end.r ×
-      ((is_in (basics_of s) infeasible_end.r && (leaves_below (rhs_family p shift theta) shift theta s t v infeasible_end.r || leaves_above (rhs_family p shift theta) shift theta s t v infeasible_end.r)) ≡ true)
+      ((is_in (basics_of s) infeasible_end.r &&
+      (leaves_below (rhs_family p shift theta) shift theta s t v infeasible_end.r || leaves_above
+      (rhs_family p shift theta) shift theta s t v infeasible_end.r)) ≡ true)
   found = found_passes (rhs_family p shift theta)
-      (λ k. is_in (basics_of s) k && (leaves_below (rhs_family p shift theta) shift theta s t v k || leaves_above (rhs_family p shift theta) shift theta s t v k)) infeasible_end.r infeasible_end.found
+      (λ k. is_in (basics_of s) k &&
+      (leaves_below (rhs_family p shift theta) shift theta s t v k || leaves_above
+      (rhs_family p shift theta) shift theta s t v k)) infeasible_end.r infeasible_end.found
 
   tests : (is_in (basics_of s) infeasible_end.r ≡ true) × ((below || leaves_above (rhs_family p shift theta) shift theta s t v infeasible_end.r) ≡ true)
   tests = and_parts (is_in (basics_of s) infeasible_end.r) (below || leaves_above (rhs_family p shift theta) shift theta s t v infeasible_end.r) found.1
 
-  crosses_here : Crosses (moved theta (by infeasible_end.r) (lower_of p infeasible_end.r)) (moved theta (by infeasible_end.r) (upper_of p infeasible_end.r)) (t.point infeasible_end.r) (v infeasible_end.r) (by infeasible_end.r) below
+  crosses_here : Crosses (moved theta (by infeasible_end.r) (lower_of p infeasible_end.r)) (moved theta (by infeasible_end.r) (upper_of p infeasible_end.r))
+      (t.point infeasible_end.r) (v infeasible_end.r) (by infeasible_end.r) below
   crosses_here =
-      subst (λ low. Crosses low (moved theta (by infeasible_end.r) (upper_of p infeasible_end.r)) (t.point infeasible_end.r) (v infeasible_end.r) (by infeasible_end.r) below) (lower_is p shift theta infeasible_end.r found.0)
-      (subst (λ high. Crosses (lower_of (rhs_family p shift theta) infeasible_end.r) high (t.point infeasible_end.r) (v infeasible_end.r) (by infeasible_end.r) below) (upper_is p shift theta infeasible_end.r found.0)
-      (crosses (lower_of (rhs_family p shift theta) infeasible_end.r) (upper_of (rhs_family p shift theta) infeasible_end.r) (t.point infeasible_end.r) (v infeasible_end.r) (by infeasible_end.r) below refl tests.1))
+      subst (λ low. Crosses low (moved theta (by infeasible_end.r) (upper_of p infeasible_end.r)) (t.point infeasible_end.r) (v infeasible_end.r)
+      (by infeasible_end.r) below) (lower_is p shift theta infeasible_end.r found.0)
+      (subst (λ high. Crosses (lower_of (rhs_family p shift theta) infeasible_end.r) high (t.point infeasible_end.r) (v infeasible_end.r)
+      (by infeasible_end.r) below) (upper_is p shift theta infeasible_end.r found.0)
+      (crosses (lower_of (rhs_family p shift theta) infeasible_end.r) (upper_of (rhs_family p shift theta) infeasible_end.r) (t.point infeasible_end.r)
+      (v infeasible_end.r) (by infeasible_end.r) below refl tests.1))
 
   breaks_later : Breaks (lower_of (rhs_family p shift x) infeasible_end.r) (upper_of (rhs_family p shift x) infeasible_end.r) (later infeasible_end.r) below
   breaks_later =
-      subst (λ low. Breaks low (upper_of (rhs_family p shift x) infeasible_end.r) (later infeasible_end.r) below) (sym (lower_is p shift x infeasible_end.r found.0))
-      (subst (λ high. Breaks (moved x (by infeasible_end.r) (lower_of p infeasible_end.r)) high (later infeasible_end.r) below) (sym (upper_is p shift x infeasible_end.r found.0))
-      (breaks_on (lower_of p infeasible_end.r) (upper_of p infeasible_end.r) theta x (by infeasible_end.r) (t.point infeasible_end.r) (v infeasible_end.r) below past crosses_here))
+      subst (λ low. Breaks low (upper_of (rhs_family p shift x) infeasible_end.r) (later infeasible_end.r) below)
+      (sym (lower_is p shift x infeasible_end.r found.0))
+      (subst (λ high. Breaks (moved x (by infeasible_end.r) (lower_of p infeasible_end.r)) high (later infeasible_end.r) below)
+      (sym (upper_is p shift x infeasible_end.r found.0))
+      (breaks_on (lower_of p infeasible_end.r) (upper_of p infeasible_end.r) theta x (by infeasible_end.r) (t.point infeasible_end.r)
+      (v infeasible_end.r) below past crosses_here))
 
   -- nothing brings it back, at theta and at x
   idle : (k : ℕ) → IsVariable p.matrix k → IsFixed (rhs_family p shift x) k ⊎ IsRightAt (status_of s k) (excess_rate t.rate infeasible_end.r below k)
   idle k is =
-      carried (right (status_of s k) (lower_of (rhs_family p shift theta) k) (upper_of (rhs_family p shift theta) k) (excess_rate t.rate infeasible_end.r below k) (is_fixed (rhs_family p shift theta) k) refl
+      carried (right (status_of s k) (lower_of (rhs_family p shift theta) k) (upper_of (rhs_family p shift theta) k)
+      (excess_rate t.rate infeasible_end.r below k) (is_fixed (rhs_family p shift theta) k) refl
       (cheapest_none (rhs_family p shift theta) s t infeasible_end.r below infeasible_end.alone k is))
     where
       carried : IsFixed (rhs_family p shift theta) k ⊎ IsRightAt (status_of s k) (excess_rate t.rate infeasible_end.r below k) →
@@ -176,7 +193,8 @@ module _ (p : LinearProgram) (shift : List ℚ) (theta : ℚ) (s : List Status) 
   refuted =
       let is : IsRay (rhs_family p shift x) (value_at (listed p.matrix ray)) =
       IsRay-same (rhs_family p shift x) ray (value_at (listed p.matrix ray)) (λ k is. sym (value_at-listed p.matrix ray k is))
-      (ray_is (rhs_family p shift x) s (record { point = later; rate = t.rate }) (to_rhs p shift x s at).is_basis at.nonsingular (record { is_point = later_point; are_rates = tab.are_rates })
+      (ray_is (rhs_family p shift x) s (record { point = later; rate = t.rate }) (to_rhs p shift x s at).is_basis at.nonsingular
+      (record { is_point = later_point; are_rates = tab.are_rates })
       infeasible_end.r below (found.0, tests.0) breaks_later idle) in
       record { ray = is; infeasible = infeasible_by_ray (rhs_family p shift x) (value_at (listed p.matrix ray)) is }
 

@@ -62,7 +62,8 @@ module _ (z r shift x : ℚ) where
         lt_by_one own.falls (by_ring2 r shift (λ r s. s ≐ r ⊕ (number (pos 0) ⊖ (r ⊖ s))) refl),
       )
 
-  second_leaves : (high : Option ℚ) (c : Condition) → option_map (λ u. condition (u -ℚ z) (neg_ℚ (r -ℚ shift))) high ≡ Some c → EndsAt x c → IsLeaving high × (shift <ℚ r)
+  second_leaves : (high : Option ℚ) (c : Condition) → option_map (λ u. condition (u -ℚ z) (neg_ℚ (r -ℚ shift))) high ≡ Some c → EndsAt x c →
+      IsLeaving high × (shift <ℚ r)
   second_leaves None c e ends = cc
   second_leaves (Some u) c e ends =
       let same : condition (u -ℚ z) (neg_ℚ (r -ℚ shift)) ≡ c = cc in
@@ -74,8 +75,10 @@ module _ (z r shift x : ℚ) where
         lt_by_one own.falls (by_ring2 r shift (λ r s. r ≐ s ⊕ (number (pos 0) ⊖ opposite (r ⊖ s))) refl),
       )
 
-module _ (p : LinearProgram) (shift : List ℚ) (lawful : IsLinearProgram p) (theta max : ℚ) (s : List Status) (part : Part) (at : IsNonsingularBasis p s) (before : theta <ℚ max)
-    (is : IsPart (rhs_family p shift) theta max s part) (t : Tableau) (tab : IsTableau (rhs_family p shift theta) s t) (v : Vector) (slope : IsSlope (rhs_family p shift theta) s shift v)
+module _ (p : LinearProgram) (shift : List ℚ) (lawful : IsLinearProgram p) (theta max : ℚ) (s : List Status) (part : Part) (at : IsNonsingularBasis p s)
+    (before : theta <ℚ max)
+    (is : IsPart (rhs_family p shift) theta max s part) (t : Tableau) (tab : IsTableau (rhs_family p shift theta) s t) (v : Vector)
+    (slope : IsSlope (rhs_family p shift theta) s shift v)
     (done : rhs_face (rhs_family p shift theta) shift theta s t v ≡ FaceDone) where
   abbrev by : ℕ → ℚ
   by k = shift_of p.matrix shift k
@@ -100,7 +103,8 @@ module _ (p : LinearProgram) (shift : List ℚ) (lawful : IsLinearProgram p) (th
   at_value : (k : ℕ) → IsVariable p.matrix k → t.point k ≡ along theta part.value part.value_rate k
   at_value k is_k =
       let there = to_rhs p shift theta s at in
-      one_point (rhs_family p shift theta) s t.point (along theta part.value part.value_rate) there.is_basis.counted there.nonsingular tab.is_point (is.values theta) k is_k
+      one_point (rhs_family p shift theta) s t.point (along theta part.value part.value_rate) there.is_basis.counted there.nonsingular tab.is_point
+      (is.values theta) k is_k
 
   at_rate : (k : ℕ) → IsVariable p.matrix k → v k ≡ value_at part.value_rate k
   at_rate = slope_is_rate p shift s at part.value part.value_rate is.values v slope.keeps slope.placed
@@ -113,7 +117,8 @@ module _ (p : LinearProgram) (shift : List ℚ) (lawful : IsLinearProgram p) (th
       by_mark false mark = absurd (apart (nonbasic_rate p shift s at part.value part.value_rate is.values k (is_k, mark)))
 
   abbrev leaves : ℕ → Bool
-  leaves k = is_in (basics_of s) k && (leaves_below (rhs_family p shift theta) shift theta s t v k || leaves_above (rhs_family p shift theta) shift theta s t v k)
+  leaves k =
+      is_in (basics_of s) k && (leaves_below (rhs_family p shift theta) shift theta s t v k || leaves_above (rhs_family p shift theta) shift theta s t v k)
 
   none : (k : ℕ) → IsVariable p.matrix k → leaves k ≡ false
   none = none_passes (rhs_family p shift theta) leaves (done_leaver (rhs_family p shift theta) shift theta s t v done)
@@ -150,6 +155,7 @@ module _ (p : LinearProgram) (shift : List ℚ) (lawful : IsLinearProgram p) (th
   grown = lt_of_lt_of_le spans.past
       (is.reaches.greatest spans.to spans.within (λ x after up_to. (optimal_where x).1 (λ k is_k. spans.holds x after up_to k is_k.0 is_k.1)))
 
-pub rhs_grows : (p : LinearProgram) (shift : List ℚ) → IsLinearProgram p → (theta max : ℚ) (s : List Status) (part : Part) → IsNonsingularBasis p s → theta <ℚ max →
+pub rhs_grows : (p : LinearProgram) (shift : List ℚ) → IsLinearProgram p → (theta max : ℚ) (s : List Status) (part : Part) → IsNonsingularBasis p s →
+    theta <ℚ max →
     IsRhsFace p shift theta s FaceDone → IsPart (rhs_family p shift) theta max s part → theta <ℚ part.to
 rhs_grows p shift lawful theta max s part at before face is = grown p shift lawful theta max s part at before is face.0 face.2 face.1 face.3 face.4

@@ -44,10 +44,13 @@ moves_by_status Fr low high z r s out free stands = stays_with z r stands ∙ sy
 module _ (p : LinearProgram) (shift : List ℚ) (s : List Status) (at : IsNonsingularBasis p s) (value rate : List ℚ)
     (points : (theta : ℚ) → IsPointOf (rhs_family p shift theta) s (along theta value rate)) where
   placed : (k : ℕ) → IsVariable p.matrix k → (theta : ℚ) →
-      StandsAt (status_of s k) (moved theta (shift_of p.matrix shift k) (lower_of p k)) (moved theta (shift_of p.matrix shift k) (upper_of p k)) (along theta value rate k)
+      StandsAt (status_of s k) (moved theta (shift_of p.matrix shift k) (lower_of p k)) (moved theta (shift_of p.matrix shift k) (upper_of p k))
+      (along theta value rate k)
   placed k is theta =
-      subst (λ low. StandsAt (status_of s k) low (moved theta (shift_of p.matrix shift k) (upper_of p k)) (along theta value rate k)) (lower_is p shift theta k is)
-      (subst (λ high. StandsAt (status_of s k) (lower_of (rhs_family p shift theta) k) high (along theta value rate k)) (upper_is p shift theta k is) ((points theta).placed k is))
+      subst (λ low. StandsAt (status_of s k) low (moved theta (shift_of p.matrix shift k) (upper_of p k)) (along theta value rate k))
+      (lower_is p shift theta k is)
+      (subst (λ high. StandsAt (status_of s k) (lower_of (rhs_family p shift theta) k) high (along theta value rate k)) (upper_is p shift theta k is)
+      ((points theta).placed k is))
 
   pub nonbasic_rate : (k : ℕ) → IsNonbasic p.matrix (basics_of s) k → value_at rate k ≡ shift_of p.matrix shift k
   nonbasic_rate k out =
@@ -73,7 +76,8 @@ module _ (p : LinearProgram) (shift : List ℚ) (s : List Status) (at : IsNonsin
   value_is_point = record {
     keeps = KeepsEquations-same p.matrix (along zero_ℚ value rate) (value_at value) (λ k is. still k) (points zero_ℚ).keeps;
     placed = λ k is. subst (StandsAt (status_of s k) (lower_of p k) (upper_of p k)) (still k)
-        (subst₂ (λ (low high : Option ℚ). StandsAt (status_of s k) low high (along zero_ℚ value rate k)) (unmoved (shift_of p.matrix shift k) (lower_of p k)) (unmoved (shift_of p.matrix shift k) (upper_of p k)) (placed k is zero_ℚ));
+        (subst₂ (λ (low high : Option ℚ). StandsAt (status_of s k) low high (along zero_ℚ value rate k)) (unmoved (shift_of p.matrix shift k) (lower_of p k))
+        (unmoved (shift_of p.matrix shift k) (upper_of p k)) (placed k is zero_ℚ));
   }
     where
       still : (k : ℕ) → along zero_ℚ value rate k ≡ value_at value k

@@ -23,12 +23,14 @@ module _ (p : LinearProgram) (family : ℚ → LinearProgram) (Face : ℚ → Li
   pub face_step_leads : (theta : ℚ) (s next : List Status) → IsNonsingularBasis p s → IsFaceStep family Face theta s next → IsNonsingularBasis p next
   face_step_leads theta s next at step = subst (IsNonsingularBasis p) (sym step.2) (keeps.face_leads theta s step.0 at step.1)
 
-  pub face_path_leads : (theta : ℚ) (s : List Status) (bases : List (List Status)) → IsNonsingularBasis p s → IsFacePath family Face theta s bases → IsNonsingularBasis p (last_of s bases)
+  pub face_path_leads : (theta : ℚ) (s : List Status) (bases : List (List Status)) → IsNonsingularBasis p s → IsFacePath family Face theta s bases →
+      IsNonsingularBasis p (last_of s bases)
   face_path_leads theta s [] at path = at
   face_path_leads theta s (next ∷ bases) at path = face_path_leads theta next bases (face_step_leads theta s next at path.0) path.1
 
   module _ (from max : ℚ) (s : List Status) (at : IsNonsingularBasis p s) where
-    pub reached_leads : (place : RunPlace) (path : List (List Status)) (ends : List ℚ) → Reaches family Face from max s place path ends → IsNonsingularBasis p (basis_of place)
+    pub reached_leads : (place : RunPlace) (path : List (List Status)) (ends : List ℚ) → Reaches family Face from max s place path ends →
+        IsNonsingularBasis p (basis_of place)
     reached_leads _ _ _ begins = at
     reached_leads _ _ _ (path_step {now} {next} {path} before step) =
         keeps.from_family from next (step_leads (family from) now next (keeps.to_family from now (reached_leads (InOpening now) path [] before)) step)
@@ -45,15 +47,18 @@ module _ (p : LinearProgram) (family : ℚ → LinearProgram) (Face : ℚ → Li
       subst (IsNonsingularBasis p) (sym (last_of-append s bases later))
       (chain_leads max part.to (last_of s bases) parts end later (face_path_leads part.to s bases at faces.face_path) chain)
 
-  pub opening_leads : (from : ℚ) (s : List Status) (bases : List (List Status)) (ending : PathEnding) → IsNonsingularBasis p s → PathEnds (family from) s bases ending → IsNonsingularBasis p (last_of s bases)
-  opening_leads from s bases ending at ends = keeps.from_family from (last_of s bases) (path_leads (family from) s bases (keeps.to_family from s at) ends.is_path)
+  pub opening_leads : (from : ℚ) (s : List Status) (bases : List (List Status)) (ending : PathEnding) → IsNonsingularBasis p s →
+      PathEnds (family from) s bases ending → IsNonsingularBasis p (last_of s bases)
+  opening_leads from s bases ending at ends =
+      keeps.from_family from (last_of s bases) (path_leads (family from) s bases (keeps.to_family from s at) ends.is_path)
 
   run_leads : (from max : ℚ) (s : List Status) (parts : List Part) (end : ChainEnd) (path : List (List Status)) → IsNonsingularBasis p s →
       IsRun family Face from max s parts end path → IsNonsingularBasis p (last_of s path)
   run_leads from max s parts end path at run =
       subst (λ bases. IsNonsingularBasis p (last_of s bases)) (sym run.whole)
       (subst (IsNonsingularBasis p) (sym (last_of-append s run.opening run.faces))
-      (chain_leads max from (last_of s run.opening) parts end run.faces (opening_leads from s run.opening (EndsOptimal run.point run.prices) at run.opens) run.chain))
+      (chain_leads max from (last_of s run.opening) parts end run.faces
+      (opening_leads from s run.opening (EndsOptimal run.point run.prices) at run.opens) run.chain))
 
   report_leads : (from max : ℚ) (s : List Status) (report : RunReport) (path : List (List Status)) → IsNonsingularBasis p s →
       IsReport family Face from max s report path → IsNonsingularBasis p (last_of s path)

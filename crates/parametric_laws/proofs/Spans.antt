@@ -73,7 +73,8 @@ some_put (Some c) cs x some = by_place some.among.0 refl
         first_is is e = rw is at e
     by_place (suc i) is = inr (record { condition = some.condition; among = (i, omega (arith, is, some.among.1), rest_is is some.among.2); ends = some.ends })
       where
-        rest_is : some.among.0 ≡ suc i → slice_index_or (c ∷ cs) some.among.0 some.condition ≡ some.condition → slice_index_or cs i some.condition ≡ some.condition
+        rest_is : some.among.0 ≡ suc i → slice_index_or (c ∷ cs) some.among.0 some.condition ≡ some.condition →
+            slice_index_or cs i some.condition ≡ some.condition
         rest_is is e = rw is at e
 
 one_ends : (f : ℕ → Sides) (n first : ℕ) (x : ℚ) → SomeEndsAt (conditions f first n) x → IsEnding f first n x
@@ -83,11 +84,13 @@ one_ends f (suc n) first x some = by_first (some_put (f first).first (put (f fir
     later : IsEnding f (suc first) n x → IsEnding f first (suc n) x
     later e = record { number = e.number; low = omega (arith, e.low); high = omega (arith, e.high); ends = e.ends }
 
-    by_second : PutEnds (f first).second x ⊎ SomeEndsAt (conditions f (suc first) n) x → (SomeEndsAt (conditions f (suc first) n) x → IsEnding f (suc first) n x) → IsEnding f first (suc n) x
+    by_second : PutEnds (f first).second x ⊎ SomeEndsAt (conditions f (suc first) n) x →
+        (SomeEndsAt (conditions f (suc first) n) x → IsEnding f (suc first) n x) → IsEnding f first (suc n) x
     by_second (inl e) rest = record { number = first; low = omega arith; high = omega arith; ends = second_ends e.condition e.is e.ends }
     by_second (inr some) rest = later (rest some)
 
-    by_first : PutEnds (f first).first x ⊎ SomeEndsAt (put (f first).second (conditions f (suc first) n)) x → (SomeEndsAt (conditions f (suc first) n) x → IsEnding f (suc first) n x) → IsEnding f first (suc n) x
+    by_first : PutEnds (f first).first x ⊎ SomeEndsAt (put (f first).second (conditions f (suc first) n)) x →
+        (SomeEndsAt (conditions f (suc first) n) x → IsEnding f (suc first) n x) → IsEnding f first (suc n) x
     by_first (inl e) rest = record { number = first; low = omega arith; high = omega arith; ends = first_ends e.condition e.is e.ends }
     by_first (inr some) rest = by_second (some_put (f first).second (conditions f (suc first) n) x some) rest
 
@@ -110,7 +113,8 @@ span f n from max forward hold none = record {
     reached : IsReach (conditions f 1 n) from max (reach_of max (conditions f 1 n))
     reached = reach (conditions f 1 n) from max (all_hold f n 1 from (λ k low high. hold k low (omega (arith, high)))) (le_of_lt forward)
 
-    at_end : from ≡ reach_of max (conditions f 1 n) → (reach_of max (conditions f 1 n) ≡ max) ⊎ SomeEndsAt (conditions f 1 n) (reach_of max (conditions f 1 n)) → ⊥
+    at_end : from ≡ reach_of max (conditions f 1 n) →
+        (reach_of max (conditions f 1 n) ≡ max) ⊎ SomeEndsAt (conditions f 1 n) (reach_of max (conditions f 1 n)) → ⊥
     at_end same (inl last) = lt_irrefl (subst (λ x. x <ℚ max) (same ∙ last) forward)
     at_end same (inr some) =
         let e = one_ends f n 1 from (subst (SomeEndsAt (conditions f 1 n)) (sym same) some) in

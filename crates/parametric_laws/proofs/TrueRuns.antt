@@ -15,7 +15,8 @@ use Rattle.parametric_laws.proofs.ObjectiveEnds.{objective_known, objective_kept
 use Rattle.parametric_laws.proofs.RhsGrowth.{rhs_grows}
 use Rattle.parametric_laws.proofs.RhsEnds.{rhs_closes}
 
-pub objective_runs : (p : LinearProgram) (h : ℕ) → IsLinearProgram p → IsRow p.matrix h → HasNoLimits p h → HasTrueRuns p (objective_family p h) (IsObjectiveFace p h)
+pub objective_runs : (p : LinearProgram) (h : ℕ) → IsLinearProgram p → IsRow p.matrix h → HasNoLimits p h →
+    HasTrueRuns p (objective_family p h) (IsObjectiveFace p h)
 objective_runs p h lawful row free =
     report_true p (objective_family p h) (IsObjectiveFace p h) (objective_keeps p h) (lawful_objective p h lawful row free) (λ theta s. HasFeasiblePoint p s)
     (λ theta s optimal. objective_known p h theta s optimal) (λ theta s m at have face. objective_kept p h theta s m at have face)

@@ -50,41 +50,54 @@ module _ (problem : Problem ℕ) (cells : Cells) where
 
   module _ (name : Name) where
     -- a row's number tells whether there is such a row
-    by_number : (free : Bool) (found : Option ℕ) (number : ℕ) → found ≡ (if free then Some number else None) → (found ≡ None → (if free then Some (Row name) else None) ≡ None) × ((n : ℕ) → found ≡ Some n → ((if free then Some (Row name) else None) ≡ Some (Row name)) × (number ≡ n))
+    by_number : (free : Bool) (found : Option ℕ) (number : ℕ) → found ≡ (if free then Some number else None) →
+        (found ≡ None → (if free then Some (Row name) else None) ≡ None) ×
+        ((n : ℕ) → found ≡ Some n → ((if free then Some (Row name) else None) ≡ Some (Row name)) × (number ≡ n))
     by_number true found number e = ((λ none. absurd (cc (e, none))), (λ n some. (refl, same_Some number n (sym e ∙ some))))
     by_number false found number e = ((λ none. refl), (λ n some. absurd (cc (e, some))))
 
-    pub no_row : (found : Option ℕ) → cells.xchrow ≡ Some name → found ≡ free_row_number problem name → found ≡ None → option_and_then (change_row problem) cells.xchrow ≡ None
-    no_row found moved e none = ap (option_and_then (change_row problem)) moved ∙ (by_number (has_free_row problem.rows name) found (row_of problem name) e).0 none
+    pub no_row : (found : Option ℕ) → cells.xchrow ≡ Some name → found ≡ free_row_number problem name → found ≡ None →
+        option_and_then (change_row problem) cells.xchrow ≡ None
+    no_row found moved e none =
+        ap (option_and_then (change_row problem)) moved ∙ (by_number (has_free_row problem.rows name) found (row_of problem name) e).0 none
 
-    pub row_changes : (found : Option ℕ) (row : ℕ) → cells.xchrow ≡ Some name → found ≡ free_row_number problem name → found ≡ Some row → Changes Paraobj problem cells (Row name) × (row_of problem name ≡ row)
+    pub row_changes : (found : Option ℕ) (row : ℕ) → cells.xchrow ≡ Some name → found ≡ free_row_number problem name → found ≡ Some row →
+        Changes Paraobj problem cells (Row name) × (row_of problem name ≡ row)
     row_changes found row moved e some =
         let at = (by_number (has_free_row problem.rows name) found (row_of problem name) e).1 row some in
         (ap (option_and_then (change_row problem)) moved ∙ at.0, at.1)
 
     -- and so do a set's values
-    by_values : (there : Bool) (found : Option (List ℚ)) (values : List ℚ) → found ≡ (if there then Some values else None) → (found ≡ None → (if there then Some (Set name) else None) ≡ None) × ((v : List ℚ) → found ≡ Some v → ((if there then Some (Set name) else None) ≡ Some (Set name)) × (values ≡ v))
+    by_values : (there : Bool) (found : Option (List ℚ)) (values : List ℚ) → found ≡ (if there then Some values else None) →
+        (found ≡ None → (if there then Some (Set name) else None) ≡ None) ×
+        ((v : List ℚ) → found ≡ Some v → ((if there then Some (Set name) else None) ≡ Some (Set name)) × (values ≡ v))
     by_values true found values e = ((λ none. absurd (cc (e, none))), (λ v some. (refl, same_Some values v (sym e ∙ some))))
     by_values false found values e = ((λ none. refl), (λ v some. absurd (cc (e, some))))
 
-    pub no_set : (found : Option (List ℚ)) → cells.xchcol ≡ Some name → found ≡ set_values problem name → found ≡ None → option_and_then (change_set problem) cells.xchcol ≡ None
-    no_set found moved e none = ap (option_and_then (change_set problem)) moved ∙ (by_values (has_group problem.rhs name) found (values_in problem name) e).0 none
+    pub no_set : (found : Option (List ℚ)) → cells.xchcol ≡ Some name → found ≡ set_values problem name → found ≡ None →
+        option_and_then (change_set problem) cells.xchcol ≡ None
+    no_set found moved e none =
+        ap (option_and_then (change_set problem)) moved ∙ (by_values (has_group problem.rhs name) found (values_in problem name) e).0 none
 
-    pub set_changes : (found : Option (List ℚ)) (values : List ℚ) → cells.xchcol ≡ Some name → found ≡ set_values problem name → found ≡ Some values → Changes Pararhs problem cells (Set name) × (shifts_of problem name ≡ values)
+    pub set_changes : (found : Option (List ℚ)) (values : List ℚ) → cells.xchcol ≡ Some name → found ≡ set_values problem name → found ≡ Some values →
+        Changes Pararhs problem cells (Set name) × (shifts_of problem name ≡ values)
     set_changes found values moved e some =
         let at = (by_values (has_group problem.rhs name) found (values_in problem name) e).1 values some in
         (ap (option_and_then (change_set problem)) moved ∙ at.0, at.1)
 
-pub not_asked : (verb : ParametricVerb) (problem : Problem ℕ) (cells : Cells) (stop : RequestStop) → IsNoChange verb problem cells stop → IsNotAsked verb problem cells stop
+pub not_asked : (verb : ParametricVerb) (problem : Problem ℕ) (cells : Cells) (stop : RequestStop) → IsNoChange verb problem cells stop →
+    IsNotAsked verb problem cells stop
 not_asked verb problem cells (stops.Fault fault) none = subst (IsAskFault verb problem cells) (sym none.1) (no_change none.0)
 not_asked verb problem cells stops.NoMemory none = tt
 
 -- what changes doesn't depend on XPARAM
-pub changes_from : (verb : ParametricVerb) (problem : Problem ℕ) (cells : Cells) (from : ℚ) (changing : Changing) → Changes verb problem cells changing → Changes verb problem (record cells { xparam = from }) changing
+pub changes_from : (verb : ParametricVerb) (problem : Problem ℕ) (cells : Cells) (from : ℚ) (changing : Changing) → Changes verb problem cells changing →
+    Changes verb problem (record cells { xparam = from }) changing
 changes_from Paraobj problem cells from changing changes = changes
 changes_from Pararhs problem cells from changing changes = changes
 
-pub no_change_from : (verb : ParametricVerb) (problem : Problem ℕ) (cells : Cells) (from : ℚ) (stop : RequestStop) → IsNoChange verb problem cells stop → IsNoChange verb problem (record cells { xparam = from }) stop
+pub no_change_from : (verb : ParametricVerb) (problem : Problem ℕ) (cells : Cells) (from : ℚ) (stop : RequestStop) → IsNoChange verb problem cells stop →
+    IsNoChange verb problem (record cells { xparam = from }) stop
 no_change_from Paraobj problem cells from (stops.Fault fault) none = none
 no_change_from Pararhs problem cells from (stops.Fault fault) none = none
 no_change_from verb problem cells from stops.NoMemory none = tt

@@ -64,7 +64,8 @@ fn last_value(cells: &Cells) -> Result<Frac, VerbFault>
 
 // The row that changes, by the cells, with its name.
 fn row_of(problem: &Problem, cells: &Cells) -> Result<(Name, Change), RequestStop>
-    ensures changes { IfOk result (λ made. Changes ParametricVerb.Paraobj problem.now cells.now (changing_of made.0 made.1)) }
+    ensures changes { IfOk result
+        (λ made. Changes ParametricVerb.Paraobj problem.now cells.now (changing_of made.0 made.1)) }
     ensures of { IfOk result (λ made. IsChangeOf problem.now made.0 made.1) }
     ensures refused { IfErr result (IsNoChange ParametricVerb.Paraobj problem.now cells.now) }
 {
@@ -79,7 +80,8 @@ fn row_of(problem: &Problem, cells: &Cells) -> Result<(Name, Change), RequestSto
 
 // The set that changes, by the cells, with its name.
 fn set_of(alloc: Global, problem: &Problem, cells: &Cells) -> Result<(Name, Change), RequestStop>
-    ensures changes { IfOk result (λ made. Changes ParametricVerb.Pararhs problem.now cells.now (changing_of made.0 made.1)) }
+    ensures changes { IfOk result
+        (λ made. Changes ParametricVerb.Pararhs problem.now cells.now (changing_of made.0 made.1)) }
     ensures of { IfOk result (λ made. IsChangeOf problem.now made.0 made.1) }
     ensures refused { IfErr result (IsNoChange ParametricVerb.Pararhs problem.now cells.now) }
 {
@@ -102,7 +104,8 @@ pub fn change_of(
     cells: &Cells,
     verb: ParametricVerb,
 ) -> Result<(Name, Change), RequestStop>
-    ensures changes { IfOk result (λ made. Changes verb problem.now cells.now (changing_of made.0 made.1)) }
+    ensures changes { IfOk result
+        (λ made. Changes verb problem.now cells.now (changing_of made.0 made.1)) }
     ensures of { IfOk result (λ made. IsChangeOf problem.now made.0 made.1) }
     ensures refused { IfErr result (IsNoChange verb problem.now cells.now) }
 {

@@ -32,7 +32,8 @@ use Rattle.parametric_run.proofs.Walks.{opens_later, opens_next, run_breaks, ope
 
 -- ---- a stop where an interval begins
 
-pub refused_interval : (m : ParametricProgram) (s : List Status) (left : ℕ) (ways now : List Basics) (from : ℚ) (why : Stop) → IfOverflow why (RefusedAt m s ways now) →
+pub refused_interval : (m : ParametricProgram) (s : List Status) (left : ℕ) (ways now : List Basics) (from : ℚ) (why : Stop) →
+    IfOverflow why (RefusedAt m s ways now) →
     IntervalStops (m.statement from) m.program.matrix s left ways now (primal_stop_of why)
 refused_interval m s left ways now from (stop.Overflow e) r = λ breakpoint. r from breakpoint left
 refused_interval m s left ways now from stop.NoMemory r = tt
@@ -56,11 +57,22 @@ module _ (m : ParametricProgram) (is_parametric : IsParametric m) where
     };
     values = is.values;
     prices = is.prices;
-    values_counted = record { value_counted = is.values_counted.value_counted ∙ same_size from part.to; rate_counted = is.values_counted.rate_counted ∙ same_size from part.to };
-    prices_counted = record { value_counted = is.prices_counted.value_counted ∙ same_size from part.to; rate_counted = is.prices_counted.rate_counted ∙ same_size from part.to };
+    values_counted =
+        record {
+          value_counted = is.values_counted.value_counted ∙ same_size from part.to;
+          rate_counted = is.values_counted.rate_counted
+              ∙ same_size from part.to;
+        };
+    prices_counted =
+        record {
+          value_counted = is.prices_counted.value_counted ∙ same_size from part.to;
+          rate_counted = is.prices_counted.rate_counted
+              ∙ same_size from part.to;
+        };
   }
     where
-      by_order : (u : ℚ) → ((x : ℚ) → part.to ≤ℚ x → x ≤ℚ u → IsOptimalBasis (m.family x) s) → (x : ℚ) → from ≤ℚ x → x ≤ℚ u → (x <ℚ part.to) ⊎ (part.to ≤ℚ x) → IsOptimalBasis (m.family x) s
+      by_order : (u : ℚ) → ((x : ℚ) → part.to ≤ℚ x → x ≤ℚ u → IsOptimalBasis (m.family x) s) → (x : ℚ) → from ≤ℚ x → x ≤ℚ u → (x <ℚ part.to) ⊎ (part.to ≤ℚ x) →
+          IsOptimalBasis (m.family x) s
       by_order u all x low high (inl before) = is.reaches.optimal x low (le_of_lt before)
       by_order u all x low high (inr past) = all x past high
 
@@ -85,30 +97,37 @@ module _ (m : ParametricProgram) (span : Span) (s : List Status) (begun : ℕ) w
   pub parts_begin : Begins [] span.from s begun
   parts_begin = record { path = []; is_begun = nothing; taken = omega arith }
 
-  module _ (old : List ParaPart) (theta : ℚ) (now : List Status) (left : ℕ) (b : Begins (map part_of old) theta now left) (part : ParaPart) (is : IsPart m.family theta span.to now (part_of part))
+  module _ (old : List ParaPart) (theta : ℚ) (now : List Status) (left : ℕ) (b : Begins (map part_of old) theta now left) (part : ParaPart)
+      (is : IsPart m.family theta span.to now (part_of part))
       (items : List ParaPart) (pushed : items ≡ old ++ part ∷ []) where
     parts_are : map part_of items ≡ map part_of old ++ part_of part ∷ []
     parts_are = ap (map part_of) pushed ∙ map-append part_of old (part ∷ [])
 
     -- no face step is left
-    pub parts_more : (next : List Status) (later : ℕ) → part.to <ℚ span.to → FacesReach m part.to now next left later → m.face part.to next FaceDone → Begins (map part_of items) part.to next later
+    pub parts_more : (next : List Status) (later : ℕ) → part.to <ℚ span.to → FacesReach m part.to now next left later → m.face part.to next FaceDone →
+        Begins (map part_of items) part.to next later
     parts_more next later before reach done = record {
       path = b.path ++ reach.bases;
       is_begun =
           subst (λ (xs : List Part). IsBegun m.family m.face span.from span.to s xs part.to next (b.path ++ reach.bases)) (sym parts_are)
-          (subst (λ (x : List Status). IsBegun m.family m.face span.from span.to s (map part_of old ++ part_of part ∷ []) part.to x (b.path ++ reach.bases)) reach.reaches
+          (subst (λ (x : List Status). IsBegun m.family m.face span.from span.to s (map part_of old ++ part_of part ∷ []) part.to x
+          (b.path ++ reach.bases)) reach.reaches
           (then {parts = map part_of old} {theta = theta} {now = now} {path = b.path} {part = part_of part} {bases = reach.bases} b.is_begun is
           (record { before_max = before; face_path = reach.path; last = subst (λ x. m.face part.to x FaceDone) (sym reach.reaches) done })));
-      taken = let first = b.taken in let second = reach.taken in let both : length (b.path ++ reach.bases) ≡ length b.path + length reach.bases = length-append b.path reach.bases in omega (arith, first, second, both);
+      taken =
+          let first = b.taken in let second = reach.taken in let both : length
+          (b.path ++ reach.bases) ≡ length b.path + length reach.bases = length-append b.path reach.bases in omega (arith, first, second, both);
     }
 
     -- where each run stands after so many steps, with this many left
     abbrev pub StandsAll : List Basics → List Status → List Basics → ℕ → Type 0
     StandsAll ways next more later =
-        (start : List Status) (before : List Basics) (steps taken : ℕ) → taken + later ≡ steps + begun → OpensFrom m span start before s ways steps → StandsAt m span start before next more taken
+        (start : List Status) (before : List Basics) (steps taken : ℕ) → taken + later ≡ steps + begun → OpensFrom m span start before s ways steps →
+        StandsAt m span start before next more taken
 
     -- the last interval goes to the last value
-    pub ends_at_max : (ways more : List Basics) → part.to ≡ span.to → StandsAll ways now more left → ChainEnds m span s now begun ways more (record { parts = items; end = end.AtMax })
+    pub ends_at_max : (ways more : List Basics) → part.to ≡ span.to → StandsAll ways now more left →
+        ChainEnds m span s now begun ways more (record { parts = items; end = end.AtMax })
     ends_at_max ways more whole stood =
         let first = b.taken in let same : length (b.path ++ []) ≡ length b.path = ap length (append-nil b.path) in
         record {
@@ -123,18 +142,27 @@ module _ (m : ParametricProgram) (span : Span) (s : List Status) (begun : ℕ) w
         }
 
     -- or ends before it, with what is proved of all beyond
-    pub ends_past : (ways more : List Basics) (next : List Status) (later : ℕ) (last : ParaEnd) → part.to <ℚ span.to → FacesReach m part.to now next left later → m.face part.to next (FaceEnds (end_of last)) →
+    pub ends_past : (ways more : List Basics) (next : List Status) (later : ℕ) (last : ParaEnd) → part.to <ℚ span.to →
+        FacesReach m part.to now next left later → m.face part.to next (FaceEnds (end_of last)) →
         StandsAll ways next more later → ChainEnds m span s next begun ways more (record { parts = items; end = last })
     ends_past ways more next later last before reach ends stood =
-        let first = b.taken in let second = reach.taken in let both : length (b.path ++ reach.bases) ≡ length b.path + length reach.bases = length-append b.path reach.bases in
+        let first = b.taken in
+        let second = reach.taken in let both : length (b.path ++ reach.bases) ≡ length b.path + length reach.bases = length-append b.path reach.bases in
         record {
           path = b.path ++ reach.bases;
           chain =
               subst (λ (xs : List Part). IsChain m.family m.face span.to span.from s xs (end_of last) (b.path ++ reach.bases)) (sym parts_are)
               (closes m.family m.face span.from span.to s (map part_of old) theta now b.path (part_of part ∷ []) (end_of last) reach.bases b.is_begun
               (past_breakpoint {from = theta} {s = now} {part = part_of part} is
-              (record { before_max = before; face_path = reach.path; last = subst (λ x. m.face part.to x (FaceEnds (end_of last))) (sym reach.reaches) ends })));
-          reaches = last_of-append s b.path reach.bases ∙ ap (λ x. last_of x reach.bases) (begun_last m.family m.face span.from span.to s (map part_of old) theta now b.path b.is_begun) ∙ reach.reaches;
+              (record {
+                before_max = before;
+                face_path = reach.path;
+                last = subst (λ x. m.face part.to x (FaceEnds (end_of last)))
+                    (sym reach.reaches) ends;
+              })));
+          reaches =
+              last_of-append s b.path reach.bases
+              ∙ ap (λ x. last_of x reach.bases) (begun_last m.family m.face span.from span.to s (map part_of old) theta now b.path b.is_begun) ∙ reach.reaches;
           within = omega (arith, first, second, both);
           stood = λ start before steps counted h. stood start before steps (steps + length (b.path ++ reach.bases)) (omega (arith, first, second, both)) h;
         }
@@ -153,34 +181,43 @@ module _ (m : ParametricProgram) (span : Span) (s : List Status) (begun : ℕ) (
       subst (λ (n : ℕ). MayOpen m.family m.face span.from span.to m.program.matrix start before span.from s more n) (omega (arith, counted))
       (opens_later m.family m.face span.from span.to m.program.matrix start before span.from s ways steps h more keeps)
 
-  pub first_stops : (more : List Basics) (why : PrimalStop) → IntervalStops (m.statement span.from) m.program.matrix s begun ways more why → ChainStops m span s s begun ways more why
+  pub first_stops : (more : List Basics) (why : PrimalStop) → IntervalStops (m.statement span.from) m.program.matrix s begun ways more why →
+      ChainStops m span s s begun ways more why
   first_stops more why stops start before steps counted h =
-      interval_stops m.family m.face span.from span.to m.program.matrix start before span.from s ways steps h (m.statement span.from) span.limit more why (omega (arith, counted))
+      interval_stops m.family m.face span.from span.to m.program.matrix start before span.from s ways steps h (m.statement span.from) span.limit more why
+      (omega (arith, counted))
       (subst (λ (n : ℕ). IntervalStops (m.statement span.from) m.program.matrix s n ways more why) (omega (arith, counted)) stops)
 
   module _ (theta : ℚ) (now : List Status) (more : List Basics) (left : ℕ) (any : OpensAny theta now more left) (within : left ≤ begun) where
-    pub stops_any : (why : PrimalStop) → IntervalStops (m.statement span.from) m.program.matrix now left more more why → ChainStops m span s now begun ways more why
+    pub stops_any : (why : PrimalStop) → IntervalStops (m.statement span.from) m.program.matrix now left more more why →
+        ChainStops m span s now begun ways more why
     stops_any why stops start before steps counted h =
-        interval_stops m.family m.face span.from span.to m.program.matrix start before theta now more (steps + begun - left) (any start before steps (steps + begun - left) (omega (arith, within)) h)
+        interval_stops m.family m.face span.from span.to m.program.matrix start before theta now more (steps + begun - left)
+        (any start before steps (steps + begun - left) (omega (arith, within)) h)
         (m.statement span.from) span.limit more why (omega (arith, within, counted))
         (subst (λ (n : ℕ). IntervalStops (m.statement span.from) m.program.matrix now n more more why) (omega (arith, within, counted)) stops)
 
-    pub stood_any : (start : List Status) (before : List Basics) (steps taken : ℕ) → taken + left ≡ steps + begun → OpensFrom m span start before s ways steps → StandsAt m span start before now more taken
-    stood_any start before steps taken counted h = let o = any start before steps taken counted h in record { place = o.place; ends = o.ends; is_now = o.is_now; run_there = o.run }
+    pub stood_any : (start : List Status) (before : List Basics) (steps taken : ℕ) → taken + left ≡ steps + begun → OpensFrom m span start before s ways steps →
+        StandsAt m span start before now more taken
+    stood_any start before steps taken counted h =
+        let o = any start before steps taken counted h in record { place = o.place; ends = o.ends; is_now = o.is_now; run_there = o.run }
 
     pub follows_any : ChainFollows m span s now begun ways more
     follows_any start before steps counted h =
-        opening_follows m.family m.face span.from span.to m.program.matrix start before theta now more (steps + begun - left) (any start before steps (steps + begun - left) (omega (arith, within)) h)
+        opening_follows m.family m.face span.from span.to m.program.matrix start before theta now more (steps + begun - left)
+        (any start before steps (steps + begun - left) (omega (arith, within)) h)
         span.limit (omega (arith, within, counted))
 
-    module _ (part : ParaPart) (is : IsPart m.family theta span.to now (part_of part)) (before_end : part.to <ℚ span.to) (next : List Status) (last : List Basics) where
+    module _ (part : ParaPart) (is : IsPart m.family theta span.to now (part_of part)) (before_end : part.to <ℚ span.to) (next : List Status)
+        (last : List Basics) where
       -- no face step is left at the breakpoint
       pub opens_more : (later : ℕ) → AnyRun m part.to now next more last left later → m.face part.to next FaceDone → OpensAny part.to next last later
       opens_more later all done start before steps taken counted h =
           let o = any start before steps (steps + begun - left) (omega (arith, within)) h in
           opens_next m.family m.face span.from span.to m.program.matrix start before part.to (part.to ∷ o.ends) next last taken
           (all span.from span.to start before (part.to ∷ o.ends) (steps + begun - left) taken (omega (arith, within, counted))
-          (run_breaks m.family m.face span.from span.to m.program.matrix start before theta now more (steps + begun - left) o part.to is.reaches before_end)) done
+          (run_breaks m.family m.face span.from span.to m.program.matrix start before theta now more
+          (steps + begun - left) o part.to is.reaches before_end)) done
 
       pub faces_stop_any : (why : PrimalStop) → FacesStop m part.to now next left more last why → ChainStops m span s next begun ways last why
       faces_stop_any why stops start before steps counted h =
@@ -195,7 +232,8 @@ module _ (m : ParametricProgram) (span : Span) (s : List Status) (begun : ℕ) (
           (run_breaks m.family m.face span.from span.to m.program.matrix start before theta now more (steps + begun - left) o part.to is.reaches before_end)
 
       pub stood_past : (later : ℕ) → AnyRun m part.to now next more last left later →
-          (start : List Status) (before : List Basics) (steps taken : ℕ) → taken + later ≡ steps + begun → OpensFrom m span start before s ways steps → StandsAt m span start before next last taken
+          (start : List Status) (before : List Basics) (steps taken : ℕ) → taken + later ≡ steps + begun → OpensFrom m span start before s ways steps →
+          StandsAt m span start before next last taken
       stood_past later all start before steps taken counted h =
           let o = any start before steps (steps + begun - left) (omega (arith, within)) h in
           record {
@@ -203,5 +241,6 @@ module _ (m : ParametricProgram) (span : Span) (s : List Status) (begun : ℕ) (
             ends = part.to ∷ o.ends;
             is_now = refl;
             run_there = all span.from span.to start before (part.to ∷ o.ends) (steps + begun - left) taken (omega (arith, within, counted))
-                (run_breaks m.family m.face span.from span.to m.program.matrix start before theta now more (steps + begun - left) o part.to is.reaches before_end);
+                (run_breaks m.family m.face span.from span.to m.program.matrix start before theta now more
+                (steps + begun - left) o part.to is.reaches before_end);
           }

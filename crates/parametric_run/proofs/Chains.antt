@@ -14,7 +14,8 @@ use Rattle.parametric_run.specs.Begun.{IsBegun, nothing, then}
 use Rattle.parametric_laws.proofs.Runs.{last_of-append}
 
 module _ (family : ℚ → LinearProgram) (Face : ℚ → List Status → FaceTurn → Type 0) (from max : ℚ) (s : List Status) where
-  pub closes : (parts : List Part) (theta : ℚ) (now : List Status) (path : List (List Status)) (rest : List Part) (end : ChainEnd) (later : List (List Status)) →
+  pub closes : (parts : List Part) (theta : ℚ) (now : List Status) (path : List (List Status)) (rest : List Part) (end : ChainEnd)
+      (later : List (List Status)) →
       IsBegun family Face from max s parts theta now path → IsChain family Face max theta now rest end later →
       IsChain family Face max from s (parts ++ rest) end (path ++ later)
   closes _ _ _ _ rest end later nothing chain = chain
@@ -24,7 +25,8 @@ module _ (family : ℚ → LinearProgram) (Face : ℚ → List Status → FaceTu
       (closes parts theta now path (part ∷ rest) end (bases ++ later) begun (goes_on {from = theta} {s = now} {part = part} is faces chain)))
 
   -- its face steps have reached the basis with which the next interval begins
-  pub begun_last : (parts : List Part) (theta : ℚ) (now : List Status) (path : List (List Status)) → IsBegun family Face from max s parts theta now path → last_of s path ≡ now
+  pub begun_last : (parts : List Part) (theta : ℚ) (now : List Status) (path : List (List Status)) → IsBegun family Face from max s parts theta now path →
+      last_of s path ≡ now
   begun_last _ _ _ _ nothing = refl
   begun_last _ _ _ _ (then {parts} {theta} {now} {path} {part} {bases} begun is faces) =
       last_of-append s path bases ∙ ap (λ x. last_of x bases) (begun_last parts theta now path begun)

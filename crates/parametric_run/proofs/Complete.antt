@@ -32,13 +32,16 @@ module _ (family : ℚ → LinearProgram) (Face : ℚ → List Status → FaceTu
   reported (Opening outcome) bases is = record { report = FailedOpening is.ending; is_report = is.opens; is_answer = ap Opening is.is_outcome }
   reported (Run run) bases is = record { report = Chain (map part_of run.parts) (end_of run.end); is_report = is; is_answer = (run, refl, refl, refl) }
 
-  module _ (p : LinearProgram) (one : HasOneFace p family Face) (at : IsNonsingularBasis p s) (limit : ℕ) (Overflows : List Status → List Basics → Evidence → Type 0) where
+  module _ (p : LinearProgram) (one : HasOneFace p family Face) (at : IsNonsingularBasis p s) (limit : ℕ)
+      (Overflows : List Status → List Basics → Evidence → Type 0) where
     pub run_answers : (a : Matrix) (now : List Status) (before after : List Basics) (result : Result ParaReport PrimalStop) →
         IfOk result (RunEnds family Face from max s now limit a before after) → IfErr result (RunStops family Face from max s now limit (Overflows now after)) →
-        (report : RunReport) (path : List (List Status)) → RunEndsOverflowFree family Face from max s limit Overflows report path → IsRunOrMemory s report path now result
+        (report : RunReport) (path : List (List Status)) → RunEndsOverflowFree family Face from max s limit Overflows report path →
+        IsRunOrMemory s report path now result
     run_answers a now before after (Ok answer) ends stops report path goes =
         let given = reported answer ends.bases ends.is_report in
-        let same : SameReports report given.report path ends.bases = one_report p family Face one from max s report given.report path ends.bases at goes.ends given.is_report in
+        let same : SameReports report given.report path ends.bases =
+        one_report p family Face one from max s report given.report path ends.bases at goes.ends given.is_report in
         inl (
           answer,
           refl,

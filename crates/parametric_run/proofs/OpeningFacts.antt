@@ -46,25 +46,30 @@ module _ (m : ParametricProgram) (is_parametric : IsParametric m) (span : Span) 
     reaches = opening_reaches m.family m.face span.from span.to m.program.matrix s before h.bases h.is_path;
     is_now = h.reaches;
     lie = λ earlier.
-        subst (λ (a : Matrix). LieIn a before (earlier ++ s ∷ []) → LieIn a after (earlier ++ s ∷ h.bases)) (is_parametric.same_matrix span.from) (h.lie earlier);
+        subst (λ (a : Matrix). LieIn a before (earlier ++ s ∷ []) → LieIn a after (earlier ++ s ∷ h.bases)) (is_parametric.same_matrix span.from)
+        (h.lie earlier);
   }
 
   -- a stop of the chain is one of the run
   pub chain_stops : (why : PrimalStop) →
-      RunStops m.family m.face span.from span.to s now span.limit (RunOverflows m.family m.face span.from span.to s now span.limit (m.statement span.from) m.program.matrix before after) why →
+      RunStops m.family m.face span.from span.to s now span.limit
+      (RunOverflows m.family m.face span.from span.to s now span.limit (m.statement span.from) m.program.matrix before after) why →
       MethodStops m span s now before after why
   chain_stops Limit h = h
   chain_stops (Overflow e) h = inl h
   chain_stops NoMemory h = h
 
-  pub method_answers : IsNonsingularBasis m.program s → (result : Result ParaReport PrimalStop) → IfOk result (MethodEnds m span s now before after) → IfErr result (MethodStops m span s now before after) →
+  pub method_answers : IsNonsingularBasis m.program s → (result : Result ParaReport PrimalStop) → IfOk result (MethodEnds m span s now before after) →
+      IfErr result (MethodStops m span s now before after) →
       (report : RunReport) (path : List (List Status)) → MethodOverflowFree m span s before report path → IsRunOrMemory s report path now result
   method_answers at =
-      run_answers m.family m.face span.from span.to s m.program is_parametric.one_face at span.limit (λ now after e. Overflows m span s now before after e) m.program.matrix now before after
+      run_answers m.family m.face span.from span.to s m.program is_parametric.one_face at span.limit
+      (λ now after e. Overflows m span s now before after e) m.program.matrix now before after
 
 -- ---- where the opening path has ended
 
-module _ (m : ParametricProgram) (is_parametric : IsParametric m) (span : Span) (s now : List Status) (at : IsNonsingularBasis m.program s) (before after : List Basics) (outcome : Outcome)
+module _ (m : ParametricProgram) (is_parametric : IsParametric m) (span : Span) (s now : List Status) (at : IsNonsingularBasis m.program s)
+    (before after : List Basics) (outcome : Outcome)
     (ends : CallEnds (m.family span.from) s now span.limit outcome) (follow : RuleWaypointsFollow turn (m.family span.from) s now before after) where
   first_lawful : IsLinearProgram (m.family span.from)
   first_lawful = is_parametric.one_face.lawful span.from
@@ -76,7 +81,11 @@ module _ (m : ParametricProgram) (is_parametric : IsParametric m) (span : Span) 
   same_bases : follow.bases ≡ ends.bases
   same_bases =
       (one_path (m.family span.from) first_lawful s follow.bases ends.bases ends.ending ends.ending first_at
-      (record { is_path = follow.is_path; ends = subst (λ x. EndsAt (m.family span.from) x ends.ending) (ends.reaches ∙ sym follow.reaches) ends.ends.ends }) ends.ends).same_bases
+      (record {
+        is_path = follow.is_path;
+        ends = subst (λ x. EndsAt (m.family span.from) x ends.ending)
+            (ends.reaches ∙ sym follow.reaches) ends.ends.ends;
+      }) ends.ends).same_bases
 
   lie_there : (earlier : List (List Status)) → LieIn m.program.matrix before (earlier ++ s ∷ []) → LieIn m.program.matrix after (earlier ++ s ∷ ends.bases)
   lie_there earlier =
@@ -134,8 +143,11 @@ module _ (m : ParametricProgram) (is_parametric : IsParametric m) (span : Span) 
     first_optimal = (optimal_end (m.family span.from) now at_end.z at_end.y first_lawful now_at ends_now).optimal
 
     pub first_point : IsPointAtSome m now (value_at point)
-    first_point =
-        (span.from, subst (λ z. IsPointOf (m.family span.from) now (value_at z)) at_end.is_point (optimal_end (m.family span.from) now at_end.z at_end.y first_lawful now_at ends_now).point)
+    first_point = (
+      span.from,
+      subst (λ z. IsPointOf (m.family span.from) now (value_at z)) at_end.is_point
+          (optimal_end (m.family span.from) now at_end.z at_end.y first_lawful now_at ends_now).point,
+    )
 
     -- the run may open its first interval
     pub first_opens : OpensFrom m span s before now after steps
@@ -159,7 +171,8 @@ module _ (m : ParametricProgram) (is_parametric : IsParametric m) (span : Span) 
           prices = at_end.y;
           opens = record { is_path = ends.ends.is_path; ends = subst (EndsAt (m.family span.from) (last_of s ends.bases)) at_end.is_ending ends.ends.ends };
           faces = chain.path;
-          chain = subst (λ x. IsChain m.family m.face span.to span.from x (map part_of report.parts) (end_of report.end) chain.path) (sym ends.reaches) chain.chain;
+          chain =
+              subst (λ x. IsChain m.family m.face span.to span.from x (map part_of report.parts) (end_of report.end) chain.path) (sym ends.reaches) chain.chain;
           whole = refl;
         }
 
@@ -171,7 +184,8 @@ module _ (m : ParametricProgram) (is_parametric : IsParametric m) (span : Span) 
 
         same : stood.run_there.path ≡ ends.bases ++ chain.path
         same =
-            same_path m.program m.family m.face is_parametric.one_face span.from span.to s (ChainReport (map part_of report.parts) (end_of report.end)) (ends.bases ++ chain.path) at is_run
+            same_path m.program m.family m.face is_parametric.one_face span.from span.to s (ChainReport (map part_of report.parts) (end_of report.end))
+            (ends.bases ++ chain.path) at is_run
             stood.place stood.run_there.path stood.ends stood.run_there.reaches (stood.run_there.taken ∙ sym counted)
 
         pub run_ends : MethodEnds m span s last before later (Run report)

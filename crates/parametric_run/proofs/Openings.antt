@@ -32,7 +32,8 @@ failure_by steps (EndsInfeasible w) outcome e failed = tt
 failure_by steps (EndsUnbounded z d) outcome e failed = tt
 
 -- a path that stops stands in the opening
-module _ (family : ℚ → LinearProgram) (Face : ℚ → List Status → FaceTurn → Type 0) (from max : ℚ) (a : Matrix) (s : List Status) (before : List Basics) (now : List Status) (limit : ℕ) where
+module _ (family : ℚ → LinearProgram) (Face : ℚ → List Status → FaceTurn → Type 0) (from max : ℚ) (a : Matrix) (s : List Status) (before : List Basics)
+    (now : List Status) (limit : ℕ) where
   pub opening_goes_on : PathGoesOn (family from) s now limit → RunGoesOn family Face from max s now limit
   opening_goes_on h = record {
     goes_on = record {
@@ -46,7 +47,8 @@ module _ (family : ℚ → LinearProgram) (Face : ℚ → List Status → FaceTu
     is_now = h.reaches;
   }
 
-  abbrev pub opening_stands : (bases : List (List Status)) → IsPath (family from) s bases → last_of s bases ≡ now → length bases ≤ limit → StandsThere family Face from max s now limit
+  abbrev pub opening_stands : (bases : List (List Status)) → IsPath (family from) s bases → last_of s bases ≡ now → length bases ≤ limit →
+      StandsThere family Face from max s now limit
   opening_stands bases is_path reaches within = record {
     place = InOpening (last_of s bases);
     path = bases;

@@ -40,7 +40,8 @@ module _ (a : Matrix) where
     where
       place : (w : Basics) → IsKept a (basics_of now) ways (basics_of next) w → IsWithinOne a w (map basics_of ((xs ++ now ∷ []) ++ next ∷ []))
       place w (inl old) = within_prefix w (xs ++ now ∷ []) (next ∷ []) (All-contains (λ w. IsWithinOne a w (map basics_of (xs ++ now ∷ []))) ways w lie old)
-      place w (inr (inl within)) = within_prefix w (xs ++ now ∷ []) (next ∷ []) (within_by a w (basics_of now) (map basics_of (xs ++ now ∷ [])) within (within_last xs now))
+      place w (inr (inl within)) =
+          within_prefix w (xs ++ now ∷ []) (next ∷ []) (within_by a w (basics_of now) (map basics_of (xs ++ now ∷ [])) within (within_last xs now))
       place w (inr (inr within)) = within_by a w (basics_of next) (map basics_of ((xs ++ now ∷ []) ++ next ∷ [])) within (within_last (xs ++ now ∷ []) next)
 
   -- calls at the basis that is reached
@@ -62,14 +63,16 @@ module _ (family : ℚ → LinearProgram) (Face : ℚ → List Status → FaceTu
 
   module _ (from max : ℚ) (a : Matrix) (s : List Status) (before : List Basics) where
     -- the last of its bases is the one at which a run stands
-    reached_last : (place : RunPlace) (path : List (List Status)) (ends : List ℚ) → Reaches family Face from max s place path ends → last_of s path ≡ basis_of place
+    reached_last : (place : RunPlace) (path : List (List Status)) (ends : List ℚ) → Reaches family Face from max s place path ends →
+        last_of s path ≡ basis_of place
     reached_last _ _ _ begins = refl
     reached_last _ _ _ (path_step {now} {next} {path} so_far step) = last_more s path next
     reached_last _ _ _ (first_breakpoint {now} {path} {to} point prices so_far ends reaches within) = reached_last (InOpening now) path [] so_far
     reached_last _ _ _ (face_step {theta} {now} {next} {path} {ends} so_far step) = last_more s path next
     reached_last _ _ _ (next_breakpoint {theta} {now} {path} {ends} {to} so_far done reaches within) = reached_last (AtBreakpoint theta now) path ends so_far
 
-    module _ (place : RunPlace) (ends : List ℚ) (now : List Status) (ways : List Basics) (steps : ℕ) (h : HasRun family Face from max a s before place ends ways steps)
+    module _ (place : RunPlace) (ends : List ℚ) (now : List Status) (ways : List Basics) (steps : ℕ)
+        (h : HasRun family Face from max a s before place ends ways steps)
         (is_now : basis_of place ≡ now) where
       initial : (initial : List (List Status)) × (s ∷ h.path ≡ initial ++ last_of s h.path ∷ [])
       initial = before_last s h.path
@@ -77,13 +80,15 @@ module _ (family : ℚ → LinearProgram) (Face : ℚ → List Status → FaceTu
       -- the bases up to now, after any earlier ones
       whole : (earlier : List (List Status)) → earlier ++ s ∷ h.path ≡ (earlier ++ initial.0) ++ now ∷ []
       whole earlier =
-          ap (λ xs. earlier ++ xs) (initial.1 ∙ ap (λ x. initial.0 ++ x ∷ []) (reached_last place h.path ends h.reaches ∙ is_now)) ∙ sym (append_assoc earlier initial.0 (now ∷ []))
+          ap (λ xs. earlier ++ xs) (initial.1 ∙ ap (λ x. initial.0 ++ x ∷ []) (reached_last place h.path ends h.reaches ∙ is_now))
+          ∙ sym (append_assoc earlier initial.0 (now ∷ []))
 
       lie_now : (earlier : List (List Status)) → LieIn a before (earlier ++ s ∷ []) → LieIn a ways ((earlier ++ initial.0) ++ now ∷ [])
       lie_now earlier lie = subst (LieIn a ways) (whole earlier) (h.lie earlier lie)
 
       -- calls at the basis
-      pub run_later : (more : List Basics) → KeepsWaypoints a (basics_of now) ways (basics_of now) more → HasRun family Face from max a s before place ends more steps
+      pub run_later : (more : List Basics) → KeepsWaypoints a (basics_of now) ways (basics_of now) more →
+          HasRun family Face from max a s before place ends more steps
       run_later more keeps = record {
         path = h.path;
         reaches = h.reaches;
@@ -111,26 +116,33 @@ module _ (family : ℚ → LinearProgram) (Face : ℚ → List Status → FaceTu
       follows limit within = record { place = place; path = h.path; ends = ends; reaches = h.reaches; is_now = is_now; lie = h.lie }
 
       -- evidence at the basis is evidence on the run
-      pub overflows : (statement : SolvingStatement) (limit : ℕ) (more : List Basics) (e : Evidence) → steps ≤ limit → EvidenceHere statement a (breakpoint_of place) (limit - steps) now ways more e →
+      pub overflows : (statement : SolvingStatement) (limit : ℕ) (more : List Basics) (e : Evidence) → steps ≤ limit →
+          EvidenceHere statement a (breakpoint_of place) (limit - steps) now ways more e →
           RunOverflows family Face from max s now limit statement a before more e
       unfolding stands
       overflows statement limit more e within here = record {
         stands = stands limit within;
         is_way = here.is_way;
         shows = λ earlier lie.
-            subst (λ (n : ℕ). EvidenceHolds statement (breakpoint_of place) (limit - n) (earlier ++ s ∷ h.path) ends now (waypoint (basics_of now) more e.way) e) (sym h.taken)
-            (subst (λ (xs : List (List Status)). EvidenceHolds statement (breakpoint_of place) (limit - steps) xs ends now (waypoint (basics_of now) more e.way) e) (sym (whole earlier))
+            subst (λ (n : ℕ). EvidenceHolds statement (breakpoint_of place) (limit - n) (earlier ++ s ∷ h.path) ends now
+            (waypoint (basics_of now) more e.way) e) (sym h.taken)
+            (subst (λ (xs : List (List Status)). EvidenceHolds statement (breakpoint_of place) (limit - steps) xs ends now
+            (waypoint (basics_of now) more e.way) e) (sym (whole earlier))
             (here.shows ends (earlier ++ initial.0) (lie_now earlier lie)));
       }
 
     -- ---- at a breakpoint
 
-    module _ (theta : ℚ) (ends : List ℚ) (now : List Status) (ways : List Basics) (steps : ℕ) (h : HasRun family Face from max a s before (AtBreakpoint theta now) ends ways steps) where
-      pub run_more : (next : List Status) (more : List Basics) → IsFaceStep family Face theta now next → KeepsWaypoints a (basics_of now) ways (basics_of next) more →
+    module _ (theta : ℚ) (ends : List ℚ) (now : List Status) (ways : List Basics) (steps : ℕ)
+        (h : HasRun family Face from max a s before (AtBreakpoint theta now) ends ways steps) where
+      pub run_more : (next : List Status) (more : List Basics) → IsFaceStep family Face theta now next →
+          KeepsWaypoints a (basics_of now) ways (basics_of next) more →
           HasRun family Face from max a s before (AtBreakpoint theta next) ends more (steps + 1)
-      run_more next more step keeps = step_more (AtBreakpoint theta now) ends now ways steps h refl next (AtBreakpoint theta next) more keeps (face_step h.reaches step)
+      run_more next more step keeps =
+          step_more (AtBreakpoint theta now) ends now ways steps h refl next (AtBreakpoint theta next) more keeps (face_step h.reaches step)
 
-      pub run_stops : (statement : SolvingStatement) (limit : ℕ) (more : List Basics) (stop : PrimalStop) → steps ≤ limit → FaceStops family Face statement a theta now (limit - steps) ways more stop →
+      pub run_stops : (statement : SolvingStatement) (limit : ℕ) (more : List Basics) (stop : PrimalStop) → steps ≤ limit →
+          FaceStops family Face statement a theta now (limit - steps) ways more stop →
           RunStops family Face from max s now limit (RunOverflows family Face from max s now limit statement a before more) stop
       run_stops statement limit more Limit within t = record {
         goes_on = record {
@@ -159,7 +171,8 @@ module _ (family : ℚ → LinearProgram) (Face : ℚ → List Status → FaceTu
     -- ---- where an interval begins
 
     module _ (theta : ℚ) (now : List Status) (ways : List Basics) (steps : ℕ) (h : MayOpen family Face from max a s before theta now ways steps) where
-      pub opens_later : (more : List Basics) → KeepsWaypoints a (basics_of now) ways (basics_of now) more → MayOpen family Face from max a s before theta now more steps
+      pub opens_later : (more : List Basics) → KeepsWaypoints a (basics_of now) ways (basics_of now) more →
+          MayOpen family Face from max a s before theta now more steps
       unfolding run_later
       opens_later more keeps = record {
         place = h.place;
@@ -170,7 +183,8 @@ module _ (family : ℚ → LinearProgram) (Face : ℚ → List Status → FaceTu
       }
 
       -- the basis stays optimal to a breakpoint before max
-      pub run_breaks : (to : ℚ) → ReachesTo family now theta max to → to <ℚ max → HasRun family Face from max a s before (AtBreakpoint to now) (to ∷ h.ends) ways steps
+      pub run_breaks : (to : ℚ) → ReachesTo family now theta max to → to <ℚ max →
+          HasRun family Face from max a s before (AtBreakpoint to now) (to ∷ h.ends) ways steps
       run_breaks to reaches within = record { path = h.run.path; reaches = h.breaks to reaches within; taken = h.run.taken; lie = h.run.lie }
 
       pub opening_stands : (limit : ℕ) → steps ≤ limit → StandsThere family Face from max s now limit
@@ -179,15 +193,18 @@ module _ (family : ℚ → LinearProgram) (Face : ℚ → List Status → FaceTu
       pub opening_follows : (limit : ℕ) → steps ≤ limit → WaypointsFollowRun family Face from max s now limit a before ways
       opening_follows = follows h.place h.ends now ways steps h.run h.is_now
 
-      pub interval_stops : (statement : SolvingStatement) (limit : ℕ) (more : List Basics) (stop : PrimalStop) → steps ≤ limit → IntervalStops statement a now (limit - steps) ways more stop →
+      pub interval_stops : (statement : SolvingStatement) (limit : ℕ) (more : List Basics) (stop : PrimalStop) → steps ≤ limit →
+          IntervalStops statement a now (limit - steps) ways more stop →
           RunStops family Face from max s now limit (RunOverflows family Face from max s now limit statement a before more) stop
       interval_stops statement limit more Limit within t = absurd t
-      interval_stops statement limit more (Overflow e) within t = overflows h.place h.ends now ways steps h.run h.is_now statement limit more e within (t (breakpoint_of h.place))
+      interval_stops statement limit more (Overflow e) within t =
+          overflows h.place h.ends now ways steps h.run h.is_now statement limit more e within (t (breakpoint_of h.place))
       interval_stops statement limit more NoMemory within t = opening_stands limit within
 
     -- ---- the opening path
 
-    opened : (now : List Status) (later : List (List Status)) (path : List (List Status)) → Reaches family Face from max s (InOpening now) path [] → IsPath (family from) now later →
+    opened : (now : List Status) (later : List (List Status)) (path : List (List Status)) → Reaches family Face from max s (InOpening now) path [] →
+        IsPath (family from) now later →
         Reaches family Face from max s (InOpening (last_of now later)) (path ++ later) []
     opened now [] path so_far is = subst (λ (xs : List (List Status)). Reaches family Face from max s (InOpening now) xs []) (sym (append-nil path)) so_far
     opened now (next ∷ later) path so_far is =
@@ -204,7 +221,8 @@ module _ (family : ℚ → LinearProgram) (Face : ℚ → List Status → FaceTu
     opening_run bases ways is lie = record { path = bases; reaches = opened s bases [] begins is; taken = refl; lie = lie }
 
     -- and where it ends optimal, the first interval begins
-    pub opens_first : (now : List Status) (ways : List Basics) (steps : ℕ) (point prices : List ℚ) → HasRun family Face from max a s before (InOpening now) [] ways steps →
+    pub opens_first : (now : List Status) (ways : List Basics) (steps : ℕ) (point prices : List ℚ) →
+        HasRun family Face from max a s before (InOpening now) [] ways steps →
         EndsAt (family from) now (EndsOptimal point prices) → MayOpen family Face from max a s before from now ways steps
     opens_first now ways steps point prices h ends = record {
       place = InOpening now;

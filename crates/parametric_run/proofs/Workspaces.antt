@@ -22,7 +22,8 @@ module _ (m : ParametricProgram) (s : List Status) (old now : Workspace) where
     change = subst (λ (w : Workspace). m.is_change s (value_at w.change.items)) (sym same) is.change;
   }
 
-  pub direction_kept : IsWorkspaceOf m s old → now ≡ record old { direction = now.direction } → length now.direction ≡ size m.program.matrix → IsWorkspaceOf m s now
+  pub direction_kept : IsWorkspaceOf m s old → now ≡ record old { direction = now.direction } → length now.direction ≡ size m.program.matrix →
+      IsWorkspaceOf m s now
   direction_kept is same places = record {
     sized = record {
       point = ap (λ (w : Workspace). length w.point.items) same ∙ is.sized.point;

@@ -172,7 +172,8 @@ fn step_along<R: Rates>(
     requires pivot { value_at direction.now stopped.now.by.now.p ≢ zero_ℚ }
     requires step { IsStepBy lp.now basis.old (value_at point.old) (value_at direction.now)
         stopped.now.q stopped.now.by.now }
-    ensures basis { OnOk result (basis.new ≡ after basis.old (move_by stopped.now.q stopped.now.by.now)) }
+    ensures basis { OnOk result
+        (basis.new ≡ after basis.old (move_by stopped.now.q stopped.now.by.now)) }
     ensures point { OnOk result (IsPointOf lp.now basis.new (value_at point.new)) }
     ensures unchanged { OnErr result (basis.new ≡ basis.old) }
     ensures rates { IsAtBasis (R.state rates.new) lp.now basis.new }

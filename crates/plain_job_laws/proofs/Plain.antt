@@ -21,7 +21,8 @@ module _ (S : Solving) where
   record HasNone (move : StatementMove) : Type 0 where
     none : HasEvidence S move → ⊥
 
-  unless_fault : {X : Type 0} (card : ℕ) (fault : VerbFault) (o : Option X) (go : X → StatementMove) → ((x : X) → HasNone (go x)) → HasNone (or_fault card fault o go)
+  unless_fault : {X : Type 0} (card : ℕ) (fault : VerbFault) (o : Option X) (go : X → StatementMove) → ((x : X) → HasNone (go x)) →
+      HasNone (or_fault card fault o go)
   unless_fault card fault None go is = record { none = λ e. e }
   unless_fault card fault (Some x) go is = is x
 

@@ -26,7 +26,8 @@ use Rattle.price_row.specs.Sums.{weighted}
 use Rattle.price_row.specs.Known.{set_of, IsKnown, IsMultiplierAt}
 use Rattle.price_row.proofs.OtherBasics.{sums_agree}
 
-module _ (f : Inverse) (passed : Passed f.matrix (row_basics f.matrix) f.etas) (k : ℕ) (below : k < length f.etas) (d : StoredEta) (p q : ℕ) (entries : List EtaEntry) (lent : IsLent f.etas (k + 1 - 1) p q entries) where
+module _ (f : Inverse) (passed : Passed f.matrix (row_basics f.matrix) f.etas) (k : ℕ) (below : k < length f.etas) (d : StoredEta) (p q : ℕ)
+    (entries : List EtaEntry) (lent : IsLent f.etas (k + 1 - 1) p q entries) where
   abbrev eta : StoredEta
   eta = get_or f.etas k d
 
@@ -60,16 +61,20 @@ module _ (f : Inverse) (passed : Passed f.matrix (row_basics f.matrix) f.etas) (
   pivot_is v each = sym (ap (λ n. (get_or f.etas n d).pivot) (sym same_place) ∙ each d) ∙ is.is_pivot
 
   w_counted : length w ≡ size f.matrix
-  w_counted = (nonsingular_after f.matrix (row_basics f.matrix) (take k f.etas) (IsNonsingular-row_basics f.matrix) (Passed-take f.matrix (row_basics f.matrix) f.etas k passed)).counted
+  w_counted =
+      (nonsingular_after f.matrix (row_basics f.matrix) (take k f.etas) (IsNonsingular-row_basics f.matrix)
+      (Passed-take f.matrix (row_basics f.matrix) f.etas k passed)).counted
 
   next : set_of f (k + 1) ≡ exchanged w eta.p eta.q
   next = ap (set_of f) (add-one k) ∙ after-take_next (row_basics f.matrix) f.etas k d below
 
   -- one multiplier more
-  pub known_more : (r : ℕ) (xs : List ℚ) (v : ℚ) → length xs ≡ size f.matrix → IsKnown f (k + 1) r xs → IsMultiplierAt f k r v → IsKnown f k r (set xs (p - 1) v)
+  pub known_more : (r : ℕ) (xs : List ℚ) (v : ℚ) → length xs ≡ size f.matrix → IsKnown f (k + 1) r xs → IsMultiplierAt f k r v →
+      IsKnown f k r (set xs (p - 1) v)
   known_more r xs v counted known h = record { each = λ rate are i var inside. at rate are i var inside (nat_eq i eta.p) refl }
     where
-      at : (rate : ℕ → ℕ → ℚ) → AreRates f.matrix f.basics rate → (i : ℕ) → IsVariable f.matrix i → is_in w i ≡ true → (b : Bool) → nat_eq i eta.p ≡ b → value_at (set xs (p - 1) v) i ≡ multiplier f.basics rate r i
+      at : (rate : ℕ → ℕ → ℚ) → AreRates f.matrix f.basics rate → (i : ℕ) → IsVariable f.matrix i → is_in w i ≡ true → (b : Bool) → nat_eq i eta.p ≡ b →
+          value_at (set xs (p - 1) v) i ≡ multiplier f.basics rate r i
       at rate are i var inside true e =
           let same : i ≡ eta.p = grind (arith, e) in
           ap (λ n. get_or (set xs (p - 1) v) (n - 1) zero_ℚ) (same ∙ p_is)
@@ -88,11 +93,15 @@ module _ (f : Inverse) (passed : Passed f.matrix (row_basics f.matrix) f.etas) (
   pub known_cleared : (r : ℕ) (xs : List ℚ) (v : ℚ) → IsKnown f (k + 1) r xs → IsKnown f (k + 1) r (set xs (p - 1) v)
   known_cleared r xs v known = record {
     each = λ rate are i var inside.
-        let other : i ≢ eta.p = λ same. clash (sym inside ∙ ap (λ b. is_in b i) next ∙ ap (is_in (exchanged w eta.p eta.q)) same ∙ leaver_out f.matrix w w_counted eta.p eta.q is.leaves is.enters) in
+        let other : i ≢ eta.p =
+        λ same. clash
+        (sym inside ∙ ap (λ b. is_in b i) next ∙ ap (is_in (exchanged w eta.p eta.q)) same
+        ∙ leaver_out f.matrix w w_counted eta.p eta.q is.leaves is.enters) in
         get_or-set_other xs (p - 1) (i - 1) v zero_ℚ (λ same. other (omega (arith, same, var.0, is.leaves.0.0, p_is))) ∙ known.each rate are i var inside;
   }
 
-  module _ (r : ℕ) (basic : IsBasic f.matrix f.basics r) (one : IsNonsingular f.matrix f.basics) (xs : List ℚ) (known : IsKnown f (k + 1) r xs) (rate : ℕ → ℕ → ℚ) (are : AreRates f.matrix f.basics rate) where
+  module _ (r : ℕ) (basic : IsBasic f.matrix f.basics r) (one : IsNonsingular f.matrix f.basics) (xs : List ℚ) (known : IsKnown f (k + 1) r xs)
+      (rate : ℕ → ℕ → ℚ) (are : AreRates f.matrix f.basics rate) where
     abbrev y : Vector
     y = multiplier f.basics rate r
 
@@ -125,11 +134,13 @@ module _ (f : Inverse) (passed : Passed f.matrix (row_basics f.matrix) f.etas) (
         ∙ sums_agree w (λ i. is.rate i eta.q) eta.p xs y agrees 1 (size f.matrix) (y eta.q) (omega arith)
         ∙ carried_back f.matrix w is.rate eta.p eta.q y is.are_rates is.leaves is.enters vanishes
 
-    pub multiplier_is : (first sum pivot ratio : ℚ) → first ≡ value_at xs q → sum ≡ sum_from first (weighted p xs entries) → pivot ≡ is.rate eta.p eta.q → ratio ≡ sum /ℚ pivot → neg_ℚ ratio ≡ y eta.p
+    pub multiplier_is : (first sum pivot ratio : ℚ) → first ≡ value_at xs q → sum ≡ sum_from first (weighted p xs entries) → pivot ≡ is.rate eta.p eta.q →
+        ratio ≡ sum /ℚ pivot → neg_ℚ ratio ≡ y eta.p
     multiplier_is first sum pivot ratio is_first is_sum is_pivot is_ratio =
         let divided : sum /ℚ pivot ≡ neg_ℚ (y eta.p) =
         div_is sum pivot (neg_ℚ (y eta.p)) (λ none. is.apart (sym is_pivot ∙ none))
-        (total first sum is_first is_sum ∙ by_ring2 (y eta.p) (is.rate eta.p eta.q) (λ y v. opposite (y ⊗ v) ≐ opposite y ⊗ v) refl ∙ ap (λ v. neg_ℚ (y eta.p) *ℚ v) (sym is_pivot)) in
+        (total first sum is_first is_sum ∙ by_ring2 (y eta.p) (is.rate eta.p eta.q) (λ y v. opposite (y ⊗ v) ≐ opposite y ⊗ v) refl
+        ∙ ap (λ v. neg_ℚ (y eta.p) *ℚ v) (sym is_pivot)) in
         ap neg_ℚ (is_ratio ∙ divided) ∙ by_ring1 (y eta.p) (λ y. opposite (opposite y) ≐ y) refl
 
 -- a sum of 0 needs no quotient

@@ -18,15 +18,18 @@ opposite_of z x n none is_n =
 
 module _ (f : Inverse) (place : ℕ) (xs : List ℚ) (n : ℚ) (within : place < size f.matrix) where
   -- a row's is the opposite of its multiplier's
-  pub number_of_row : (z x : ℚ) → place < f.matrix.rows → x ≡ value_at xs (place + 1) → z ≡ zero_ℚ → n ≡ z +ℚ x *ℚ whole (negsuc 0) → IsNumberAt f (place + 1) xs n
+  pub number_of_row : (z x : ℚ) → place < f.matrix.rows → x ≡ value_at xs (place + 1) → z ≡ zero_ℚ → n ≡ z +ℚ x *ℚ whole (negsuc 0) →
+      IsNumberAt f (place + 1) xs n
   number_of_row z x low is_x none is_n = record {
     over = λ r d basic out known.
         let here : place + 1 - 1 ≡ place = omega arith in
-        whole_rate_of_row f r place d xs within known x (n /ℚ d) out low (is_x ∙ ap (λ k. get_or xs k zero_ℚ) here) (ap (λ t. t /ℚ d) (opposite_of z x n none is_n));
+        whole_rate_of_row f r place d xs within known x (n /ℚ d) out low (is_x ∙ ap (λ k. get_or xs k zero_ℚ) here)
+        (ap (λ t. t /ℚ d) (opposite_of z x n none is_n));
   }
 
   -- a column's is the sum of its numbers, each times the multiplier's of its row
-  pub number_of_column : IsMatrix f.matrix → IsNonsingular f.matrix f.basics → f.matrix.rows ≤ place → n ≡ sum_from zero_ℚ (products xs (column f.matrix (place + 1 - f.matrix.rows))) → IsNumberAt f (place + 1) xs n
+  pub number_of_column : IsMatrix f.matrix → IsNonsingular f.matrix f.basics → f.matrix.rows ≤ place →
+      n ≡ sum_from zero_ℚ (products xs (column f.matrix (place + 1 - f.matrix.rows))) → IsNumberAt f (place + 1) xs n
   number_of_column lawful one high is_n = record {
     over = λ r d basic out known. whole_rate_of_column f r place d xs within known n (n /ℚ d) lawful one basic out high is_n refl;
   }

@@ -28,7 +28,8 @@ unit_at i xs low high nought = record {
 }
 
 -- a number that is of no account is made 0
-cleared_at : (P : List ℚ → Type 0) (d : ℚ) (xs : List ℚ) (i : ℕ) → ((ys : List ℚ) (v : ℚ) → P ys → P (set ys i v)) → Represent P d xs → Represent P d (set xs i zero_ℚ)
+cleared_at : (P : List ℚ → Type 0) (d : ℚ) (xs : List ℚ) (i : ℕ) → ((ys : List ℚ) (v : ℚ) → P ys → P (set ys i v)) → Represent P d xs →
+    Represent P d (set xs i zero_ℚ)
 cleared_at P d xs i free h = record {
   apart = h.apart;
   holds = subst P (sym (map-set (λ x. x /ℚ d) xs i zero_ℚ)) (free (quotients d xs) (zero_ℚ /ℚ d) h.holds);
@@ -41,11 +42,14 @@ set_twice (x ∷ xs) (suc i) a b = ap (λ t. x ∷ t) (set_twice xs i a b)
 
 -- ---- one eta
 
-module _ (f : Inverse) (passed : Passed f.matrix (row_basics f.matrix) f.etas) (k : ℕ) (below : k < length f.etas) (p q : ℕ) (entries : List EtaEntry) (lent : IsLent f.etas (k + 1 - 1) p q entries)
+module _ (f : Inverse) (passed : Passed f.matrix (row_basics f.matrix) f.etas) (k : ℕ) (below : k < length f.etas) (p q : ℕ) (entries : List EtaEntry)
+    (lent : IsLent f.etas (k + 1 - 1) p q entries)
     (s pivot : ℚ) (es : List EtaEntry) (whole : IsLentScaled f.etas (k + 1 - 1) s pivot es)
-    (r : ℕ) (basic : IsBasic f.matrix f.basics r) (one : IsNonsingular f.matrix f.basics) (d : ℚ) (old : List ℚ) (counted : length old ≡ size f.matrix) (known : Represent (IsKnown f (k + 1) r) d old)
+    (r : ℕ) (basic : IsBasic f.matrix f.basics r) (one : IsNonsingular f.matrix f.basics) (d : ℚ) (old : List ℚ) (counted : length old ≡ size f.matrix)
+    (known : Represent (IsKnown f (k + 1) r) d old)
     (v : ℚ) (none : v ≡ zero_ℚ) (cleared : List ℚ) (is_written : cleared ≡ set old (p - 1) v) (as_long : length cleared ≡ length old)
-    (read : List ℚ) (as_read : read ≡ cleared) (sum : ℚ) (is_sum : (i : ℕ) → value_at read i ≡ zero_ℚ → sum ≡ sum_from (value_at read q *ℚ s) (weighted i read es)) where
+    (read : List ℚ) (as_read : read ≡ cleared) (sum : ℚ)
+    (is_sum : (i : ℕ) → value_at read i ≡ zero_ℚ → sum ≡ sum_from (value_at read q *ℚ s) (weighted i read es)) where
   abbrev d0 : StoredEta
   d0 = an_eta f.etas k below
 
@@ -66,15 +70,18 @@ module _ (f : Inverse) (passed : Passed f.matrix (row_basics f.matrix) f.etas) (
   total_is : sum ≡ sum_from (value_at cleared q *ℚ s) (weighted p cleared es)
   total_is = subst (λ xs. (i : ℕ) → value_at xs i ≡ zero_ℚ → sum ≡ sum_from (value_at xs q *ℚ s) (weighted i xs es)) as_read is_sum p nought
 
-  pub known_carried : (ratio by n e : ℚ) (low new : List ℚ) → ratio ≡ sum /ℚ pivot → by ≢ zero_ℚ → n ≡ ratio *ℚ by → e ≡ d *ℚ by → AreProducts by cleared low → length low ≡ length cleared
+  pub known_carried : (ratio by n e : ℚ) (low new : List ℚ) → ratio ≡ sum /ℚ pivot → by ≢ zero_ℚ → n ≡ ratio *ℚ by → e ≡ d *ℚ by → AreProducts by cleared low
+      → length low ≡ length cleared
       → new ≡ set low (p - 1) (neg_ℚ n) → Represent (IsKnown f k r) e new
   known_carried ratio by n e low new is_ratio =
-      known_whole f passed k below p q entries lent s pivot es whole r basic one d cleared (as_long ∙ counted) still_known (value_at cleared q *ℚ s) sum ratio refl total_is is_ratio by n e low new
+      known_whole f passed k below p q entries lent s pivot es whole r basic one d cleared (as_long ∙ counted) still_known
+      (value_at cleared q *ℚ s) sum ratio refl total_is is_ratio by n e low new
 
   -- where the sum is 0, all stays
   pub known_idle : sum ≡ zero_ℚ → Represent (IsKnown f k r) d cleared
   known_idle idle =
-      known_carried (sum /ℚ pivot) one_ℚ (sum /ℚ pivot *ℚ one_ℚ) d cleared cleared refl one_apart refl (sym (mul-one d)) (record { each = λ i. right_once (value_at cleared i) one_ℚ refl }) refl
+      known_carried (sum /ℚ pivot) one_ℚ (sum /ℚ pivot *ℚ one_ℚ) d cleared cleared refl one_apart refl (sym (mul-one d))
+      (record { each = λ i. right_once (value_at cleared i) one_ℚ refl }) refl
       (is_cleared ∙ sym (set_twice old (p - 1) zero_ℚ zero_ℚ) ∙ ap (λ xs. set xs (p - 1) zero_ℚ) (sym is_cleared) ∙ ap (set cleared (p - 1)) stays)
     where
       stays : zero_ℚ ≡ neg_ℚ (sum /ℚ pivot *ℚ one_ℚ)

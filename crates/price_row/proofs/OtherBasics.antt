@@ -25,26 +25,38 @@ module _ (w : Basics) (d : Vector) (p : ℕ) (xs : List ℚ) (y : Vector) (agree
 
   -- a value at an entry that is not there adds nothing
   nothing_more : (first : ℕ) (start : ℚ) → eq_ℚ (d first) zero_ℚ ≡ true → start +ℚ product first ≡ start
-  nothing_more first start none = ap (λ v. start +ℚ y first *ℚ v) (same_from_test (d first) zero_ℚ none) ∙ ap (λ v. start +ℚ v) (mul-zero (y first)) ∙ add-zero start
+  nothing_more first start none =
+      ap (λ v. start +ℚ y first *ℚ v) (same_from_test (d first) zero_ℚ none) ∙ ap (λ v. start +ℚ v) (mul-zero (y first)) ∙ add-zero start
 
   same_product : (first : ℕ) → 1 ≤ first → is_in w first ≡ true → nat_eq first p ≡ false → value_at xs first *ℚ d first ≡ product first
-  same_product first low basic other_p = ap (λ v. v *ℚ d first) (agrees first low basic (λ e. clash (let h : nat_eq first p ≡ true = grind (arith, e) in sym h ∙ other_p)))
+  same_product first low basic other_p =
+      ap (λ v. v *ℚ d first) (agrees first low basic (λ e. clash (let h : nat_eq first p ≡ true = grind (arith, e) in sym h ∙ other_p)))
 
-  pub sums_agree : (first n : ℕ) (start : ℚ) → 1 ≤ first → sum_from start (weighted p xs (entries_from w d first n)) ≡ sum_from start (map product (others_from first n))
+  pub sums_agree : (first n : ℕ) (start : ℚ) → 1 ≤ first →
+      sum_from start (weighted p xs (entries_from w d first n)) ≡ sum_from start (map product (others_from first n))
   sums_agree first zero start low = refl
   sums_agree first (suc n) start low =
       at (is_in w first) refl (eq_ℚ (d first) zero_ℚ) refl (nat_eq first p) refl (λ s. sums_agree (suc first) n s (omega arith))
     where
       at : (mark : Bool) → is_in w first ≡ mark → (none : Bool) → eq_ℚ (d first) zero_ℚ ≡ none → (same : Bool) → nat_eq first p ≡ same
           → ((s : ℚ) → sum_from s (weighted p xs (entries_from w d (suc first) n)) ≡ sum_from s (map product (others_from (suc first) n)))
-          → sum_from start (weighted p xs (map (entry_of d) (cond (mark && not none) (first ∷ filter (is_entry w d) (numbers_from (suc first) n)) (filter (is_entry w d) (numbers_from (suc first) n)))))
+          → sum_from start
+          (weighted p xs
+          (map (entry_of d)
+          (cond (mark && not none) (first ∷ filter (is_entry w d) (numbers_from (suc first) n))
+          (filter (is_entry w d) (numbers_from (suc first) n)))))
           ≡ sum_from start (map product (cond (mark && not same) (first ∷ others_from (suc first) n) (others_from (suc first) n)))
       at true basic false some true is_same rest =
-          ap (λ t. sum_from start (cond t (weighted p xs (entries_from w d (suc first) n)) ((value_at xs first *ℚ d first) ∷ weighted p xs (entries_from w d (suc first) n)))) is_same ∙ rest start
+          ap (λ t. sum_from start
+          (cond t (weighted p xs (entries_from w d (suc first) n))
+          ((value_at xs first *ℚ d first) ∷ weighted p xs (entries_from w d (suc first) n)))) is_same ∙ rest start
       at true basic false some false is_other rest =
-          ap (λ t. sum_from start (cond t (weighted p xs (entries_from w d (suc first) n)) ((value_at xs first *ℚ d first) ∷ weighted p xs (entries_from w d (suc first) n)))) is_other
+          ap (λ t. sum_from start
+          (cond t (weighted p xs (entries_from w d (suc first) n))
+          ((value_at xs first *ℚ d first) ∷ weighted p xs (entries_from w d (suc first) n)))) is_other
           ∙ rest (start +ℚ value_at xs first *ℚ d first)
           ∙ ap (λ v. sum_from (start +ℚ v) (map product (others_from (suc first) n))) (same_product first low basic is_other)
       at true basic true none true is_same rest = rest start
-      at true basic true none false is_other rest = rest start ∙ ap (λ s. sum_from s (map product (others_from (suc first) n))) (sym (nothing_more first start none))
+      at true basic true none false is_other rest =
+          rest start ∙ ap (λ s. sum_from s (map product (others_from (suc first) n))) (sym (nothing_more first start none))
       at false out none is_none same is_same rest = rest start

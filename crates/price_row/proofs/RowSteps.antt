@@ -58,13 +58,15 @@ rows_known f r xs h = record {
 }
 
 -- a file has rates
-pub rates_are : (f : Inverse) → f.basics ≡ after (row_basics f.matrix) f.etas → Passed f.matrix (row_basics f.matrix) f.etas → (rate : ℕ → ℕ → ℚ) × AreRates f.matrix f.basics rate
+pub rates_are : (f : Inverse) → f.basics ≡ after (row_basics f.matrix) f.etas → Passed f.matrix (row_basics f.matrix) f.etas →
+    (rate : ℕ → ℕ → ℚ) × AreRates f.matrix f.basics rate
 rates_are f are passed =
     subst (λ b. (rate : ℕ → ℕ → ℚ) × AreRates f.matrix b rate) (sym are)
     (rates_after f.matrix (row_basics f.matrix) f.etas (opening_rate f.matrix) (length-row_basics f.matrix) (AreRates-opening f.matrix) passed)
 
 -- the rates at all variables are the row
-pub row_is : (f : Inverse) (r : ℕ) (xs : List ℚ) → f.basics ≡ after (row_basics f.matrix) f.etas → Passed f.matrix (row_basics f.matrix) f.etas → IsFilledFrom f 0 r xs → IsRowOf f.matrix f.basics r (value_at xs)
+pub row_is : (f : Inverse) (r : ℕ) (xs : List ℚ) → f.basics ≡ after (row_basics f.matrix) f.etas → Passed f.matrix (row_basics f.matrix) f.etas →
+    IsFilledFrom f 0 r xs → IsRowOf f.matrix f.basics r (value_at xs)
 row_is f r xs are passed h = record {
   rate = rates.0;
   are_rates = rates.1;
@@ -78,16 +80,19 @@ row_is f r xs are passed h = record {
 
 module _ (f : Inverse) (r place : ℕ) (xs : List ℚ) (v : ℚ) where
   -- the opposite of a nonbasic's multiplier is its rate
-  opposite_is : (rate : ℕ → ℕ → ℚ) → is_in f.basics (place + 1) ≡ false → v ≡ neg_ℚ (multiplier f.basics rate r (place + 1)) → v ≡ cond (is_in f.basics (place + 1)) zero_ℚ (rate r (place + 1))
+  opposite_is : (rate : ℕ → ℕ → ℚ) → is_in f.basics (place + 1) ≡ false → v ≡ neg_ℚ (multiplier f.basics rate r (place + 1)) →
+      v ≡ cond (is_in f.basics (place + 1)) zero_ℚ (rate r (place + 1))
   opposite_is rate out is_v =
       is_v ∙ ap (λ m. neg_ℚ (cond m (cond (nat_eq (place + 1) r) one_ℚ zero_ℚ) (neg_ℚ (rate r (place + 1))))) out
       ∙ by_ring1 (rate r (place + 1)) (λ y. opposite (opposite y) ≐ y) refl
       ∙ sym (ap (λ m. cond m zero_ℚ (rate r (place + 1))) out)
 
-  pub rate_of_row : is_in f.basics (place + 1) ≡ false → place < f.matrix.rows → HasMultipliers f (place + 1) r xs → v ≡ neg_ℚ (get_or xs place zero_ℚ) → IsRateOf f r (place + 1) v
+  pub rate_of_row : is_in f.basics (place + 1) ≡ false → place < f.matrix.rows → HasMultipliers f (place + 1) r xs → v ≡ neg_ℚ (get_or xs place zero_ℚ) →
+      IsRateOf f r (place + 1) v
   rate_of_row out low h is_v = record { is_rate = λ rate are. opposite_is rate out (is_v ∙ ap neg_ℚ (h rate are place (omega arith) low)) }
 
-  pub rate_of_column : IsMatrix f.matrix → IsNonsingular f.matrix f.basics → IsBasic f.matrix f.basics r → is_in f.basics (place + 1) ≡ false → f.matrix.rows ≤ place → place < size f.matrix → HasMultipliers f (place + 1) r xs
+  pub rate_of_column : IsMatrix f.matrix → IsNonsingular f.matrix f.basics → IsBasic f.matrix f.basics r → is_in f.basics (place + 1) ≡ false
+      → f.matrix.rows ≤ place → place < size f.matrix → HasMultipliers f (place + 1) r xs
       → v ≡ sum_from zero_ℚ (products xs (column f.matrix (place + 1 - f.matrix.rows))) → IsRateOf f r (place + 1) v
   rate_of_column lawful one basic out high within h is_v = record { is_rate = λ rate are. opposite_is rate out (total rate are) }
     where
@@ -97,12 +102,15 @@ module _ (f : Inverse) (r place : ℕ) (xs : List ℚ) (v : ℚ) where
           let number : f.matrix.rows + (place + 1 - f.matrix.rows) ≡ place + 1 = omega (arith, high) in
           let vanishes : column_value f.matrix (multiplier f.basics rate r) (place + 1 - f.matrix.rows) ≡ zero_ℚ =
           sym (functional_at_unit f.matrix (multiplier f.basics rate r) (place + 1 - f.matrix.rows) is)
-          ∙ multiplier_vanishes f.matrix f.basics rate are one r basic (unit f.matrix (place + 1 - f.matrix.rows)) (KeepsEquations-unit f.matrix (place + 1 - f.matrix.rows) is) in
+          ∙ multiplier_vanishes f.matrix f.basics rate are one r basic (unit f.matrix (place + 1 - f.matrix.rows))
+          (KeepsEquations-unit f.matrix (place + 1 - f.matrix.rows) is) in
           is_v ∙ sum_of_entries f.matrix lawful (value_at xs) zero_ℚ (place + 1 - f.matrix.rows) is
           ∙ zero-add (sum_to f.matrix.rows (λ i. value_at xs (suc i) *ℚ entry f.matrix (suc i) (place + 1 - f.matrix.rows)))
           ∙ sum_to-same f.matrix.rows _ _ (λ i below. ap (λ y. y *ℚ entry f.matrix (suc i) (place + 1 - f.matrix.rows))
-          (ap (λ n. get_or xs n zero_ℚ) (let e : suc i - 1 ≡ i = omega arith in e) ∙ h rate are i (omega (arith, below, high)) below ∙ ap (multiplier f.basics rate r) (let e : i + 1 ≡ suc i = omega arith in e)))
-          ∙ opposite_of (multiplier f.basics rate r (f.matrix.rows + (place + 1 - f.matrix.rows))) (sum_to f.matrix.rows (λ i. multiplier f.basics rate r (suc i) *ℚ entry f.matrix (suc i) (place + 1 - f.matrix.rows))) vanishes
+          (ap (λ n. get_or xs n zero_ℚ) (let e : suc i - 1 ≡ i = omega arith in e) ∙ h rate are i (omega (arith, below, high)) below
+          ∙ ap (multiplier f.basics rate r) (let e : i + 1 ≡ suc i = omega arith in e)))
+          ∙ opposite_of (multiplier f.basics rate r (f.matrix.rows + (place + 1 - f.matrix.rows)))
+          (sum_to f.matrix.rows (λ i. multiplier f.basics rate r (suc i) *ℚ entry f.matrix (suc i) (place + 1 - f.matrix.rows))) vanishes
           ∙ ap (λ n. neg_ℚ (multiplier f.basics rate r n)) number
         where
           opposite_of : (y s : ℚ) → y +ℚ s ≡ zero_ℚ → s ≡ neg_ℚ y
@@ -120,14 +128,16 @@ rate_in_direction f r k v var h = record { is_rate = λ rate are. at rate are (i
 pub other_multiplier : (f : Inverse) (r k : ℕ) (u v : ℚ) → IsVariable f.matrix k → k ≢ r → IsRateAt f r k u → v ≡ neg_ℚ u → IsMultiplierOf f r k v
 other_multiplier f r k u v var other h is_v = record { is_multiplier = λ rate are. is_v ∙ at rate are (is_in f.basics k) refl }
   where
-    at : (rate : ℕ → ℕ → ℚ) → AreRates f.matrix f.basics rate → (mark : Bool) → is_in f.basics k ≡ mark → neg_ℚ u ≡ cond mark (cond (nat_eq k r) one_ℚ zero_ℚ) (neg_ℚ (rate r k))
+    at : (rate : ℕ → ℕ → ℚ) → AreRates f.matrix f.basics rate → (mark : Bool) → is_in f.basics k ≡ mark →
+        neg_ℚ u ≡ cond mark (cond (nat_eq k r) one_ℚ zero_ℚ) (neg_ℚ (rate r k))
     at rate are true basic =
         let away : nat_eq k r ≡ false = grind (arith, other) in
         ap neg_ℚ (h.at_basic basic) ∙ by_ring1 zero_ℚ (λ z. opposite (number (pos 0)) ≐ number (pos 0)) refl ∙ sym (ap (λ b. cond b one_ℚ zero_ℚ) away)
     at rate are false out = ap neg_ℚ (h.at_nonbasic out (λ n. rate n k) (are k (var, out)))
 
 -- the multipliers of all rows, one by one
-pub rows_filled : (f : Inverse) (r : ℕ) (xs : List ℚ) → ((k : ℕ) → k < f.matrix.rows → IsMultiplierOf f r (k + 1) (get_or xs k zero_ℚ)) → IsFilledFrom f (size f.matrix) r xs
+pub rows_filled : (f : Inverse) (r : ℕ) (xs : List ℚ) → ((k : ℕ) → k < f.matrix.rows → IsMultiplierOf f r (k + 1) (get_or xs k zero_ℚ)) →
+    IsFilledFrom f (size f.matrix) r xs
 rows_filled f r xs each = record {
   known = λ rate are k below in_rows. (each k in_rows).is_multiplier rate are;
   filled = λ k past within. absurd (omega (arith, past, within));

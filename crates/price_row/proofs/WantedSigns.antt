@@ -32,11 +32,13 @@ module _ (y d : ℚ) (above : zero_ℚ <ℚ d) where
       at : (y <ℚ zero_ℚ) ⊎ (zero_ℚ ≤ℚ y) → lt_ℚ (y /ℚ d) zero_ℚ ≡ lt_ℚ y zero_ℚ
       at (inl below) =
           test_from_lt (y /ℚ d) zero_ℚ
-          (lt_by_product below (inverse-positive above) (by_ring2 y (inverse_ℚ d) (λ y i. number (pos 0) ≐ y ⊗ i ⊕ (number (pos 0) ⊖ y) ⊗ (i ⊖ number (pos 0))) refl))
+          (lt_by_product below (inverse-positive above)
+          (by_ring2 y (inverse_ℚ d) (λ y i. number (pos 0) ≐ y ⊗ i ⊕ (number (pos 0) ⊖ y) ⊗ (i ⊖ number (pos 0))) refl))
           ∙ sym (test_from_lt y zero_ℚ below)
       at (inr le) =
           lt_fails_from_le (y /ℚ d) zero_ℚ
-          (le_by_product le (le_of_lt (inverse-positive above)) (by_ring2 y (inverse_ℚ d) (λ y i. y ⊗ i ≐ number (pos 0) ⊕ (y ⊖ number (pos 0)) ⊗ (i ⊖ number (pos 0))) refl))
+          (le_by_product le (le_of_lt (inverse-positive above))
+          (by_ring2 y (inverse_ℚ d) (λ y i. y ⊗ i ≐ number (pos 0) ⊕ (y ⊖ number (pos 0)) ⊗ (i ⊖ number (pos 0))) refl))
           ∙ sym (lt_fails_from_le y zero_ℚ le)
 
   above_over : lt_ℚ zero_ℚ (y /ℚ d) ≡ lt_ℚ zero_ℚ y
@@ -45,11 +47,13 @@ module _ (y d : ℚ) (above : zero_ℚ <ℚ d) where
       at : (zero_ℚ <ℚ y) ⊎ (y ≤ℚ zero_ℚ) → lt_ℚ zero_ℚ (y /ℚ d) ≡ lt_ℚ zero_ℚ y
       at (inl more) =
           test_from_lt zero_ℚ (y /ℚ d)
-          (lt_by_product more (inverse-positive above) (by_ring2 y (inverse_ℚ d) (λ y i. y ⊗ i ≐ number (pos 0) ⊕ (y ⊖ number (pos 0)) ⊗ (i ⊖ number (pos 0))) refl))
+          (lt_by_product more (inverse-positive above)
+          (by_ring2 y (inverse_ℚ d) (λ y i. y ⊗ i ≐ number (pos 0) ⊕ (y ⊖ number (pos 0)) ⊗ (i ⊖ number (pos 0))) refl))
           ∙ sym (test_from_lt zero_ℚ y more)
       at (inr le) =
           lt_fails_from_le zero_ℚ (y /ℚ d)
-          (le_by_product le (le_of_lt (inverse-positive above)) (by_ring2 y (inverse_ℚ d) (λ y i. number (pos 0) ≐ y ⊗ i ⊕ (number (pos 0) ⊖ y) ⊗ (i ⊖ number (pos 0))) refl))
+          (le_by_product le (le_of_lt (inverse-positive above))
+          (by_ring2 y (inverse_ℚ d) (λ y i. number (pos 0) ≐ y ⊗ i ⊕ (number (pos 0) ⊖ y) ⊗ (i ⊖ number (pos 0))) refl))
           ∙ sym (lt_fails_from_le zero_ℚ y le)
 
   wanted_over : (w : Wanted) → is_wanted w (y /ℚ d) ≡ is_wanted w y
@@ -117,14 +121,16 @@ module _ (f : Inverse) (r place : ℕ) (ws : List Wanted) (up : Bool) (within : 
       ∙ ap (is_wanted sought) (turned_zero up) ∙ zero_unwanted sought)
 
   -- a nonbasic's is its number over the denominator
-  pub number_there : (rates : Vector) (n y d : ℚ) (turn met : Bool) → d ≢ zero_ℚ → IsRateOf f r (place + 1) (n /ℚ d) → turn ≡ up_over up d → y ≡ n → met ≡ is_wanted sought (turned turn y)
+  pub number_there : (rates : Vector) (n y d : ℚ) (turn met : Bool) → d ≢ zero_ℚ → IsRateOf f r (place + 1) (n /ℚ d) → turn ≡ up_over up d → y ≡ n
+      → met ≡ is_wanted sought (turned turn y)
       → IsRowOf f.matrix f.basics r rates → met ≡ meets ws up rates (place + 1)
   number_there rates n y d turn met apart rate_is is_turn is_y test h =
       test ∙ ap₂ (λ (b : Bool) (x : ℚ). is_wanted sought (turned b x)) is_turn is_y ∙ sym (wanted_by_number sought n d up apart)
       ∙ ap (λ (x : ℚ). is_wanted sought (turned up x)) (rate_is.is_rate h.rate h.are_rates ∙ sym (h.entries (place + 1) is))
 
   -- and it is that rate itself
-  pub rate_there : (rates : Vector) (v : ℚ) (met : Bool) → IsRateOf f r (place + 1) v → met ≡ is_wanted sought (turned up v) → IsRowOf f.matrix f.basics r rates → met ≡ meets ws up rates (place + 1)
+  pub rate_there : (rates : Vector) (v : ℚ) (met : Bool) → IsRateOf f r (place + 1) v → met ≡ is_wanted sought (turned up v) →
+      IsRowOf f.matrix f.basics r rates → met ≡ meets ws up rates (place + 1)
   rate_there rates v met rate_is test h =
       test ∙ ap (λ (x : ℚ). is_wanted sought (turned up x)) (rate_is.is_rate h.rate h.are_rates ∙ sym (h.entries (place + 1) is))
 
@@ -151,13 +157,17 @@ module _ (ws : List Wanted) (up : Bool) (rates : Vector) (n : ℕ) (none : NoneM
 
 -- ---- the rate of the one that is found
 
-pub first_found : (f : Inverse) (r : ℕ) (ws : List Wanted) (up : Bool) (xs : List ℚ) → f.basics ≡ after (row_basics f.matrix) f.etas → Passed f.matrix (row_basics f.matrix) f.etas → length ws ≡ size f.matrix
-    → (q : ℕ) (v : ℚ) → IsVariable f.matrix q → length xs ≡ size f.matrix → IsRateOf f r (q - 1 + 1) v → ((rates : Vector) → IsRowOf f.matrix f.basics r rates → IsLeastWanted ws up rates (Some q))
+pub first_found : (f : Inverse) (r : ℕ) (ws : List Wanted) (up : Bool) (xs : List ℚ) → f.basics ≡ after (row_basics f.matrix) f.etas
+    → Passed f.matrix (row_basics f.matrix) f.etas → length ws ≡ size f.matrix
+    → (q : ℕ) (v : ℚ) → IsVariable f.matrix q → length xs ≡ size f.matrix → IsRateOf f r (q - 1 + 1) v
+    → ((rates : Vector) → IsRowOf f.matrix f.basics r rates → IsLeastWanted ws up rates (Some q))
     → IsFirstWanted f.matrix f.basics r ws up (value_at (set xs (q - 1) v)) (Some q)
 first_found f r ws up xs are passed counted q v var places rate_is least =
     first_by_row f r ws up (value_at (set xs (q - 1) v)) are passed counted q var
-    (subst (λ (x : ℚ). IsRateOf f r q x) (sym (get_or-set_same xs (q - 1) v zero_ℚ (omega (arith, var.0, var.1, places)))) (subst (λ k. IsRateOf f r k v) (let e : q - 1 + 1 ≡ q = omega (arith, var.0) in e) rate_is))
+    (subst (λ (x : ℚ). IsRateOf f r q x) (sym (get_or-set_same xs (q - 1) v zero_ℚ (omega (arith, var.0, var.1, places))))
+    (subst (λ k. IsRateOf f r k v) (let e : q - 1 + 1 ≡ q = omega (arith, var.0) in e) rate_is))
     least
 
-pub first_nowhere : (f : Inverse) (r : ℕ) (ws : List Wanted) (up : Bool) (xs : Vector) → IsRowOf f.matrix f.basics r xs → ((rates : Vector) → IsRowOf f.matrix f.basics r rates → IsLeastWanted ws up rates None) → IsFirstWanted f.matrix f.basics r ws up xs None
+pub first_nowhere : (f : Inverse) (r : ℕ) (ws : List Wanted) (up : Bool) (xs : Vector) → IsRowOf f.matrix f.basics r xs →
+    ((rates : Vector) → IsRowOf f.matrix f.basics r rates → IsLeastWanted ws up rates None) → IsFirstWanted f.matrix f.basics r ws up xs None
 first_nowhere f r ws up xs row least = record { rates = xs; is_row = row; least = least xs row; given = λ k is given. refl }

@@ -35,7 +35,8 @@ sum_from-times c a (t ∷ ts) = ap (λ s. sum_from s (map (λ t. t *ℚ c) ts)) 
 number_is : (d : ℚ) (xs : List ℚ) (k : ℕ) → d ≢ zero_ℚ → value_at xs k ≡ value_at (quotients d xs) k *ℚ d
 number_is d xs k apart = sym (ap (λ x. x *ℚ d) (value_at-quotients d xs k) ∙ div-mul_cancel (value_at xs k) d apart)
 
-weighted_times : (p : ℕ) (d s : ℚ) (xs : List ℚ) (es : List EtaEntry) → d ≢ zero_ℚ → weighted p xs (map (scaled s) es) ≡ map (λ t. t *ℚ (d *ℚ s)) (weighted p (quotients d xs) es)
+weighted_times : (p : ℕ) (d s : ℚ) (xs : List ℚ) (es : List EtaEntry) → d ≢ zero_ℚ →
+    weighted p xs (map (scaled s) es) ≡ map (λ t. t *ℚ (d *ℚ s)) (weighted p (quotients d xs) es)
 weighted_times p d s xs [] apart = refl
 weighted_times p d s xs (e ∷ es) apart = at (nat_eq e.i p) (weighted_times p d s xs es apart)
   where
@@ -59,7 +60,8 @@ products_times d xs (e ∷ es) apart =
 
 -- ---- one eta
 
-module _ (f : Inverse) (passed : Passed f.matrix (row_basics f.matrix) f.etas) (k : ℕ) (below : k < length f.etas) (p q : ℕ) (entries : List EtaEntry) (lent : IsLent f.etas (k + 1 - 1) p q entries)
+module _ (f : Inverse) (passed : Passed f.matrix (row_basics f.matrix) f.etas) (k : ℕ) (below : k < length f.etas) (p q : ℕ) (entries : List EtaEntry)
+    (lent : IsLent f.etas (k + 1 - 1) p q entries)
     (s pivot : ℚ) (es : List EtaEntry) (whole : IsLentScaled f.etas (k + 1 - 1) s pivot es) where
   abbrev d0 : StoredEta
   d0 = an_eta f.etas k below
@@ -91,7 +93,8 @@ module _ (f : Inverse) (passed : Passed f.matrix (row_basics f.matrix) f.etas) (
       subst (λ (x : EtaEntry). IsEntryWithin n x) (sym (get_or-map (scaled s) entries i d d within))
       (entries_within f passed k below d0 p q entries lent n same i d within))
 
-  module _ (r : ℕ) (basic : IsBasic f.matrix f.basics r) (one : IsNonsingular f.matrix f.basics) (d : ℚ) (old : List ℚ) (counted : length old ≡ size f.matrix) (known : Represent (IsKnown f (k + 1) r) d old)
+  module _ (r : ℕ) (basic : IsBasic f.matrix f.basics r) (one : IsNonsingular f.matrix f.basics) (d : ℚ) (old : List ℚ) (counted : length old ≡ size f.matrix)
+      (known : Represent (IsKnown f (k + 1) r) d old)
       (first sum ratio : ℚ) (is_first : first ≡ value_at old q *ℚ s) (is_sum : sum ≡ sum_from first (weighted p old es)) (is_ratio : ratio ≡ sum /ℚ pivot) where
     abbrev total : ℚ
     total = sum_from (value_at (quotients d old) q) (weighted p (quotients d old) entries)
@@ -99,7 +102,9 @@ module _ (f : Inverse) (passed : Passed f.matrix (row_basics f.matrix) f.etas) (
     sum_is : sum ≡ total *ℚ (d *ℚ s)
     sum_is =
         is_sum
-        ∙ ap₂ sum_from (is_first ∙ ap (λ x. x *ℚ s) (number_is d old q known.apart) ∙ by_ring3 (value_at (quotients d old) q) d s (λ x d s. (x ⊗ d) ⊗ s ≐ x ⊗ (d ⊗ s)) refl)
+        ∙ ap₂ sum_from
+        (is_first ∙ ap (λ x. x *ℚ s) (number_is d old q known.apart)
+        ∙ by_ring3 (value_at (quotients d old) q) d s (λ x d s. (x ⊗ d) ⊗ s ≐ x ⊗ (d ⊗ s)) refl)
         (ap (weighted p old) entries_are ∙ weighted_times p d s old entries known.apart)
         ∙ sum_from-times (d *ℚ s) (value_at (quotients d old) q) (weighted p (quotients d old) entries)
 
@@ -115,7 +120,8 @@ module _ (f : Inverse) (passed : Passed f.matrix (row_basics f.matrix) f.etas) (
     value_is : IsMultiplierAt f k r value
     value_is = record {
       is_multiplier = λ x rate are.
-          multiplier_is f passed k below x p q entries lent r basic one (quotients d old) known.holds rate are (value_at (quotients d old) q) total (get_or f.etas k x).pivot (total /ℚ eta.pivot)
+          multiplier_is f passed k below x p q entries lent r basic one (quotients d old) known.holds rate are (value_at (quotients d old) q) total
+          (get_or f.etas k x).pivot (total /ℚ eta.pivot)
           refl refl (is f passed k below x p q entries lent).is_pivot
           (ap (λ (e : StoredEta). total /ℚ e.pivot) (sym (one_eta x)));
     }
@@ -126,7 +132,8 @@ module _ (f : Inverse) (passed : Passed f.matrix (row_basics f.matrix) f.etas) (
     before : IsKnown f k r (set (quotients d old) (p - 1) value)
     before = known_more f passed k below d0 p q entries lent r (quotients d old) value (length-quotients d old ∙ counted) known.holds value_is
 
-    module _ (by number e : ℚ) (low new : List ℚ) (by_apart : by ≢ zero_ℚ) (is_number : number ≡ ratio *ℚ by) (is_e : e ≡ d *ℚ by) (products_are : AreProducts by old low) (low_counted : length low ≡ length old)
+    module _ (by number e : ℚ) (low new : List ℚ) (by_apart : by ≢ zero_ℚ) (is_number : number ≡ ratio *ℚ by) (is_e : e ≡ d *ℚ by)
+        (products_are : AreProducts by old low) (low_counted : length low ≡ length old)
         (is_new : new ≡ set low (p - 1) (neg_ℚ number)) where
       e_apart : e ≢ zero_ℚ
       e_apart none = apart-mul known.apart by_apart (sym is_e ∙ none)
@@ -169,7 +176,8 @@ module _ (f : Inverse) (passed : Passed f.matrix (row_basics f.matrix) f.etas) (
       }
 
 -- what is left after a reduction
-pub known_reduced : (f : Inverse) (k r : ℕ) (d e : ℚ) (old new : List ℚ) → IsSameOver d old e new → Represent (IsKnown f k r) d old → Represent (IsKnown f k r) e new
+pub known_reduced : (f : Inverse) (k r : ℕ) (d e : ℚ) (old new : List ℚ) → IsSameOver d old e new → Represent (IsKnown f k r) d old →
+    Represent (IsKnown f k r) e new
 known_reduced f k r d e old new same h = record {
   apart = same.apart;
   holds = record {
@@ -179,7 +187,8 @@ known_reduced f k r d e old new same h = record {
 
 -- ---- where it begins and ends
 
-pub begun_whole : (f : Inverse) (n r : ℕ) (d : ℚ) (xs : List ℚ) → f.basics ≡ after (row_basics f.matrix) f.etas → n ≡ length f.etas → d ≡ one_ℚ → IsUnit r xs → Represent (IsKnown f n r) d xs
+pub begun_whole : (f : Inverse) (n r : ℕ) (d : ℚ) (xs : List ℚ) → f.basics ≡ after (row_basics f.matrix) f.etas → n ≡ length f.etas → d ≡ one_ℚ → IsUnit r xs →
+    Represent (IsKnown f n r) d xs
 begun_whole f n r d xs are is_n once h = record {
   apart = λ none. one_apart (sym once ∙ none);
   holds = known_at_end f n r (quotients d xs) are is_n (record {
@@ -192,7 +201,8 @@ begun_whole f n r d xs are is_n once h = record {
     same k = value_at-quotients d xs k ∙ sym (over_once (value_at xs k) d once)
 
 pub ended_whole : (f : Inverse) (n r : ℕ) (d : ℚ) (xs : List ℚ) → n ≡ 0 → Represent (IsKnown f n r) d xs → Represent (HasMultipliers f (size f.matrix) r) d xs
-ended_whole f n r d xs none h = record { apart = h.apart; holds = (rows_known f r (quotients d xs) (subst (λ m. IsKnown f m r (quotients d xs)) none h.holds)).known }
+ended_whole f n r d xs none h =
+    record { apart = h.apart; holds = (rows_known f r (quotients d xs) (subst (λ m. IsKnown f m r (quotients d xs)) none h.holds)).known }
 
 -- ---- a rate
 
@@ -200,7 +210,8 @@ module _ (f : Inverse) (r place : ℕ) (d : ℚ) (xs : List ℚ) (within : place
   up_to : HasMultipliers f (place + 1) r (quotients d xs)
   up_to = λ rate are k less in_rows. known.holds rate are k (omega (arith, less, within)) in_rows
 
-  pub whole_rate_of_row : (x v : ℚ) → is_in f.basics (place + 1) ≡ false → place < f.matrix.rows → x ≡ get_or xs place zero_ℚ → v ≡ neg_ℚ x /ℚ d → IsRateOf f r (place + 1) v
+  pub whole_rate_of_row : (x v : ℚ) → is_in f.basics (place + 1) ≡ false → place < f.matrix.rows → x ≡ get_or xs place zero_ℚ → v ≡ neg_ℚ x /ℚ d →
+      IsRateOf f r (place + 1) v
   whole_rate_of_row x v out low is_x is_v =
       rate_of_row f r place (quotients d xs) v out low up_to
       (is_v ∙ by_ring2 x (inverse_ℚ d) (λ x i. opposite x ⊗ i ≐ opposite (x ⊗ i)) refl ∙ ap (λ y. neg_ℚ (y /ℚ d)) is_x ∙ ap neg_ℚ (sym here))
@@ -212,7 +223,8 @@ module _ (f : Inverse) (r place : ℕ) (d : ℚ) (xs : List ℚ) (within : place
       here =
           ap (λ n. get_or (quotients d xs) n zero_ℚ) (sym next) ∙ value_at-quotients d xs (place + 1) ∙ ap (λ n. get_or xs n zero_ℚ /ℚ d) next
 
-  pub whole_rate_of_column : (sum v : ℚ) → IsMatrix f.matrix → IsNonsingular f.matrix f.basics → IsBasic f.matrix f.basics r → is_in f.basics (place + 1) ≡ false → f.matrix.rows ≤ place
+  pub whole_rate_of_column : (sum v : ℚ) → IsMatrix f.matrix → IsNonsingular f.matrix f.basics → IsBasic f.matrix f.basics r
+      → is_in f.basics (place + 1) ≡ false → f.matrix.rows ≤ place
       → sum ≡ sum_from zero_ℚ (products xs (column f.matrix (place + 1 - f.matrix.rows))) → v ≡ sum /ℚ d → IsRateOf f r (place + 1) v
   whole_rate_of_column sum v lawful one basic out high is_sum is_v =
       rate_of_column f r place (quotients d xs) v lawful one basic out high within up_to
@@ -223,7 +235,8 @@ module _ (f : Inverse) (r place : ℕ) (d : ℚ) (xs : List ℚ) (within : place
       c = column f.matrix (place + 1 - f.matrix.rows)
 
 -- the rates at all variables are the row
-pub filled_row : (f : Inverse) (n r : ℕ) (xs : List ℚ) → f.basics ≡ after (row_basics f.matrix) f.etas → Passed f.matrix (row_basics f.matrix) f.etas → size f.matrix ≤ n → IsFilledTo f n r xs → IsRowOf f.matrix f.basics r (value_at xs)
+pub filled_row : (f : Inverse) (n r : ℕ) (xs : List ℚ) → f.basics ≡ after (row_basics f.matrix) f.etas → Passed f.matrix (row_basics f.matrix) f.etas →
+    size f.matrix ≤ n → IsFilledTo f n r xs → IsRowOf f.matrix f.basics r (value_at xs)
 filled_row f n r xs are passed all h = row_is f r xs are passed (record {
   known = λ rate is k less in_rows. absurd (omega (arith, less));
   filled = λ k from within. h k (omega (arith, within, all));

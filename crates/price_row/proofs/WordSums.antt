@@ -11,14 +11,17 @@ use Rattle.price_row.specs.Sums.{products}
 use Rattle.price_row.specs.Places.{IsRowPlace, IsWordPlace}
 
 words-take : (xs : List ℚ) (ws : List WordEntry) (n : ℕ) (d : WordEntry) (start : ℚ) → n < length ws
-    → sum_from start (products xs (map fraction_entry (take (suc n) ws))) ≡ sum_from start (products xs (map fraction_entry (take n ws))) +ℚ value_at xs (get_or ws n d).row *ℚ whole (get_or ws n d).value
+    → sum_from start (products xs (map fraction_entry (take (suc n) ws))) ≡ sum_from start (products xs (map fraction_entry (take n ws))) +ℚ value_at xs
+    (get_or ws n d).row *ℚ whole (get_or ws n d).value
 words-take xs [] n d start below = absurd (omega arith)
 words-take xs (w ∷ ws) zero d start below = refl
 words-take xs (w ∷ ws) (suc n) d start below = words-take xs ws n d (start +ℚ value_at xs w.row *ℚ whole w.value) (omega arith)
 
 -- one number more
-pub words_more : (xs : List ℚ) (ws : List WordEntry) (n : ℕ) (d : WordEntry) (sum x y next : ℚ) → n < length ws → sum ≡ sum_from zero_ℚ (products xs (map fraction_entry (take n ws)))
-    → x ≡ value_at xs (get_or ws n d).row → y ≡ whole (get_or ws n d).value → next ≡ sum +ℚ x *ℚ y → next ≡ sum_from zero_ℚ (products xs (map fraction_entry (take (n + 1) ws)))
+pub words_more : (xs : List ℚ) (ws : List WordEntry) (n : ℕ) (d : WordEntry) (sum x y next : ℚ) → n < length ws
+    → sum ≡ sum_from zero_ℚ (products xs (map fraction_entry (take n ws)))
+    → x ≡ value_at xs (get_or ws n d).row → y ≡ whole (get_or ws n d).value → next ≡ sum +ℚ x *ℚ y
+    → next ≡ sum_from zero_ℚ (products xs (map fraction_entry (take (n + 1) ws)))
 words_more xs ws n d sum x y next below is_sum is_x is_y is_next =
     is_next ∙ ap₂ (λ (s p : ℚ). s +ℚ p) is_sum (ap₂ (λ (x y : ℚ). x *ℚ y) is_x is_y)
     ∙ sym (ap (λ k. sum_from zero_ℚ (products xs (map fraction_entry (take k ws)))) (add-one n) ∙ words-take xs ws n d zero_ℚ below)
@@ -37,5 +40,6 @@ words_within n c ws are within i d below =
     subst (λ (e : Entry). IsRowPlace n e) (get_or-map fraction_entry ws i d (fraction_entry d) below) (same i (fraction_entry d) inside)
 
 -- and the sum over the words is that over the column
-pub words_sum : (xs : List ℚ) (c : List Entry) (ws : List WordEntry) (sum : ℚ) → AreWordsOf c ws → sum ≡ sum_from zero_ℚ (products xs (map fraction_entry ws)) → sum ≡ sum_from zero_ℚ (products xs c)
+pub words_sum : (xs : List ℚ) (c : List Entry) (ws : List WordEntry) (sum : ℚ) → AreWordsOf c ws → sum ≡ sum_from zero_ℚ (products xs (map fraction_entry ws)) →
+    sum ≡ sum_from zero_ℚ (products xs c)
 words_sum xs c ws sum are is_sum = is_sum ∙ ap (λ es. sum_from zero_ℚ (products xs es)) are

@@ -21,7 +21,8 @@ abbrev pub set_of : Inverse → ℕ → Basics
 set_of f n = after (row_basics f.matrix) (take n f.etas)
 
 pub record IsKnown (f : Inverse) (n r : ℕ) (xs : List ℚ) : Type 0 where
-  pub each : (rate : ℕ → ℕ → ℚ) → AreRates f.matrix f.basics rate → (k : ℕ) → IsVariable f.matrix k → is_in (set_of f n) k ≡ true → value_at xs k ≡ multiplier f.basics rate r k
+  pub each : (rate : ℕ → ℕ → ℚ) → AreRates f.matrix f.basics rate → (k : ℕ) → IsVariable f.matrix k → is_in (set_of f n) k ≡ true →
+      value_at xs k ≡ multiplier f.basics rate r k
 
 pub record IsRateOf (f : Inverse) (r k : ℕ) (v : ℚ) : Type 0 where
   pub is_rate : (rate : ℕ → ℕ → ℚ) → AreRates f.matrix f.basics rate → v ≡ (if is_in f.basics k then zero_ℚ else rate r k)
@@ -40,7 +41,8 @@ pub record IsMultiplierAt (f : Inverse) (place r : ℕ) (v : ℚ) : Type 0 where
 
 -- as far as there are rows before place n, xs has their multipliers
 abbrev pub HasMultipliers : Inverse → ℕ → ℕ → List ℚ → Type 0
-HasMultipliers f n r xs = (rate : ℕ → ℕ → ℚ) → AreRates f.matrix f.basics rate → (k : ℕ) → k < n → k < f.matrix.rows → slice_index_or xs k zero_ℚ ≡ multiplier f.basics rate r (k + 1)
+HasMultipliers f n r xs =
+    (rate : ℕ → ℕ → ℚ) → AreRates f.matrix f.basics rate → (k : ℕ) → k < n → k < f.matrix.rows → slice_index_or xs k zero_ℚ ≡ multiplier f.basics rate r (k + 1)
 
 -- from place n on the rates, and before it, as far as there are rows, the multipliers of these
 pub record IsFilledFrom (f : Inverse) (n r : ℕ) (xs : List ℚ) : Type 0 where

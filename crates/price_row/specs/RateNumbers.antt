@@ -11,7 +11,8 @@ use Rattle.eta_file.specs.Inverse.{Inverse}
 use Rattle.price_row.specs.Known.{HasMultipliers, IsRateOf}
 
 pub record IsNumberAt (f : Inverse) (k : ℕ) (xs : List ℚ) (n : ℚ) : Type 0 where
-  pub over : (r : ℕ) (d : ℚ) → IsBasic f.matrix f.basics r → is_in f.basics k ≡ false → Represent (HasMultipliers f (size f.matrix) r) d xs → IsRateOf f r k (n /ℚ d)
+  pub over : (r : ℕ) (d : ℚ) → IsBasic f.matrix f.basics r → is_in f.basics k ≡ false → Represent (HasMultipliers f (size f.matrix) r) d xs →
+      IsRateOf f r k (n /ℚ d)
 
 abbrev pub up_over : Bool → ℚ → Bool
 up_over up d = if lt_ℚ zero_ℚ d then up else not up

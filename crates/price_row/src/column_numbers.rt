@@ -51,7 +51,8 @@ fn keep(numbers: &mut SparseWholes, row: u32, number: i128)
     requires low { 1 ≤ row }
     requires high { row ≤ length numbers.old }
     requires fits { Fits number }
-    ensures { (d : ℚ) (xs : List ℚ) → AreNumbersOver d xs numbers.old → whole number ≡ value_at xs row *ℚ
+    ensures { (d : ℚ) (xs : List ℚ) → AreNumbersOver d xs numbers.old →
+        whole number ≡ value_at xs row *ℚ
         d → AreNumbersOver d xs numbers.new }
 {
     if numbers.put(row, number).is_some() {
@@ -113,7 +114,8 @@ fn sum_over_denominator(
 ) -> Option<i128>
     requires places { All (IsRowPlace (length values.now)) column.now }
     requires over { AreNumbersOver denominator values.now numbers.old }
-    ensures value { IfSome result (λ n. whole n ≡ sum_from zero_ℚ (products values.now column.now) *ℚ
+    ensures value { IfSome result
+        (λ n. whole n ≡ sum_from zero_ℚ (products values.now column.now) *ℚ
         denominator) }
     ensures fits { IfSome result Fits }
     ensures over { AreNumbersOver denominator values.now numbers.new }
@@ -160,7 +162,8 @@ fn sum_as_number(
 ) -> Option<i128>
     requires places { All (IsRowPlace (length values.now)) column.now }
     requires over { AreNumbersOver denominator.old values.now numbers.old }
-    ensures value { IfSome result (λ n. whole n ≡ sum_from zero_ℚ (products values.now column.now) *ℚ
+    ensures value { IfSome result
+        (λ n. whole n ≡ sum_from zero_ℚ (products values.now column.now) *ℚ
         denominator.new) }
     ensures fits { IfSome result Fits }
     ensures over { AreNumbersOver denominator.new values.now numbers.new }

@@ -71,7 +71,8 @@ pub trait Numbers {
     /// The sum, with one product by a machine word more. Nothing is made of 0.
     fn plus_word(sum: Self::Number, x: Self::Number, y: i64) -> Option<Self::Number>
         requires sound { is_sound sum }
-        ensures value { IfSome result (λ next. fraction next ≡ fraction sum +ℚ fraction x *ℚ whole y) }
+        ensures value { IfSome result
+            (λ next. fraction next ≡ fraction sum +ℚ fraction x *ℚ whole y) }
         ensures sound { IfSome result is_sound };
 
     /// A number over a divisor.
@@ -126,7 +127,8 @@ fn sum_of_entries<N: Numbers>(
     requires within { All (IsEntryWithin (length numbers.now)) entries.now }
     requires numbers { All N.is_sound numbers.now }
     requires first { N.is_sound first }
-    ensures value { IfSome result (λ sum. (p : ℕ) → value_at (map N.fraction numbers.now) p ≡ zero_ℚ →
+    ensures value { IfSome result
+        (λ sum. (p : ℕ) → value_at (map N.fraction numbers.now) p ≡ zero_ℚ →
         N.fraction sum ≡ sum_from (N.fraction first) (weighted p (map N.fraction numbers.now)
         entries.now)) }
     ensures sound { IfSome result N.is_sound }
@@ -201,7 +203,8 @@ fn sum_over_eta<N: Numbers>(
     requires high { q ≤ length numbers.now }
     requires numbers { All N.is_sound numbers.now }
     requires within { All (IsEntryWithin (length numbers.now)) whole.now.entries.now }
-    ensures value { IfSome result (λ sum. (p : ℕ) → value_at (map N.fraction numbers.now) p ≡ zero_ℚ →
+    ensures value { IfSome result
+        (λ sum. (p : ℕ) → value_at (map N.fraction numbers.now) p ≡ zero_ℚ →
         N.fraction sum ≡ sum_from (value_at (map N.fraction numbers.now) q *ℚ whole.now.scale)
         (weighted p (map N.fraction numbers.now) whole.now.entries.now)) }
     ensures sound { IfSome result N.is_sound }
@@ -222,7 +225,8 @@ fn carry_back_numbers<N: Numbers>(
     requires within { place < length file.now.etas }
     requires basic { IsBasic file.now.matrix file.now.basics row }
     requires places { length (N.fractions out.old) ≡ size file.now.matrix }
-    requires known { Represent (IsKnown file.now (place + 1) row) denominator (N.fractions out.old) }
+    requires known { Represent
+        (IsKnown file.now (place + 1) row) denominator (N.fractions out.old) }
     ensures known { IfSome result (λ d. Represent (IsKnown file.now place row) d
         (N.fractions out.new)) }
     ensures places { length (N.fractions out.new) ≡ length (N.fractions out.old) }
@@ -471,7 +475,8 @@ pub fn row_by_numbers<N: Numbers>(
     requires basic { IsBasic file.now.matrix file.now.basics row }
     requires number_places { length (N.fractions numbers.old) ≡ size file.now.matrix }
     requires places { length out.old ≡ size file.now.matrix }
-    ensures rates { IfSome result (λ _. IsRowOf file.now.matrix file.now.basics row (value_at out.new)) }
+    ensures rates { IfSome result
+        (λ _. IsRowOf file.now.matrix file.now.basics row (value_at out.new)) }
     ensures number_places { length (N.fractions numbers.new) ≡ length (N.fractions numbers.old) }
 {
     let denominator = multipliers_in_numbers(file, row, numbers)?;

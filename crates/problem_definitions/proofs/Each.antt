@@ -33,7 +33,8 @@ each-mapped P f [] each = tt
 each-mapped P f (x ∷ xs) each = (each.0, each-mapped P f xs each.1)
 
 -- a list without two alike, mapped by a function under which what was unlike stays so
-pub distinct-mapped : {X Y : Type 0} (e : X → X → Bool) (h : Y → Y → Bool) (f : X → Y) (P : X → Type 0) → ((x y : X) → P x → P y → e x y ≡ false → h (f x) (f y) ≡ false)
+pub distinct-mapped : {X Y : Type 0} (e : X → X → Bool) (h : Y → Y → Bool) (f : X → Y) (P : X → Type 0)
+    → ((x y : X) → P x → P y → e x y ≡ false → h (f x) (f y) ≡ false)
     → (xs : List X) → AllByRecursion P xs → IsDistinct e xs → IsDistinct h (map f xs)
 unfolding IsDistinct
 distinct-mapped e h f P keeps [] each distinct = tt
@@ -48,7 +49,9 @@ pub absent-apart : (names : List Name) (name : Name) → has_name names name ≡
 absent-apart [] name absent = tt
 absent-apart (other ∷ names) name absent = by (same name other) refl absent (absent-apart names name)
   where
-    by : (b : Bool) → same name other ≡ b → (b || has_name names name) ≡ false → (has_name names name ≡ false → AllByRecursion (λ other. same other name ≡ false) names) → (same other name ≡ false) × AllByRecursion (λ other. same other name ≡ false) names
+    by : (b : Bool) → same name other ≡ b → (b || has_name names name) ≡ false →
+        (has_name names name ≡ false → AllByRecursion (λ other. same other name ≡ false) names) →
+        (same other name ≡ false) × AllByRecursion (λ other. same other name ≡ false) names
     by true e h rest = absurd (cc h)
     by false e h rest = (same_sym other name ∙ e, rest h)
 

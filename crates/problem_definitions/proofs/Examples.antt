@@ -31,11 +31,13 @@ two_groups : grouped three_parts ≡ record { name = codes "B"; items = 1 ∷ 2 
 unfolding three_parts
 two_groups = refl
 
-new_set : in_set (codes "C") (λ items. 5 ∷ items) (grouped three_parts) ≡ record { name = codes "B"; items = 1 ∷ 2 ∷ 4 ∷ [] } ∷ record { name = codes "A"; items = 3 ∷ [] } ∷ record { name = codes "C"; items = 5 ∷ [] } ∷ []
+new_set : in_set (codes "C") (λ items. 5 ∷ items)
+    (grouped three_parts) ≡ record { name = codes "B"; items = 1 ∷ 2 ∷ 4 ∷ [] } ∷ record { name = codes "A"; items = 3 ∷ [] } ∷ record { name = codes "C"; items = 5 ∷ [] } ∷ []
 unfolding three_parts
 new_set = refl
 
-old_set : in_set (codes "A") (λ items. 5 ∷ items) (grouped three_parts) ≡ record { name = codes "B"; items = 1 ∷ 2 ∷ 4 ∷ [] } ∷ record { name = codes "A"; items = 5 ∷ 3 ∷ [] } ∷ []
+old_set : in_set (codes "A") (λ items. 5 ∷ items)
+    (grouped three_parts) ≡ record { name = codes "B"; items = 1 ∷ 2 ∷ 4 ∷ [] } ∷ record { name = codes "A"; items = 5 ∷ 3 ∷ [] } ∷ []
 unfolding three_parts
 old_set = refl
 
@@ -43,7 +45,8 @@ old_set = refl
 apart : (meet Up Lo ≡ false) × (meet Up Mi ≡ false) × (meet Pl Lo ≡ false) × (meet Pl Mi ≡ false)
 apart = (refl, refl, refl, refl)
 
-meeting : (meet Up Up ≡ true) × (meet Up Pl ≡ true) × (meet Lo Mi ≡ true) × (meet Fx Lo ≡ true) × (meet Up Fx ≡ true) × (meet Fr Mi ≡ true) × (meet Fr Fx ≡ true)
+meeting : (meet Up Up ≡ true) × (meet Up Pl ≡ true) × (meet Lo Mi ≡ true) × (meet Fx Lo ≡ true) × (meet Up Fx ≡ true) × (meet Fr Mi ≡ true) ×
+    (meet Fr Fx ≡ true)
 meeting = (refl, refl, refl, refl, refl, refl, refl)
 
 -- a problem of two rows and one column, with a right-hand side and a bound
@@ -51,7 +54,15 @@ small : Problem Name
 small = record {
   name = codes "SMALL";
   rows = plain_row N (codes "COST") ∷ plain_row G (codes "LOW") ∷ [];
-  columns = record { name = codes "X"; items = record { row = codes "LOW"; value = decimal_of (codes "1") } ∷ record { row = codes "COST"; value = decimal_of (codes "2") } ∷ [] } ∷ [];
+  columns =
+      record {
+        name = codes "X";
+        items = record { row = codes "LOW"; value = decimal_of (codes "1") } ∷ record {
+          row = codes "COST";
+          value = decimal_of
+              (codes "2");
+        } ∷ [];
+      } ∷ [];
   rhs = record { name = codes "B"; items = record { row = codes "LOW"; value = decimal_of (codes "1") } ∷ [] } ∷ [];
   ranges = [];
   bounds = record { name = codes "BND"; items = record { kind = Mi; column = codes "X"; value = None } ∷ [] } ∷ [];
@@ -78,10 +89,13 @@ names_again = refl
 combined : Problem Name
 unfolding small
 combined = record small {
-  rows = small.rows ++ combination G (codes "SUM") (record { row = codes "LOW"; value = decimal_of (codes "2") } ∷ record { row = codes "COST"; value = decimal_of (codes "-1") } ∷ []) ∷ [];
+  rows =
+      small.rows ++ combination G (codes "SUM")
+      (record { row = codes "LOW"; value = decimal_of (codes "2") } ∷ record { row = codes "COST"; value = decimal_of (codes "-1") } ∷ []) ∷ [];
 }
 
-which_combine : (has_combination combined.rows (codes "SUM") ≡ true) × (has_combination combined.rows (codes "LOW") ≡ false) × (is_combination combined.rows 3 ≡ true) × (is_combination combined.rows 2 ≡ false) × (is_combination combined.rows 4 ≡ false)
+which_combine : (has_combination combined.rows (codes "SUM") ≡ true) × (has_combination combined.rows (codes "LOW") ≡ false) ×
+    (is_combination combined.rows 3 ≡ true) × (is_combination combined.rows 2 ≡ false) × (is_combination combined.rows 4 ≡ false)
 unfolding small combined
 which_combine = (refl, refl, refl, refl, refl)
 
@@ -95,12 +109,14 @@ unfolding small combined numbered by_names
 parts_again = refl
 
 -- the parts by the row's name, the rows before it, and a part more
-by_row : (map (λ part. part.row) (parts_of (codes "SUM") combined.rows) ≡ codes "LOW" ∷ codes "COST" ∷ []) × (parts_of (codes "LOW") combined.rows ≡ []) × (rows_before (codes "SUM") combined.rows ≡ small.rows)
+by_row : (map (λ part. part.row) (parts_of (codes "SUM") combined.rows) ≡ codes "LOW" ∷ codes "COST" ∷ []) × (parts_of (codes "LOW") combined.rows ≡ []) ×
+    (rows_before (codes "SUM") combined.rows ≡ small.rows)
     × (rows_before (codes "NONE") combined.rows ≡ combined.rows)
 unfolding small combined
 by_row = (refl, refl, refl, refl)
 
-part_more : map (λ row. option_map (map (λ part. part.row)) row.parts) (in_row (codes "SUM") (λ parts. parts ++ record { row = codes "X"; value = decimal_of (codes "1") } ∷ []) combined.rows)
+part_more : map (λ row. option_map (map (λ part. part.row)) row.parts)
+    (in_row (codes "SUM") (λ parts. parts ++ record { row = codes "X"; value = decimal_of (codes "1") } ∷ []) combined.rows)
     ≡ None ∷ None ∷ Some (codes "LOW" ∷ codes "COST" ∷ codes "X" ∷ []) ∷ []
 unfolding small combined
 part_more = refl

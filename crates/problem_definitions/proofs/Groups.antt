@@ -35,8 +35,11 @@ module _ {X : Type 0} where
   abbrev pub group_in : List (Group X) → Name → Group X
   group_in cards name = record { name = name; items = items_of name cards }
 
-  pub items_of-push : (name : Name) (cards : List (Group X)) (card : Group X) → items_of name (cards ++ card ∷ []) ≡ items_of name cards ++ cond (same name card.name) card.items []
-  items_of-push name cards card = flat_map-append (λ group. cond (same name group.name) group.items []) cards (card ∷ []) ∙ ap (λ list. items_of name cards ++ list) (append-nil (cond (same name card.name) card.items []))
+  pub items_of-push : (name : Name) (cards : List (Group X)) (card : Group X) →
+      items_of name (cards ++ card ∷ []) ≡ items_of name cards ++ cond (same name card.name) card.items []
+  items_of-push name cards card =
+      flat_map-append (λ group. cond (same name group.name) group.items []) cards (card ∷ [])
+      ∙ ap (λ list. items_of name cards ++ list) (append-nil (cond (same name card.name) card.items []))
 
   -- no items of a name that no element has
   pub items_of-absent : (name : Name) (cards : List (Group X)) → has_name (group_names cards) name ≡ false → items_of name cards ≡ []
@@ -50,7 +53,8 @@ module _ {X : Type 0} where
 
   -- the names of the groups of a list
   pub names-grouped : (cards : List (Group X)) → group_names (grouped cards) ≡ different (group_names cards)
-  names-grouped cards = map-map (λ group. group.name) (group_in cards) (different (group_names cards)) ∙ map-id (λ name. name) (λ name. refl) (different (group_names cards))
+  names-grouped cards =
+      map-map (λ group. group.name) (group_in cards) (different (group_names cards)) ∙ map-id (λ name. name) (λ name. refl) (different (group_names cards))
 
   -- the group with a card's items at its end where it has the card's name
   abbrev pub with_card : Group X → Group X → Group X
@@ -58,7 +62,8 @@ module _ {X : Type 0} where
 
   -- a group of the longer list is the group of the list, with the card
   pub group_in-push : (cards : List (Group X)) (card : Group X) (name : Name) → group_in (cards ++ card ∷ []) name ≡ with_card card (group_in cards name)
-  group_in-push cards card name = ap (λ items. record { name = name; items = items }) (items_of-push name cards card ∙ rw (same_sym name card.name) refl) ∙ by (same card.name name)
+  group_in-push cards card name =
+      ap (λ items. record { name = name; items = items }) (items_of-push name cards card ∙ rw (same_sym name card.name) refl) ∙ by (same card.name name)
     where
       by : (b : Bool) → record { name = name; items = items_of name cards ++ cond b card.items [] }
           ≡ cond b (record { name = name; items = items_of name cards ++ card.items }) (group_in cards name)
@@ -77,7 +82,8 @@ module _ {X : Type 0} where
 
   -- whether a group of this name is there, is whether an element has it
   pub has_group-grouped : (cards : List (Group X)) (name : Name) → has_group (grouped cards) name ≡ has_name (group_names cards) name
-  has_group-grouped cards name = has_group-names (grouped cards) name ∙ ap (λ names. has_name names name) (names-grouped cards) ∙ has_name-different name (group_names cards)
+  has_group-grouped cards name =
+      has_group-names (grouped cards) name ∙ ap (λ names. has_name names name) (names-grouped cards) ∙ has_name-different name (group_names cards)
 
   -- One more element is added to the group of its name, or is a new group at the end.
   pub grouped-push : (cards : List (Group X)) (card : Group X) → grouped (cards ++ card ∷ []) ≡ in_set card.name (λ items. items ++ card.items) (grouped cards)
@@ -86,7 +92,8 @@ module _ {X : Type 0} where
       names : List Name
       names = different (group_names cards)
 
-      regrouped : grouped (cards ++ card ∷ []) ≡ map (group_in (cards ++ card ∷ [])) (cond (has_name (group_names cards) card.name) names (names ++ card.name ∷ []))
+      regrouped : grouped (cards ++ card ∷ []) ≡ map (group_in (cards ++ card ∷ []))
+          (cond (has_name (group_names cards) card.name) names (names ++ card.name ∷ []))
       regrouped = ap (λ list. map (group_in (cards ++ card ∷ [])) (different list)) (map-append (λ group. group.name) cards (card ∷ []))
           ∙ ap (map (group_in (cards ++ card ∷ []))) (different-push (group_names cards) card.name)
 
@@ -101,4 +108,10 @@ module _ {X : Type 0} where
           ≡ in_set card.name (λ items. items ++ card.items) (grouped cards)
       by true e = changed ∙ rw (has_group-grouped cards card.name ∙ e) refl
       by false e = map-append (group_in (cards ++ card ∷ [])) names (card.name ∷ [])
-          ∙ rw (has_group-grouped cards card.name ∙ e, group_in-new cards card e, map_agree (same card.name) (group_in (cards ++ card ∷ [])) (group_in cards) unlike names (has_name-different card.name (group_names cards) ∙ e)) refl
+          ∙ rw (
+            has_group-grouped cards card.name
+                ∙ e,
+            group_in-new cards card e,
+            map_agree (same card.name) (group_in (cards ++ card ∷ [])) (group_in cards) unlike names
+                (has_name-different card.name (group_names cards) ∙ e),
+          ) refl

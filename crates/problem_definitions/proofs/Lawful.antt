@@ -96,7 +96,9 @@ sets : {X Y : Type 0} (h : X → Y) (P : List X → Type 0) → ((items : List X
 sets h P fill groups lawful = record {
   names = subst (λ names. All IsName names) (sym (names-by h groups)) (each-all IsName (group_names groups) lawful.names);
   distinct = subst (IsDistinct same) (sym (names-by h groups)) lawful.distinct;
-  filled = each-all (λ set. is_empty set.items ≡ false) (map (group_by h) groups) (items-by h P (λ items. is_empty items ≡ false) (λ items p. empty-map h items (fill items p)) groups lawful.items);
+  filled =
+      each-all (λ set. is_empty set.items ≡ false) (map (group_by h) groups)
+      (items-by h P (λ items. is_empty items ≡ false) (λ items p. empty-map h items (fill items p)) groups lawful.items);
 }
 
 module _ (rows : List (Row Name)) where
@@ -113,39 +115,50 @@ module _ (rows : List (Row Name)) where
   entries-numbered entries lawful = record {
     on_rows = each-all (λ entry. IsNumberOf (length rows) entry.row) (map (entry_by number) entries)
         (each-mapped (λ entry. IsNumberOf (length rows) entry.row) (entry_by number) entries
-        (each-change (λ entry. has_row rows entry.row ≡ true) (λ entry. IsNumberOf (length rows) (number entry.row)) (λ entry has. within entry.row has) entries lawful.on_rows));
+        (each-change (λ entry. has_row rows entry.row ≡ true) (λ entry. IsNumberOf (length rows) (number entry.row))
+        (λ entry has. within entry.row has) entries lawful.on_rows));
     distinct = subst (IsDistinct nat_eq) (map-map number (λ entry. entry.row) entries ∙ sym (map-map (λ entry. entry.row) (entry_by number) entries))
-        (distinct-mapped same nat_eq number (λ name. has_row rows name ≡ true) (λ a b has_a has_b apart. numbers_apart row_name_list a b (there a has_a) (there b has_b) apart)
+        (distinct-mapped same nat_eq number (λ name. has_row rows name ≡ true)
+        (λ a b has_a has_b apart. numbers_apart row_name_list a b (there a has_a) (there b has_b) apart)
         (map (λ entry. entry.row) entries) (each-mapped (λ name. has_row rows name ≡ true) (λ entry. entry.row) entries lawful.on_rows) lawful.distinct);
-    values = each-all (λ entry. IsDecimal entry.value) (map (entry_by number) entries) (each-mapped (λ entry. IsDecimal entry.value) (entry_by number) entries lawful.values);
+    values =
+        each-all (λ entry. IsDecimal entry.value) (map (entry_by number) entries)
+        (each-mapped (λ entry. IsDecimal entry.value) (entry_by number) entries lawful.values);
   }
     where
       within : (name : Name) → has_row rows name ≡ true → IsNumberOf (length rows) (number name)
       within name has = subst (λ n. IsNumberOf n (number name)) (length-map rows (λ row. row.name)) (number_in-within row_name_list name (there name has))
 
-  markers-numbered : (entries : List (Entry Name)) → AreColumnEntries rows entries → All (λ entry. same marker (name_at row_name_list entry.row) ≡ false) (map (entry_by number) entries)
+  markers-numbered : (entries : List (Entry Name)) → AreColumnEntries rows entries →
+      All (λ entry. same marker (name_at row_name_list entry.row) ≡ false) (map (entry_by number) entries)
   markers-numbered entries lawful = each-all (λ entry. same marker (name_at row_name_list entry.row) ≡ false) (map (entry_by number) entries)
-      (each-mapped (λ entry. same marker (name_at row_name_list entry.row) ≡ false) (entry_by number) entries (both entries lawful.entries_lawful.on_rows lawful.no_marker))
+      (each-mapped (λ entry. same marker (name_at row_name_list entry.row) ≡ false) (entry_by number) entries
+      (both entries lawful.entries_lawful.on_rows lawful.no_marker))
     where
-      both : (entries : List (Entry Name)) → AllByRecursion (λ entry. has_row rows entry.row ≡ true) entries → AllByRecursion (λ entry. same marker entry.row ≡ false) entries
+      both : (entries : List (Entry Name)) → AllByRecursion (λ entry. has_row rows entry.row ≡ true) entries
+          → AllByRecursion (λ entry. same marker entry.row ≡ false) entries
           → AllByRecursion (λ entry. same marker (name_at row_name_list (number entry.row)) ≡ false) entries
       both [] has apart = tt
-      both (entry ∷ entries) has apart = (ap (same marker) (name_at-number_in row_name_list entry.row (there entry.row has.0)) ∙ apart.0, both entries has.1 apart.1)
+      both (entry ∷ entries) has apart =
+          (ap (same marker) (name_at-number_in row_name_list entry.row (there entry.row has.0)) ∙ apart.0, both entries has.1 apart.1)
 
   ranges-numbered : (entries : List (Entry Name)) → AreRanges rows entries → All (λ entry. is_free_row rows entry.row ≡ false) (map (entry_by number) entries)
   ranges-numbered entries lawful = each-all (λ entry. is_free_row rows entry.row ≡ false) (map (entry_by number) entries)
       (each-mapped (λ entry. is_free_row rows entry.row ≡ false) (entry_by number) entries (both entries lawful.entries_lawful.on_rows lawful.limited))
     where
-      both : (entries : List (Entry Name)) → AllByRecursion (λ entry. has_row rows entry.row ≡ true) entries → AllByRecursion (λ entry. has_free_row rows entry.row ≡ false) entries
+      both : (entries : List (Entry Name)) → AllByRecursion (λ entry. has_row rows entry.row ≡ true) entries
+          → AllByRecursion (λ entry. has_free_row rows entry.row ≡ false) entries
           → AllByRecursion (λ entry. is_free_row rows (number entry.row) ≡ false) entries
       both [] has apart = tt
       both (entry ∷ entries) has apart = (free_row-number rows entry.row has.0 apart.0, both entries has.1 apart.1)
 
-  plain-numbered : (entries : List (Entry Name)) → AreColumnEntries rows entries → All (λ entry. is_combination rows entry.row ≡ false) (map (entry_by number) entries)
+  plain-numbered : (entries : List (Entry Name)) → AreColumnEntries rows entries →
+      All (λ entry. is_combination rows entry.row ≡ false) (map (entry_by number) entries)
   plain-numbered entries lawful = each-all (λ entry. is_combination rows entry.row ≡ false) (map (entry_by number) entries)
       (each-mapped (λ entry. is_combination rows entry.row ≡ false) (entry_by number) entries (both entries lawful.entries_lawful.on_rows lawful.plain))
     where
-      both : (entries : List (Entry Name)) → AllByRecursion (λ entry. has_row rows entry.row ≡ true) entries → AllByRecursion (λ entry. has_combination rows entry.row ≡ false) entries
+      both : (entries : List (Entry Name)) → AllByRecursion (λ entry. has_row rows entry.row ≡ true) entries
+          → AllByRecursion (λ entry. has_combination rows entry.row ≡ false) entries
           → AllByRecursion (λ entry. is_combination rows (number entry.row) ≡ false) entries
       both [] has plain = tt
       both (entry ∷ entries) has plain = (combination-number rows entry.row has.0 plain.0, both entries has.1 plain.1)
@@ -156,32 +169,44 @@ module _ (rows : List (Row Name)) where
   front-numbered more [] has = refl
   front-numbered more (entry ∷ entries) has =
       ap₂ (λ row rest. record { row = row; value = entry.value } ∷ rest)
-      (ap (λ names. number_in names entry.row) (map-append (λ (row : Row Name). row.name) rows more) ∙ number_in-front row_name_list (map (λ (row : Row Name). row.name) more) entry.row (there entry.row has.0))
+      (ap (λ names. number_in names entry.row) (map-append (λ (row : Row Name). row.name) rows more)
+      ∙ number_in-front row_name_list (map (λ (row : Row Name). row.name) more) entry.row (there entry.row has.0))
       (front-numbered more entries has.1)
 
 -- the parts of each row, by the number of the rows before it
 parts-numbered : (all before rows : List (Row Name)) → before ++ rows ≡ all → (count : ℕ) → length before ≡ count → ArePartsAfter before rows
-    → AllByRecursion (λ (row : ℕ × Row ℕ). IfSome row.1.parts (AreEntries row.0)) (enumerate_from count (map (row_by (number_in (map (λ (row : Row Name). row.name) all))) rows))
+    → AllByRecursion (λ (row : ℕ × Row ℕ). IfSome row.1.parts (AreEntries row.0))
+    (enumerate_from count (map (row_by (number_in (map (λ (row : Row Name). row.name) all))) rows))
 parts-numbered all before [] whole count counted are = tt
 parts-numbered all before (row ∷ rows) whole count counted are = (
   numbered_parts row.parts are.0,
-  parts-numbered all (before ++ row ∷ []) rows (append_assoc before (row ∷ []) rows ∙ whole) (count + 1) (length-append before (row ∷ []) ∙ ap (λ n. n + 1) counted) are.1,
+  parts-numbered all (before ++ row ∷ []) rows (append_assoc before (row ∷ []) rows ∙ whole) (count + 1)
+      (length-append before (row ∷ []) ∙ ap (λ n. n + 1) counted) are.1,
 )
   where
-    numbered_parts : (parts : Option (List (Entry Name))) → IfSome parts (AreLawfulEntries before) → IfSome (option_map (map (entry_by (number_in (map (λ (row : Row Name). row.name) all)))) parts) (AreEntries count)
+    numbered_parts : (parts : Option (List (Entry Name))) → IfSome parts (AreLawfulEntries before) →
+        IfSome (option_map (map (entry_by (number_in (map (λ (row : Row Name). row.name) all)))) parts) (AreEntries count)
     numbered_parts None are = tt
     numbered_parts (Some parts) are =
-        subst (AreEntries count) (sym (front-numbered before (row ∷ rows) parts are.on_rows) ∙ ap (λ (rows : List (Row Name)). map (entry_by (number_in (map (λ row. row.name) rows))) parts) whole)
+        subst (AreEntries count)
+        (sym (front-numbered before (row ∷ rows) parts are.on_rows)
+        ∙ ap (λ (rows : List (Row Name)). map (entry_by (number_in (map (λ row. row.name) rows))) parts) whole)
         (subst (λ n. AreEntries n (map (entry_by (number before)) parts)) counted (entries-numbered before parts are))
 
-bounds-numbered : (columns : List (Group (Entry Name))) (bounds : List (Bound Name)) → AreLawfulBounds columns bounds → AreBounds (length columns) (map (bound_by (number_in (group_names columns))) bounds)
+bounds-numbered : (columns : List (Group (Entry Name))) (bounds : List (Bound Name)) → AreLawfulBounds columns bounds →
+    AreBounds (length columns) (map (bound_by (number_in (group_names columns))) bounds)
 bounds-numbered columns bounds lawful = record {
   on_columns = each-all (λ bound. IsNumberOf (length columns) bound.column) (map (bound_by number) bounds)
       (each-mapped (λ bound. IsNumberOf (length columns) bound.column) (bound_by number) bounds
-      (each-change (λ bound. has_group columns bound.column ≡ true) (λ bound. IsNumberOf (length columns) (number bound.column)) (λ bound has. within bound.column has) bounds lawful.on_columns));
+      (each-change (λ bound. has_group columns bound.column ≡ true) (λ bound. IsNumberOf (length columns) (number bound.column))
+      (λ bound has. within bound.column has) bounds lawful.on_columns));
   apart = distinct-mapped clash_by_name clash (bound_by number) (λ bound. has_group columns bound.column ≡ true) keeps bounds lawful.on_columns lawful.apart;
-  valued = each-all (λ bound. is_some bound.value ≡ takes_value bound.kind) (map (bound_by number) bounds) (each-mapped (λ bound. is_some bound.value ≡ takes_value bound.kind) (bound_by number) bounds lawful.valued);
-  values = each-all (λ bound. IfSome bound.value IsDecimal) (map (bound_by number) bounds) (each-mapped (λ bound. IfSome bound.value IsDecimal) (bound_by number) bounds lawful.values);
+  valued =
+      each-all (λ bound. is_some bound.value ≡ takes_value bound.kind) (map (bound_by number) bounds)
+      (each-mapped (λ bound. is_some bound.value ≡ takes_value bound.kind) (bound_by number) bounds lawful.valued);
+  values =
+      each-all (λ bound. IfSome bound.value IsDecimal) (map (bound_by number) bounds)
+      (each-mapped (λ bound. IfSome bound.value IsDecimal) (bound_by number) bounds lawful.values);
 }
   where
     number : Name → ℕ
@@ -191,11 +216,14 @@ bounds-numbered columns bounds lawful = record {
     there name has = sym (has_group-names columns name) ∙ has
 
     within : (name : Name) → has_group columns name ≡ true → IsNumberOf (length columns) (number_in (group_names columns) name)
-    within name has = subst (λ n. IsNumberOf n (number_in (group_names columns) name)) (length-map columns (λ group. group.name)) (number_in-within (group_names columns) name (there name has))
+    within name has =
+        subst (λ n. IsNumberOf n (number_in (group_names columns) name)) (length-map columns (λ group. group.name))
+        (number_in-within (group_names columns) name (there name has))
 
     keeps : (a b : Bound Name) → has_group columns a.column ≡ true → has_group columns b.column ≡ true → clash_by_name a b ≡ false
         → (nat_eq (number_in (group_names columns) a.column) (number_in (group_names columns) b.column) && meet a.kind b.kind) ≡ false
-    keeps a b has_a has_b apart = by (same a.column b.column) (meet a.kind b.kind) (nat_eq (number_in (group_names columns) a.column) (number_in (group_names columns) b.column)) apart
+    keeps a b has_a has_b apart =
+        by (same a.column b.column) (meet a.kind b.kind) (nat_eq (number_in (group_names columns) a.column) (number_in (group_names columns) b.column)) apart
         (numbers_apart (group_names columns) a.column b.column (there a.column has_a) (there b.column has_b))
       where
         by : (s m n : Bool) → (s && m) ≡ false → (s ≡ false → n ≡ false) → (n && m) ≡ false
@@ -205,9 +233,12 @@ bounds-numbered columns bounds lawful = record {
         by true true true e unlike = e
 
 -- the number of entries stays
-count-by : {X Y : Type 0} (h : X → Y) (total : ℕ) (groups : List (Group X)) → fold (λ sum group. sum + length group.items) total (map (group_by h) groups) ≡ fold (λ sum group. sum + length group.items) total groups
+count-by : {X Y : Type 0} (h : X → Y) (total : ℕ) (groups : List (Group X)) →
+    fold (λ sum group. sum + length group.items) total (map (group_by h) groups) ≡ fold (λ sum group. sum + length group.items) total groups
 count-by h total [] = refl
-count-by h total (group ∷ groups) = ap (λ n. fold (λ sum group. sum + length group.items) (total + n) (map (group_by h) groups)) (length-map group.items h) ∙ count-by h (total + length group.items) groups
+count-by h total (group ∷ groups) =
+    ap (λ n. fold (λ sum group. sum + length group.items) (total + n) (map (group_by h) groups)) (length-map group.items h)
+    ∙ count-by h (total + length group.items) groups
 
 -- What is lawful by names is a problem by numbers.
 pub lawful-numbered : (problem : Problem Name) → IsName problem.name → IsLawful problem → IsProblem (numbered problem)
@@ -215,31 +246,46 @@ unfolding numbered
 lawful-numbered problem name lawful = record {
   name = name;
   rows = subst AreLabels (sym names_kept) (labels (row_names problem) lawful.row_labels lawful.rows_distinct);
-  parts = each-all (λ row. IfSome row.1.parts (AreEntries row.0)) (enumerate_from 0 rows) (parts-numbered problem.rows [] problem.rows refl 0 refl lawful.parts);
+  parts =
+      each-all (λ row. IfSome row.1.parts (AreEntries row.0)) (enumerate_from 0 rows) (parts-numbered problem.rows [] problem.rows refl 0 refl lawful.parts);
   columns = subst AreLabels (sym (names-by by_row problem.columns)) (labels (group_names problem.columns) lawful.columns.names lawful.columns.distinct);
   entries = subst (λ count. All (λ column. AreEntries count column.items) (map (group_by by_row) problem.columns)) (sym rows_kept)
       (each-all (λ column. AreEntries (length problem.rows) column.items) (map (group_by by_row) problem.columns)
-      (items-by by_row (AreColumnEntries problem.rows) (AreEntries (length problem.rows)) (λ items p. entries-numbered problem.rows items p.entries_lawful) problem.columns lawful.columns.items));
-  plain_entries = subst (λ (combines : ℕ → Bool). All (λ column. All (λ entry. combines entry.row ≡ false) column.items) (map (group_by by_row) problem.columns)) (sym (λ i n. is_combination-by number problem.rows n i))
+      (items-by by_row (AreColumnEntries problem.rows) (AreEntries (length problem.rows))
+      (λ items p. entries-numbered problem.rows items p.entries_lawful) problem.columns lawful.columns.items));
+  plain_entries =
+      subst (λ (combines : ℕ → Bool). All (λ column. All (λ entry. combines entry.row ≡ false) column.items) (map (group_by by_row) problem.columns))
+      (sym (λ i n. is_combination-by number problem.rows n i))
       (each-all (λ column. All (λ entry. is_combination problem.rows entry.row ≡ false) column.items) (map (group_by by_row) problem.columns)
-      (items-by by_row (AreColumnEntries problem.rows) (λ items. All (λ entry. is_combination problem.rows entry.row ≡ false) items) (plain-numbered problem.rows) problem.columns lawful.columns.items));
-  no_marker = subst (λ names. All (λ column. All (λ entry. same marker (name_at names entry.row) ≡ false) column.items) (map (group_by by_row) problem.columns)) (sym names_kept)
+      (items-by by_row (AreColumnEntries problem.rows) (λ items. All (λ entry. is_combination problem.rows entry.row ≡ false) items)
+      (plain-numbered problem.rows) problem.columns lawful.columns.items));
+  no_marker =
+      subst (λ names. All (λ column. All (λ entry. same marker (name_at names entry.row) ≡ false) column.items) (map (group_by by_row) problem.columns))
+      (sym names_kept)
       (each-all (λ column. All (λ entry. same marker (name_at (row_names problem) entry.row) ≡ false) column.items) (map (group_by by_row) problem.columns)
-      (items-by by_row (AreColumnEntries problem.rows) (λ items. All (λ entry. same marker (name_at (row_names problem) entry.row) ≡ false) items) (markers-numbered problem.rows) problem.columns lawful.columns.items));
+      (items-by by_row (AreColumnEntries problem.rows) (λ items. All (λ entry. same marker (name_at (row_names problem) entry.row) ≡ false) items)
+      (markers-numbered problem.rows) problem.columns lawful.columns.items));
   rhs = sets by_row (AreRightHandSides problem.rows) (λ items p. p.filled) problem.rhs lawful.rhs;
   rhs_items = subst (λ count. All (λ set. AreEntries count set.items) (map (group_by by_row) problem.rhs)) (sym rows_kept)
       (each-all (λ set. AreEntries (length problem.rows) set.items) (map (group_by by_row) problem.rhs)
-      (items-by by_row (AreRightHandSides problem.rows) (AreEntries (length problem.rows)) (λ items p. entries-numbered problem.rows items p.entries_lawful) problem.rhs lawful.rhs.items));
+      (items-by by_row (AreRightHandSides problem.rows) (AreEntries (length problem.rows))
+      (λ items p. entries-numbered problem.rows items p.entries_lawful) problem.rhs lawful.rhs.items));
   ranges = sets by_row (AreRanges problem.rows) (λ items p. p.filled) problem.ranges lawful.ranges;
   range_items = subst (λ count. All (λ set. AreEntries count set.items) (map (group_by by_row) problem.ranges)) (sym rows_kept)
       (each-all (λ set. AreEntries (length problem.rows) set.items) (map (group_by by_row) problem.ranges)
-      (items-by by_row (AreRanges problem.rows) (AreEntries (length problem.rows)) (λ items p. entries-numbered problem.rows items p.entries_lawful) problem.ranges lawful.ranges.items));
-  ranges_limited = subst (λ (is_free : ℕ → Bool). All (λ set. All (λ entry. is_free entry.row ≡ false) set.items) (map (group_by by_row) problem.ranges)) (sym (λ i n. is_free_row-by number problem.rows n i))
+      (items-by by_row (AreRanges problem.rows) (AreEntries (length problem.rows))
+      (λ items p. entries-numbered problem.rows items p.entries_lawful) problem.ranges lawful.ranges.items));
+  ranges_limited =
+      subst (λ (is_free : ℕ → Bool). All (λ set. All (λ entry. is_free entry.row ≡ false) set.items) (map (group_by by_row) problem.ranges))
+      (sym (λ i n. is_free_row-by number problem.rows n i))
       (each-all (λ set. All (λ entry. is_free_row problem.rows entry.row ≡ false) set.items) (map (group_by by_row) problem.ranges)
-      (items-by by_row (AreRanges problem.rows) (λ items. All (λ entry. is_free_row problem.rows entry.row ≡ false) items) (ranges-numbered problem.rows) problem.ranges lawful.ranges.items));
+      (items-by by_row (AreRanges problem.rows) (λ items. All (λ entry. is_free_row problem.rows entry.row ≡ false) items)
+      (ranges-numbered problem.rows) problem.ranges lawful.ranges.items));
   bounds = sets by_column (AreBoundSets problem.columns) (λ items p. p.filled) problem.bounds lawful.bounds;
   bound_items = each-all (λ set. AreBounds (length (map (group_by by_row) problem.columns)) set.items) (map (group_by by_column) problem.bounds)
-      (items-by by_column (AreBoundSets problem.columns) (AreBounds (length (map (group_by by_row) problem.columns))) (λ items p. subst (λ n. AreBounds n (map by_column items)) (sym columns_kept) (bounds-numbered problem.columns items p.bounds_lawful)) problem.bounds lawful.bounds.items);
+      (items-by by_column (AreBoundSets problem.columns) (AreBounds (length (map (group_by by_row) problem.columns)))
+      (λ items p. subst (λ n. AreBounds n (map by_column items)) (sym columns_kept)
+      (bounds-numbered problem.columns items p.bounds_lawful)) problem.bounds lawful.bounds.items);
   few_rows = subst (λ n. n ≤ MAX_ROWS) (sym rows_kept) lawful.few_rows;
   few_columns = subst (λ n. n ≤ MAX_COLUMNS) (sym columns_kept) lawful.few_columns;
   few_entries = subst (λ n. n ≤ MAX_ENTRIES) (sym (count-by by_row 0 problem.columns)) lawful.few_entries;

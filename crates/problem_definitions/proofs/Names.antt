@@ -56,7 +56,8 @@ different-push (k ∷ names) n = ap (λ list. k ∷ others k list) (different-pu
     by : (b h : Bool) → same n k ≡ b → (k ∷ others k (cond h (different names) (different names ++ n ∷ [])))
         ≡ cond (b || h) (k ∷ others k (different names)) ((k ∷ others k (different names)) ++ n ∷ [])
     by true true e = refl
-    by true false e = ap (λ list. k ∷ list) (last ∙ ap (λ list. others k (different names) ++ list) (one true (same_sym k n ∙ e)) ∙ append-nil (others k (different names)))
+    by true false e =
+        ap (λ list. k ∷ list) (last ∙ ap (λ list. others k (different names) ++ list) (one true (same_sym k n ∙ e)) ∙ append-nil (others k (different names)))
     by false true e = refl
     by false false e = ap (λ list. k ∷ list) (last ∙ ap (λ list. others k (different names) ++ list) (one false (same_sym k n ∙ e)))
 

@@ -20,7 +20,8 @@ pub record AreStill (rows others : List (Row Name)) : Type 0 where
   pub plain : (name : Name) → has_row rows name ≡ true → has_combination rows name ≡ false → has_combination others name ≡ false
 
 -- groups by other facts of their items
-pub groups-same : {X : Type 0} {N : Name → Type 0} (P Q : List X → Type 0) → ((items : List X) → P items → Q items) → (groups : List (Group X)) → AreGroups N P groups → AreGroups N Q groups
+pub groups-same : {X : Type 0} {N : Name → Type 0} (P Q : List X → Type 0) → ((items : List X) → P items → Q items) → (groups : List (Group X)) →
+    AreGroups N P groups → AreGroups N Q groups
 groups-same {X} {N} P Q change groups lawful = record {
   names = lawful.names;
   distinct = lawful.distinct;
@@ -31,7 +32,8 @@ groups-same {X} {N} P Q change groups lawful = record {
 
 module _ (rows others : List (Row Name)) where
   -- a fact of the rows of entries that stays where the row is there
-  facts-still : (F G : Name → Type 0) → ((name : Name) → has_row rows name ≡ true → F name → G name) → (entries : List (Entry Name)) → AllByRecursion (λ (entry : Entry Name). has_row rows entry.row ≡ true) entries
+  facts-still : (F G : Name → Type 0) → ((name : Name) → has_row rows name ≡ true → F name → G name) → (entries : List (Entry Name))
+      → AllByRecursion (λ (entry : Entry Name). has_row rows entry.row ≡ true) entries
       → AllByRecursion (λ (entry : Entry Name). F entry.row) entries → AllByRecursion (λ (entry : Entry Name). G entry.row) entries
   facts-still F G change [] there each = tt
   facts-still F G change (entry ∷ entries) there each = (change entry.row there.0 each.0, facts-still F G change entries there.1 each.1)
@@ -44,7 +46,9 @@ module _ (rows others : List (Row Name)) where
     columns-still entries are = record {
       entries_lawful = entries-still entries are.entries_lawful;
       no_marker = are.no_marker;
-      plain = facts-still (λ name. has_combination rows name ≡ false) (λ name. has_combination others name ≡ false) still.plain entries are.entries_lawful.on_rows are.plain;
+      plain =
+          facts-still (λ name. has_combination rows name ≡ false)
+          (λ name. has_combination others name ≡ false) still.plain entries are.entries_lawful.on_rows are.plain;
     }
 
     pub right_hand_sides-still : (entries : List (Entry Name)) → AreRightHandSides rows entries → AreRightHandSides others entries
@@ -54,10 +58,13 @@ module _ (rows others : List (Row Name)) where
     ranges-still entries are = record {
       entries_lawful = entries-still entries are.entries_lawful;
       filled = are.filled;
-      limited = facts-still (λ name. has_free_row rows name ≡ false) (λ name. has_free_row others name ≡ false) still.limited entries are.entries_lawful.on_rows are.limited;
+      limited =
+          facts-still (λ name. has_free_row rows name ≡ false)
+          (λ name. has_free_row others name ≡ false) still.limited entries are.entries_lawful.on_rows are.limited;
     }
 
-pub rows-changed : (p : Problem Name) (others : List (Row Name)) → IsLawful p → AreStill p.rows others → AllByRecursion IsLabel (map (λ (row : Row Name). row.name) others)
+pub rows-changed : (p : Problem Name) (others : List (Row Name)) → IsLawful p → AreStill p.rows others
+    → AllByRecursion IsLabel (map (λ (row : Row Name). row.name) others)
     → IsDistinct same (map (λ (row : Row Name). row.name) others) → ArePartsAfter [] others → length others ≤ MAX_ROWS → IsLawful (record p { rows = others })
 rows-changed p others lawful still labels distinct parts few = record {
   row_labels = labels;
@@ -86,8 +93,12 @@ in_row-still name change rows = record {
 pub pushed-still : (rows : List (Row Name)) (row : Row Name) → has_row rows row.name ≡ false → AreStill rows (rows ++ row ∷ [])
 pushed-still rows row new = record {
   named = λ name there. list_any-append (λ (other : Row Name). same name other.name) rows (row ∷ []) ∙ rw there refl;
-  limited = λ name there limited. list_any-append (λ (other : Row Name). same name other.name && is_free_kind other.kind) rows (row ∷ []) ∙ rw (limited, unlike name there (same name row.name) refl) refl;
-  plain = λ name there plain. list_any-append (λ (other : Row Name). same name other.name && is_some other.parts) rows (row ∷ []) ∙ rw (plain, unlike name there (same name row.name) refl) refl;
+  limited =
+      λ name there limited. list_any-append (λ (other : Row Name). same name other.name && is_free_kind other.kind) rows (row ∷ [])
+      ∙ rw (limited, unlike name there (same name row.name) refl) refl;
+  plain =
+      λ name there plain. list_any-append (λ (other : Row Name). same name other.name && is_some other.parts) rows (row ∷ [])
+      ∙ rw (plain, unlike name there (same name row.name) refl) refl;
 }
   where
     unlike : (name : Name) → has_row rows name ≡ true → (b : Bool) → same name row.name ≡ b → same name row.name ≡ false

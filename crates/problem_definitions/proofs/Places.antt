@@ -15,7 +15,8 @@ place_within : {X : Type 0} (p : X → Bool) (xs : List X) → list_any p xs ≡
 place_within p [] some = absurd (cc some)
 place_within p (x ∷ xs) some = by (p x) some (place_within p xs)
   where
-    by : (b : Bool) → (b || list_any p xs) ≡ true → (list_any p xs ≡ true → position_or_len p xs < length xs) → cond (not b) (1 + position_or_len p xs) 0 < suc (length xs)
+    by : (b : Bool) → (b || list_any p xs) ≡ true → (list_any p xs ≡ true → position_or_len p xs < length xs) →
+        cond (not b) (1 + position_or_len p xs) 0 < suc (length xs)
     by true h rest = omega arith
     by false h rest = let inner : position_or_len p xs < length xs = rest h in omega (arith, inner)
 
@@ -47,10 +48,12 @@ pub name_at-number_in : (names : List Name) (name : Name) → has_name names nam
 name_at-number_in names name there =
     let found = place_has (same name) names there in
     let less : position_or_len (same name) names + 1 - 1 ≡ position_or_len (same name) names = omega arith in
-    ap (name_at names) (number_in-is names name there) ∙ ap (λ n. unwrap_or (slice_get names n) []) less ∙ ap (λ o. unwrap_or o []) found.1 ∙ sym (same_eq name found.0 found.2)
+    ap (name_at names) (number_in-is names name there) ∙ ap (λ n. unwrap_or (slice_get names n) []) less ∙ ap (λ o. unwrap_or o []) found.1
+    ∙ sym (same_eq name found.0 found.2)
 
 -- different names that are there have different numbers
-pub numbers_apart : (names : List Name) (a b : Name) → has_name names a ≡ true → has_name names b ≡ true → same a b ≡ false → nat_eq (number_in names a) (number_in names b) ≡ false
+pub numbers_apart : (names : List Name) (a b : Name) → has_name names a ≡ true → has_name names b ≡ true → same a b ≡ false →
+    nat_eq (number_in names a) (number_in names b) ≡ false
 numbers_apart names a b has_a has_b apart = by (nat_eq (number_in names a) (number_in names b)) refl
   where
     by : (t : Bool) → nat_eq (number_in names a) (number_in names b) ≡ t → t ≡ false
@@ -71,13 +74,15 @@ number_in-front front back name there = number_in-is (front ++ back) name whole 
     first [] some = absurd (cc some)
     first (other ∷ front) some = by (same name other) some (first front)
       where
-        by : (b : Bool) → (b || has_name front name) ≡ true → (has_name front name ≡ true → position_or_len (same name) (front ++ back) ≡ position_or_len (same name) front)
+        by : (b : Bool) → (b || has_name front name) ≡ true
+            → (has_name front name ≡ true → position_or_len (same name) (front ++ back) ≡ position_or_len (same name) front)
             → cond (not b) (1 + position_or_len (same name) (front ++ back)) 0 ≡ cond (not b) (1 + position_or_len (same name) front) 0
         by true h rest = refl
         by false h rest = ap (λ n. 1 + n) (rest h)
 
 -- a row that fails a test by its name fails it by its number
-test-number : {R : Type 0} (test : Row R → Bool) (rows : List (Row R)) (name : Name) → has_row rows name ≡ true → list_any (λ row. same name row.name && test row) rows ≡ false
+test-number : {R : Type 0} (test : Row R → Bool) (rows : List (Row R)) (name : Name) → has_row rows name ≡ true
+    → list_any (λ row. same name row.name && test row) rows ≡ false
     → unwrap_or (option_map test (slice_get rows (number_in (map (λ row. row.name) rows) name - 1))) false ≡ false
 test-number {R = R} test rows name there fails =
     ap (λ n. unwrap_or (option_map test (slice_get rows (n - 1))) false) (number_in-is (map (λ row. row.name) rows) name (sym (row_is_named name rows) ∙ there))
@@ -93,7 +98,8 @@ test-number {R = R} test rows name there fails =
     tested (row ∷ rest) some fails = by (same name row.name) some fails (tested rest)
       where
         by : (b : Bool) → (b || has_row rest name) ≡ true → (b && test row || list_any (λ row. same name row.name && test row) rest) ≡ false
-            → (has_row rest name ≡ true → list_any (λ row. same name row.name && test row) rest ≡ false → unwrap_or (option_map test (slice_get rest (position_or_len (same name) (map (λ row. row.name) rest)))) false ≡ false)
+            → (has_row rest name ≡ true → list_any (λ row. same name row.name && test row) rest ≡ false
+            → unwrap_or (option_map test (slice_get rest (position_or_len (same name) (map (λ row. row.name) rest)))) false ≡ false)
             → unwrap_or (option_map test (slice_get (row ∷ rest) (cond (not b) (1 + position_or_len (same name) (map (λ row. row.name) rest)) 0))) false ≡ false
         by true h fails more = left (test row) fails
           where
@@ -101,13 +107,16 @@ test-number {R = R} test rows name there fails =
             left true e = e
             left false e = refl
         by false h fails more =
-            let next : 1 + position_or_len (same name) (map (λ row. row.name) rest) ≡ suc (position_or_len (same name) (map (λ row. row.name) rest)) = omega arith in
+            let next : 1 + position_or_len (same name) (map (λ row. row.name) rest) ≡ suc (position_or_len (same name) (map (λ row. row.name) rest)) =
+            omega arith in
             rw next (more h fails)
 
 -- a row that isn't free by its name isn't by its number
-pub free_row-number : {R : Type 0} (rows : List (Row R)) (name : Name) → has_row rows name ≡ true → has_free_row rows name ≡ false → is_free_row rows (number_in (map (λ row. row.name) rows) name) ≡ false
+pub free_row-number : {R : Type 0} (rows : List (Row R)) (name : Name) → has_row rows name ≡ true → has_free_row rows name ≡ false →
+    is_free_row rows (number_in (map (λ row. row.name) rows) name) ≡ false
 free_row-number = test-number (λ row. is_free_kind row.kind)
 
 -- a row that is no combination by its name is none by its number
-pub combination-number : {R : Type 0} (rows : List (Row R)) (name : Name) → has_row rows name ≡ true → has_combination rows name ≡ false → is_combination rows (number_in (map (λ row. row.name) rows) name) ≡ false
+pub combination-number : {R : Type 0} (rows : List (Row R)) (name : Name) → has_row rows name ≡ true → has_combination rows name ≡ false →
+    is_combination rows (number_in (map (λ row. row.name) rows) name) ≡ false
 combination-number = test-number (λ row. is_some row.parts)

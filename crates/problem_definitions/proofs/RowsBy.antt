@@ -21,7 +21,9 @@ module _ {R S : Type 0} (f : R → S) where
   pub is_free_row-by : (rows : List (Row R)) (number : ℕ) → is_free_row (map (row_by f) rows) number ≡ is_free_row rows number
   is_free_row-by rows number = at rows (number - 1)
     where
-      at : (rows : List (Row R)) (place : ℕ) → unwrap_or (option_map (λ row. is_free_kind row.kind) (slice_get (map (row_by f) rows) place)) false ≡ unwrap_or (option_map (λ row. is_free_kind row.kind) (slice_get rows place)) false
+      at : (rows : List (Row R)) (place : ℕ) →
+          unwrap_or (option_map (λ row. is_free_kind row.kind) (slice_get (map (row_by f) rows) place)) false ≡ unwrap_or
+          (option_map (λ row. is_free_kind row.kind) (slice_get rows place)) false
       at [] place = refl
       at (row ∷ rows) zero = refl
       at (row ∷ rows) (suc place) = at rows place
@@ -37,7 +39,9 @@ module _ {R S : Type 0} (f : R → S) where
   pub is_combination-by : (rows : List (Row R)) (number : ℕ) → is_combination (map (row_by f) rows) number ≡ is_combination rows number
   is_combination-by rows number = at rows (number - 1)
     where
-      at : (rows : List (Row R)) (place : ℕ) → unwrap_or (option_map (λ row. is_some row.parts) (slice_get (map (row_by f) rows) place)) false ≡ unwrap_or (option_map (λ row. is_some row.parts) (slice_get rows place)) false
+      at : (rows : List (Row R)) (place : ℕ) →
+          unwrap_or (option_map (λ row. is_some row.parts) (slice_get (map (row_by f) rows) place)) false ≡ unwrap_or
+          (option_map (λ row. is_some row.parts) (slice_get rows place)) false
       at [] place = refl
       at (row ∷ rows) zero = parts-by row.parts
       at (row ∷ rows) (suc place) = at rows place

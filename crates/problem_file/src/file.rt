@@ -28,7 +28,8 @@ impl Model for ProblemFile {
 
     ghost view = { λ file. record { problems = file.problems.entries; last = file.last } };
 
-    ghost invariant = { λ file. IfSome file.last (λ name. IsSome (lookup (same name) file.problems.entries)) };
+    ghost invariant = { λ file. IfSome file.last
+        (λ name. IsSome (lookup (same name) file.problems.entries)) };
 }
 
 impl ProblemFile {

@@ -21,7 +21,12 @@ impl Model for RowDecl {
 
     ghost Value = { Row ℕ };
 
-    ghost view = { λ row. record { kind = row.kind; name = row.name; parts = option_map (λ parts. parts.items) row.parts } };
+    ghost view = { λ row. record {
+      kind = row.kind;
+      name = row.name;
+      parts = option_map
+          (λ parts. parts.items) row.parts;
+    } };
 }
 
 impl RowDecl {

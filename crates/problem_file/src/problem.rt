@@ -30,7 +30,8 @@ impl Model for Problem {
 
     ghost view = { λ p. record { name = p.name; rows = p.rows.items; columns = p.columns.items; rhs = p.rhs.items; ranges = p.ranges.items; bounds = p.bounds.items } };
 
-    ghost invariant = { λ p. IsProblem (record { name = p.name; rows = p.rows.items; columns = p.columns.items; rhs = p.rhs.items; ranges = p.ranges.items; bounds = p.bounds.items }) };
+    ghost invariant = { λ p. IsProblem
+        (record { name = p.name; rows = p.rows.items; columns = p.columns.items; rhs = p.rhs.items; ranges = p.ranges.items; bounds = p.bounds.items }) };
 }
 
 impl Problem {

@@ -36,7 +36,8 @@ use Rattle.basis_values.proofs.Skips.{and_next}
 pub no_sides : (rises falls : Bool) (a b : ℚ) (x : ℚ) → rises ≡ false → falls ≡ false → SidesHold (sign_sides rises falls a b) x
 no_sides rises falls a b x no_rise no_fall = subst₂ (λ r f. SidesHold (sign_sides r f a b) x) (sym no_rise) (sym no_fall) (tt, tt)
 
-module _ (p : LinearProgram) (s : List Status) (lawful : IsLinearProgram p) (no_change : p.change ≡ None) (optimal : IsOptimalBasis p s) (z : Vector) (point : IsPointOf p s z) where
+module _ (p : LinearProgram) (s : List Status) (lawful : IsLinearProgram p) (no_change : p.change ≡ None) (optimal : IsOptimalBasis p s) (z : Vector)
+    (point : IsPointOf p s z) where
   -- the tableau with these rates
   abbrev pub tableau_with : (ℕ → ℕ → ℚ) → Tableau
   tableau_with rate = record { point = z; rate = rate }
@@ -80,7 +81,8 @@ module _ (p : LinearProgram) (s : List Status) (lawful : IsLinearProgram p) (no_
         priced.prices k out.0
         ∙ ap (λ m. cond m zero_ℚ (objective_rate p priced.rate k)) out.1
         ∙ ap (λ (c : Option Change). with_change_row c (λ i. priced.rate i k) (priced.rate p.objective k)) no_change
-        ∙ one_table p.matrix (basics_of s) priced.rate rate optimal.nonsingular priced.are_rates are p.objective k (row_variable p.objective lawful.objective_row) out
+        ∙ one_table p.matrix (basics_of s) priced.rate rate optimal.nonsingular priced.are_rates are p.objective k
+        (row_variable p.objective lawful.objective_row) out
 
     module _ (i : ℕ) (is_i : IsVariable p.matrix i) (row : Vector) (of_row : IsRowOf p.matrix (basics_of s) i row) where
       pub rate_is : (rate : ℕ → ℕ → ℚ) → AreRates p.matrix (basics_of s) rate → (k : ℕ) → IsNonbasic p.matrix (basics_of s) k → row k ≡ rate i k
@@ -105,33 +107,42 @@ module _ (p : LinearProgram) (s : List Status) (lawful : IsLinearProgram p) (no_
           at : (m : Bool) → is_in (basics_of s) k ≡ m → SidesHold (sides_of p s (prices k) (row k) k) zero_ℚ
           at true mark = let none = still k is mark in no_sides (may_rise p s k) (may_fall p s k) _ _ zero_ℚ none.0 none.1
           at false mark =
-              (sides_of_rate (worth_rate p s (tableau_with priced.rate) k) (for_min p.sense (prices k)) (for_min p.sense (row k)) zero_ℚ (may_rise p s k) (may_fall p s k)
+              (sides_of_rate (worth_rate p s (tableau_with priced.rate) k) (for_min p.sense (prices k)) (for_min p.sense (row k)) zero_ℚ (may_rise p s k)
+              (may_fall p s k)
               (ap (for_min p.sense) (sym (priced.prices k is ∙ ap (λ m. cond m zero_ℚ (objective_rate p priced.rate k)) mark))
               ∙ by_ring2 (for_min p.sense (prices k)) (for_min p.sense (row k)) (λ w v. w ≐ w ⊕ number (pos 0) ⊗ v) refl)).0
-              (((by_tableau p s optimal.is_basis optimal.nonsingular (rows_of p s (tableau_with priced.rate) (present priced.rate priced.are_rates)) (tableau_with priced.rate) (is_tableau priced.rate priced.are_rates)).0 optimal).right k is)
+              (((by_tableau p s optimal.is_basis optimal.nonsingular (rows_of p s (tableau_with priced.rate) (present priced.rate priced.are_rates))
+              (tableau_with priced.rate) (is_tableau priced.rate priced.are_rates)).0 optimal).right k is)
 
       -- the ends of the row are those of the tableau
       pub ends_of_row : (ends : Ends) → AreRowEnds p s prices row (size p.matrix) ends → AreEndsOfRow p s i ends
       ends_of_row ends h = record { exact = exact; made = λ rate are. (made rate are ends.low h.made.0, made rate are ends.high h.made.1) }
         where
           same : (rate : ℕ → ℕ → ℚ) → AreRates p.matrix (basics_of s) rate → (x : ℚ) → (k : ℕ) → IsVariable p.matrix k
-              → SidesHold (sides_of p s (prices k) (row k) k) x ↔ SidesHold (rate_sides p s (λ k. for_min p.sense (rate p.objective k)) (λ k. for_min p.sense (rate i k)) k) x
+              → SidesHold (sides_of p s (prices k) (row k) k) x ↔ SidesHold
+              (rate_sides p s (λ k. for_min p.sense (rate p.objective k)) (λ k. for_min p.sense (rate i k)) k) x
           same rate are x k is = at (is_in (basics_of s) k) refl
             where
               at : (m : Bool) → is_in (basics_of s) k ≡ m
-                  → SidesHold (sides_of p s (prices k) (row k) k) x ↔ SidesHold (rate_sides p s (λ k. for_min p.sense (rate p.objective k)) (λ k. for_min p.sense (rate i k)) k) x
+                  → SidesHold (sides_of p s (prices k) (row k) k) x ↔ SidesHold
+                  (rate_sides p s (λ k. for_min p.sense (rate p.objective k)) (λ k. for_min p.sense (rate i k)) k) x
               at true mark =
                   let none = still k is mark in
                   (λ _. no_sides (may_rise p s k) (may_fall p s k) _ _ x none.0 none.1, λ _. no_sides (may_rise p s k) (may_fall p s k) _ _ x none.0 none.1)
               at false mark =
-                  subst₂ (λ a b. SidesHold (sides_of p s (prices k) (row k) k) x ↔ SidesHold (sides_of p s a b k) x) (price_is rate are k (is, mark)) (rate_is rate are k (is, mark)) (λ h. h, λ h. h)
+                  subst₂ (λ a b. SidesHold (sides_of p s (prices k) (row k) k) x ↔ SidesHold (sides_of p s a b k) x) (price_is rate are k (is, mark))
+                  (rate_is rate are k (is, mark)) (λ h. h, λ h. h)
 
           exact : (rate : ℕ → ℕ → ℚ) → AreRates p.matrix (basics_of s) rate → (y : ℚ)
               → IsBetweenEnds ends y ↔ RatesStay p s (λ k. for_min p.sense (rate p.objective k)) (λ k. for_min p.sense (rate i k)) (neg_ℚ y)
-          exact rate are y =
-              (λ b k is. (same rate are (neg_ℚ y) k is).0 ((h.exact y).0 b k is.0 is.1), λ r. (h.exact y).1 (λ k low high. (same rate are (neg_ℚ y) k (low, high)).1 (r k (low, high))))
+          exact rate are y = (
+            λ b k is. (same rate are (neg_ℚ y) k is).0 ((h.exact y).0 b k is.0 is.1),
+            λ r. (h.exact y).1
+                (λ k low high. (same rate are (neg_ℚ y) k (low, high)).1 (r k (low, high))),
+          )
 
-          made : (rate : ℕ → ℕ → ℚ) → AreRates p.matrix (basics_of s) rate → (end : Option Endpoint) → IfSome end (IsRateEnd prices row (size p.matrix)) → IfSome end (IsRowEnd p s rate i)
+          made : (rate : ℕ → ℕ → ℚ) → AreRates p.matrix (basics_of s) rate → (end : Option Endpoint) → IfSome end (IsRateEnd prices row (size p.matrix)) →
+              IfSome end (IsRowEnd p s rate i)
           made rate are None m = tt
           made rate are (Some e) m =
               let out = moves_out e.by (m.low, m.high) m.moves in
@@ -142,7 +153,8 @@ module _ (p : LinearProgram) (s : List Status) (lawful : IsLinearProgram p) (no_
               }
 
       -- one basic more
-      pub met_more : (n : ℕ) → i ≡ n + 1 → is_in (basics_of s) i ≡ true → (before now : List Ends) → AllMet p s z n before → AreMet p s (z i) row i (size p.matrix) before now → AllMet p s z i now
+      pub met_more : (n : ℕ) → i ≡ n + 1 → is_in (basics_of s) i ≡ true → (before now : List Ends) → AllMet p s z n before →
+          AreMet p s (z i) row i (size p.matrix) before now → AllMet p s z i now
       met_more n is_next basic before now h met k is stands = record { exact = exact; made = made }
         where
           old : AreLimitEnds p s z n k (ends_at before k)
@@ -167,7 +179,8 @@ module _ (p : LinearProgram) (s : List Status) (lawful : IsLinearProgram p) (no_
                   (λ _. subst (λ v. SidesHold (value_sides (lower_of p i) (upper_of p i) (z i) v) x) (row_is rate are) both.1))
                   j low (omega (arith, high, is_next))
 
-              back : ((j : ℕ) → 1 ≤ j → j ≤ i → is_in (basics_of s) j ≡ true → SidesHold (limit_sides p z (λ j. rate j k) j) x) → IsBetweenEnds (ends_at now k) x
+              back : ((j : ℕ) → 1 ≤ j → j ≤ i → is_in (basics_of s) j ≡ true → SidesHold (limit_sides p z (λ j. rate j k) j) x) →
+                  IsBetweenEnds (ends_at now k) x
               back all =
                   (step.exact x).1 (
                     (old.exact rate are x).1 (λ j low high. all j low (omega (arith, high, is_next))),
@@ -179,7 +192,8 @@ module _ (p : LinearProgram) (s : List Status) (lawful : IsLinearProgram p) (no_
               let kept = old.made rate are in
               (at (ends_at before k).low (ends_at now k).low step.made.low kept.0, at (ends_at before k).high (ends_at now k).high step.made.high kept.1)
             where
-              at : (a b : Option Endpoint) → IsKeptOr (IsLimitEnd p (z i) (row k) i) a b → IfSome a (IsBasicsEnd p s z rate k) → IfSome b (IsBasicsEnd p s z rate k)
+              at : (a b : Option Endpoint) → IsKeptOr (IsLimitEnd p (z i) (row k) i) a b → IfSome a (IsBasicsEnd p s z rate k) →
+                  IfSome b (IsBasicsEnd p s z rate k)
               at a b (inl same) m = subst (λ o. IfSome o (IsBasicsEnd p s z rate k)) (sym same) m
               at a b (inr new) m =
                   let f = new.2 in
@@ -195,7 +209,8 @@ module _ (p : LinearProgram) (s : List Status) (lawful : IsLinearProgram p) (no_
   pub met_skipped : (n i : ℕ) → i ≡ n + 1 → is_in (basics_of s) i ≡ false → (ends : List Ends) → AllMet p s z n ends → AllMet p s z i ends
   met_skipped n i is_next out ends h k is stands = record {
     exact = λ rate are x. (
-      λ b j low high basic. and_next (λ j. is_in (basics_of s) j ≡ true → SidesHold (limit_sides p z (λ j. rate j k) j) x) n (((h k is stands).exact rate are x).0 b)
+      λ b j low high basic. and_next (λ j. is_in (basics_of s) j ≡ true → SidesHold (limit_sides p z (λ j. rate j k) j) x) n
+          (((h k is stands).exact rate are x).0 b)
           (λ e. absurd (clash (sym e ∙ ap (is_in (basics_of s)) (sym is_next) ∙ out))) j low (omega (arith, high, is_next)) basic,
       λ all. ((h k is stands).exact rate are x).1 (λ j low high basic. all j low (omega (arith, high, is_next)) basic),
     );
@@ -212,7 +227,8 @@ module _ (p : LinearProgram) (s : List Status) (lawful : IsLinearProgram p) (no_
   pub met_free : (n i : ℕ) → i ≡ n + 1 → lower_of p i ≡ None → upper_of p i ≡ None → (ends : List Ends) → AllMet p s z n ends → AllMet p s z i ends
   met_free n i is_next no_lower no_upper ends h k is stands = record {
     exact = λ rate are x. (
-      λ b j low high basic. and_next (λ j. is_in (basics_of s) j ≡ true → SidesHold (limit_sides p z (λ j. rate j k) j) x) n (((h k is stands).exact rate are x).0 b)
+      λ b j low high basic. and_next (λ j. is_in (basics_of s) j ≡ true → SidesHold (limit_sides p z (λ j. rate j k) j) x) n
+          (((h k is stands).exact rate are x).0 b)
           (λ _. subst (λ j. SidesHold (limit_sides p z (λ j. rate j k) j) x) is_next (nothing rate x)) j low (omega (arith, high, is_next)) basic,
       λ all. ((h k is stands).exact rate are x).1 (λ j low high basic. all j low (omega (arith, high, is_next)) basic),
     );
@@ -229,32 +245,39 @@ module _ (p : LinearProgram) (s : List Status) where
   found_none found i low high = absurd (omega (arith, low, high))
 
   -- i has no ends of its own
-  pub found_skipped : (n i : ℕ) → i ≡ n + 1 → (is_in (basics_of s) i ≡ true → i ≢ p.objective → ⊥) → (found : List Ends) → AllFound p s n found → AllFound p s i found
+  pub found_skipped : (n i : ℕ) → i ≡ n + 1 → (is_in (basics_of s) i ≡ true → i ≢ p.objective → ⊥) → (found : List Ends) → AllFound p s n found →
+      AllFound p s i found
   found_skipped n i is_next none found h j low high =
       and_next (λ j. is_in (basics_of s) j ≡ true → j ≢ p.objective → AreEndsOfRow p s j (ends_at found j)) n h
       (subst (λ j. is_in (basics_of s) j ≡ true → j ≢ p.objective → AreEndsOfRow p s j (ends_at found j)) is_next (λ basic other. absurd (none basic other)))
       j low (omega (arith, high, is_next))
 
-  pub found_more : (n : ℕ) (found : List Ends) (own : Ends) → n < length found → AreEndsOfRow p s (n + 1) own → AllFound p s n found → AllFound p s (n + 1) (set found n own)
+  pub found_more : (n : ℕ) (found : List Ends) (own : Ends) → n < length found → AreEndsOfRow p s (n + 1) own → AllFound p s n found →
+      AllFound p s (n + 1) (set found n own)
   found_more n found own below of_own h j low high = at (eqb_tells j (n + 1))
     where
-      at : (((eqb j (n + 1) ≡ true) × (j ≡ n + 1)) ⊎ ((eqb j (n + 1) ≡ false) × (j ≢ n + 1))) → is_in (basics_of s) j ≡ true → j ≢ p.objective → AreEndsOfRow p s j (ends_at (set found n own) j)
+      at : (((eqb j (n + 1) ≡ true) × (j ≡ n + 1)) ⊎ ((eqb j (n + 1) ≡ false) × (j ≢ n + 1))) → is_in (basics_of s) j ≡ true → j ≢ p.objective →
+          AreEndsOfRow p s j (ends_at (set found n own) j)
       at (inl same) basic other =
-          subst (λ j. AreEndsOfRow p s j (ends_at (set found n own) j)) (sym same.1) (subst (AreEndsOfRow p s (n + 1)) (sym (ends_written found n own below)) of_own)
+          subst (λ j. AreEndsOfRow p s j (ends_at (set found n own) j)) (sym same.1)
+          (subst (AreEndsOfRow p s (n + 1)) (sym (ends_written found n own below)) of_own)
       at (inr apart) basic other =
           let far = apart.1 in
           subst (AreEndsOfRow p s j) (sym (ends_unwritten found n j own low far)) (h j low (omega (arith, high, far)) basic other)
 
 -- ---- tests of a variable
 
-pub nonbasic_by_test : (p : LinearProgram) (s : List Status) (i : ℕ) (test : Bool) → length s ≡ size p.matrix → IsVariable p.matrix i → test ≡ is_basic (status_of s i) → test ≡ false → is_in (basics_of s) i ≡ false
+pub nonbasic_by_test : (p : LinearProgram) (s : List Status) (i : ℕ) (test : Bool) → length s ≡ size p.matrix → IsVariable p.matrix i →
+    test ≡ is_basic (status_of s i) → test ≡ false → is_in (basics_of s) i ≡ false
 nonbasic_by_test p s i test counted is same fails = is_in-basics_of s i is.0 (omega (arith, is.1, counted)) ∙ sym same ∙ fails
 
-pub basic_by_test : (p : LinearProgram) (s : List Status) (i : ℕ) (test : Bool) → length s ≡ size p.matrix → IsVariable p.matrix i → test ≡ is_basic (status_of s i) → test ≡ true → is_in (basics_of s) i ≡ true
+pub basic_by_test : (p : LinearProgram) (s : List Status) (i : ℕ) (test : Bool) → length s ≡ size p.matrix → IsVariable p.matrix i →
+    test ≡ is_basic (status_of s i) → test ≡ true → is_in (basics_of s) i ≡ true
 basic_by_test p s i test counted is same holds = is_in-basics_of s i is.0 (omega (arith, is.1, counted)) ∙ sym same ∙ holds
 
 -- a basic other than the objective
-pub intermediate_is : (p : LinearProgram) (s : List Status) (i : ℕ) → length s ≡ size p.matrix → IsVariable p.matrix i → (is_basic (status_of s i) && not (nat_eq i p.objective)) ≡ true
+pub intermediate_is : (p : LinearProgram) (s : List Status) (i : ℕ) → length s ≡ size p.matrix → IsVariable p.matrix i
+    → (is_basic (status_of s i) && not (nat_eq i p.objective)) ≡ true
     → (is_in (basics_of s) i ≡ true) × (i ≢ p.objective)
 intermediate_is p s i counted is passes = at (is_basic (status_of s i)) refl passes
   where

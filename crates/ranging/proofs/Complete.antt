@@ -14,7 +14,8 @@ use Rattle.ranging.specs.Lists.{report_of}
 use Rattle.ranging.specs.Complete.{HasNoEvidence, IsReportOrMemory}
 
 pub range_answers : (p : LinearProgram) (s : List Status) (before after : List Basics) (result : Result RangeReport Stop) →
-    IfOk result (λ r. IsRangeReport p s (report_of r)) → IfErr result (λ stop. IfOverflow stop (RangeRefused p before s after)) → HasNoEvidence p s before → IsReportOrMemory p s result
+    IfOk result (λ r. IsRangeReport p s (report_of r)) → IfErr result (λ stop. IfOverflow stop (RangeRefused p before s after)) → HasNoEvidence p s before →
+    IsReportOrMemory p s result
 range_answers p s before after (Ok r) report overflow none = inl (r, refl, report)
 range_answers p s before after (Err (Overflow e)) report overflow none = absurd (none after e overflow)
 range_answers p s before after (Err NoMemory) report overflow none = inr refl

@@ -50,7 +50,8 @@ one_distance at_most far n rate i which ends now is h = record {
   };
 }
 
-pub refused_quotient : (b : ProductBound) (r : Refused) (e : Evidence) (f : Formula) → Names e f.number f.p f.q f.i f.j f.term → e.way ≡ 0 → e.theta ≡ f.theta → e.refused ≡ r → IsRefused b r
+pub refused_quotient : (b : ProductBound) (r : Refused) (e : Evidence) (f : Formula) → Names e f.number f.p f.q f.i f.j f.term → e.way ≡ 0 → e.theta ≡ f.theta
+    → e.refused ≡ r → IsRefused b r
     → IsRefusal f Div b.number b.slope e
 refused_quotient b r e f names no_way is_theta is h = record {
   names = names;
@@ -58,7 +59,13 @@ refused_quotient b r e f names no_way is_theta is h = record {
   is_theta = is_theta;
   refuses =
       let same : e.refused ≡ record { op = Div; left = b.number; right = b.slope } = is ∙ h.is_quotient in
-      record { is_op = ap (λ (r : Refused). r.op) same; is_left = ap (λ (r : Refused). r.left) same; is_right = ap (λ (r : Refused). r.right) same; refused = h.decided };
+      record {
+        is_op = ap (λ (r : Refused). r.op) same;
+        is_left = ap (λ (r : Refused). r.left) same;
+        is_right = ap
+            (λ (r : Refused). r.right) same;
+        refused = h.decided;
+      };
 }
 
 -- ---- both limits
@@ -82,18 +89,21 @@ module _ (far : Distances) (rate : ℚ) (apart : rate ≢ zero_ℚ) (i : ℕ) wh
     is_quotient = ap (λ (e : Endpoint). e.value) h.is_end;
   }
 
-  in_turn : (a b c : Option Endpoint) → IsKeptOr (IsQuotientOf far.low rate i 1) a b → IsKeptOr (IsQuotientOf far.high rate i 2) b c → IsKeptOr (IsBasicEnd far rate i) a c
+  in_turn : (a b c : Option Endpoint) → IsKeptOr (IsQuotientOf far.low rate i 1) a b → IsKeptOr (IsQuotientOf far.high rate i 2) b c →
+      IsKeptOr (IsBasicEnd far rate i) a c
   in_turn a b c _ (inr new) = inr (new.0, new.1, of_high new.0 new.2)
   in_turn a b c (inl same) (inl last) = inl (last ∙ same)
   in_turn a b c (inr new) (inl last) = inr (new.0, last ∙ new.1, of_low new.0 new.2)
 
-  pub both_limits : (ends mid now : Ends) → IsWithDistance false far.low rate i 1 ends mid → IsWithDistance true far.high rate i 2 mid now → IsWithDistances far rate i ends now
+  pub both_limits : (ends mid now : Ends) → IsWithDistance false far.low rate i 1 ends mid → IsWithDistance true far.high rate i 2 mid now →
+      IsWithDistances far rate i ends now
   both_limits ends mid now first second = record {
     exact = λ x. (
       λ h. let b = (second.exact x).0 h in let a = (first.exact x).0 b.0 in (a.0, (a.1, b.1)),
       λ h. (second.exact x).1 ((first.exact x).1 (h.0, h.1.0), h.1.1),
     );
-    made = record { low = in_turn ends.low mid.low now.low first.made.low second.made.low; high = in_turn ends.high mid.high now.high first.made.high second.made.high };
+    made =
+        record { low = in_turn ends.low mid.low now.low first.made.low second.made.low; high = in_turn ends.high mid.high now.high first.made.high second.made.high };
   }
 
   pub low_refused : (k : ℕ) (e : Evidence) → IsDistanceRefused far.low rate i k 1 e → IsBasicRefused far rate i k e
@@ -147,7 +157,8 @@ module _ (p : LinearProgram) (z : ℚ) (i : ℕ) where
     -- without a rate it stays where it is
     stays : v ≡ zero_ℚ → (x : ℚ) → SidesHold (value_sides (lower_of p i) (upper_of p i) z v) x
     stays none x =
-        (sides_of_value (lower_of p i) (upper_of p i) z z v x (sym (ap (λ v. z +ℚ x *ℚ v) none ∙ by_ring2 z x (λ z x. z ⊕ x ⊗ number (pos 0) ≐ z) refl))).0 (low, high)
+        (sides_of_value (lower_of p i) (upper_of p i) z z v x (sym (ap (λ v. z +ℚ x *ℚ v) none ∙ by_ring2 z x (λ z x. z ⊕ x ⊗ number (pos 0) ≐ z) refl))).0
+        (low, high)
 
     far_is : (x : ℚ) → IsFarEnough (distances_of p z i) (x *ℚ v) ↔ SidesHold (value_sides (lower_of p i) (upper_of p i) z v) x
     far_is x =
@@ -156,12 +167,15 @@ module _ (p : LinearProgram) (z : ℚ) (i : ℕ) where
           λ h. ((far_low (lower_of p i) (z +ℚ x *ℚ v) (x *ℚ v) refl).1 (sides.1 h).0, (far_high (upper_of p i) (z +ℚ x *ℚ v) (x *ℚ v) refl).1 (sides.1 h).1),
         )
 
-    pub met : (far : Distances) → far ≡ distances_of p z i → (stands : Bool) → stands ≡ true → (ends now : Ends) → IsWithBasic stands far v i ends now → IsMet p z v i ends now
+    pub met : (far : Distances) → far ≡ distances_of p z i → (stands : Bool) → stands ≡ true → (ends now : Ends) → IsWithBasic stands far v i ends now →
+        IsMet p z v i ends now
     met far far_are stands is ends now with = at (zero_or_not v) (subst (λ (f : Distances). IsWithBasic stands f v i ends now) far_are with)
       where
         at : (v ≡ zero_ℚ) ⊎ (v ≢ zero_ℚ) → IsWithBasic stands (distances_of p z i) v i ends now → IsMet p z v i ends now
         at (inl none) h = record {
-          exact = λ x. subst (λ (e : Ends). IsBetweenEnds e x ↔ (IsBetweenEnds ends x × SidesHold (value_sides (lower_of p i) (upper_of p i) z v) x)) (sym (h.still none)) (λ k. (k, stays none x), λ k. k.0);
+          exact =
+              λ x. subst (λ (e : Ends). IsBetweenEnds e x ↔ (IsBetweenEnds ends x × SidesHold (value_sides (lower_of p i) (upper_of p i) z v) x))
+              (sym (h.still none)) (λ k. (k, stays none x), λ k. k.0);
           made = record { low = kept_limit v ends.low now.low h.made.low; high = kept_limit v ends.high now.high h.made.high };
         }
         at (inr moves) h = record {
@@ -172,7 +186,8 @@ module _ (p : LinearProgram) (z : ℚ) (i : ℕ) where
           made = record { low = kept_limit v ends.low now.low h.made.low; high = kept_limit v ends.high now.high h.made.high };
         }
 
-  pub rate_refused : (row : Vector) (k : ℕ) (rate : ℚ) (e : Evidence) (far : Distances) → far ≡ distances_of p z i → IsVariable p.matrix k → row k ≡ rate → IsBasicRefused far rate i k e → IsRateRefused p z row i e
+  pub rate_refused : (row : Vector) (k : ℕ) (rate : ℚ) (e : Evidence) (far : Distances) → far ≡ distances_of p z i → IsVariable p.matrix k → row k ≡ rate →
+      IsBasicRefused far rate i k e → IsRateRefused p z row i e
   rate_refused row k rate e far far_are is row_is h =
       let l = limit_of h.which h.distance (subst (λ (f : Distances). distance_numbered f h.which ≡ Some h.distance) far_are h.is_distance) in
       record {
@@ -210,11 +225,13 @@ module _ (p : LinearProgram) (s : List Status) (z : ℚ) (row : Vector) (i : ℕ
   pub met_none : AreMetTo p s z row i 0 before before
   met_none = record { met = λ k low high stands. absurd (omega (arith, low, high)); rest = λ k after. refl }
 
-  pub met_next : (n : ℕ) (now : List Ends) (present e : Ends) → n < length now → present ≡ get_or now n present → (stands_at_limit (status_of s (n + 1)) ≡ true → IsMet p z (row (n + 1)) i present e)
+  pub met_next : (n : ℕ) (now : List Ends) (present e : Ends) → n < length now → present ≡ get_or now n present
+      → (stands_at_limit (status_of s (n + 1)) ≡ true → IsMet p z (row (n + 1)) i present e)
       → AreMetTo p s z row i n before now → AreMetTo p s z row i (n + 1) before (set now n e)
   met_next n now present e below is own h = record { met = λ k low high stands. at k low high stands (eqb_tells k (n + 1)); rest = rest }
     where
-      at : (k : ℕ) → 1 ≤ k → k ≤ n + 1 → stands_at_limit (status_of s k) ≡ true → (((eqb k (n + 1) ≡ true) × (k ≡ n + 1)) ⊎ ((eqb k (n + 1) ≡ false) × (k ≢ n + 1)))
+      at : (k : ℕ) → 1 ≤ k → k ≤ n + 1 → stands_at_limit (status_of s k) ≡ true
+          → (((eqb k (n + 1) ≡ true) × (k ≡ n + 1)) ⊎ ((eqb k (n + 1) ≡ false) × (k ≢ n + 1)))
           → IsMet p z (row k) i (ends_at before k) (ends_at (set now n e) k)
       at k low high stands (inl same) =
           subst (λ k. IsMet p z (row k) i (ends_at before k) (ends_at (set now n e) k)) (sym same.1)

@@ -35,7 +35,8 @@ numbers-next first n = numbers_from-append first n 1
 pub listed_none : (Claim : ℕ → ℚ → Type 0) → ListsTo [] Claim []
 listed_none Claim = record { whole = refl; exact = All-nil (λ (e : Item). (t : ℚ) → IsIn e.1 t ↔ Claim e.0 t) }
 
-pub listed_next : (first n k : ℕ) (Claim : ℕ → ℚ → Type 0) (items : List Item) (interval : code.Interval) → k ≡ first + n → ((t : ℚ) → IsIn interval t ↔ Claim k t)
+pub listed_next : (first n k : ℕ) (Claim : ℕ → ℚ → Type 0) (items : List Item) (interval : code.Interval) → k ≡ first + n
+    → ((t : ℚ) → IsIn interval t ↔ Claim k t)
     → ListsTo (numbers_from first n) Claim items → ListsTo (numbers_from first (n + 1)) Claim (items ++ (k, interval) ∷ [])
 listed_next first n k Claim items interval is claim h = record {
   whole = map-append (λ (e : Item). e.0) items (k, interval) ∙ ap₂ (λ xs m. xs ++ m ∷ []) h.whole is ∙ sym (numbers-next first n);
@@ -50,7 +51,8 @@ module _ (test : ℕ → Bool) (n : ℕ) (Claim : ℕ → ℚ → Type 0) (items
       ∙ ap (λ k. filter test (numbers_from 1 n) ++ filter test (k ∷ [])) next
       ∙ ap (λ (b : Bool). filter test (numbers_from 1 n) ++ cond b ((n + 1) ∷ []) []) e
 
-  pub listed_kept : (interval : code.Interval) → test (n + 1) ≡ true → ((t : ℚ) → IsIn interval t ↔ Claim (n + 1) t) → ListsTo (filter test (numbers_from 1 n)) Claim items
+  pub listed_kept : (interval : code.Interval) → test (n + 1) ≡ true → ((t : ℚ) → IsIn interval t ↔ Claim (n + 1) t)
+      → ListsTo (filter test (numbers_from 1 n)) Claim items
       → ListsTo (filter test (numbers_from 1 (n + 1))) Claim (items ++ (n + 1, interval) ∷ [])
   listed_kept interval e claim h = record {
     whole = map-append (λ (e : Item). e.0) items (n + 1, interval) ∙ ap (λ xs. xs ++ (n + 1) ∷ []) h.whole ∙ sym (tested true e);
@@ -61,7 +63,8 @@ module _ (test : ℕ → Bool) (n : ℕ) (Claim : ℕ → ℚ → Type 0) (items
   listed_left e h = record { whole = h.whole ∙ sym (tested false e ∙ append-nil (filter test (numbers_from 1 n))); exact = h.exact }
 
 -- as the definitions have them
-pub are_intervals : (numbers : List ℕ) (Claim : ℕ → ℚ → Type 0) (items : List Item) → ListsTo numbers Claim items → AreIntervals numbers Claim (map interval_of items)
+pub are_intervals : (numbers : List ℕ) (Claim : ℕ → ℚ → Type 0) (items : List Item) → ListsTo numbers Claim items →
+    AreIntervals numbers Claim (map interval_of items)
 are_intervals numbers Claim items h = record {
   whole = map-map items ∙ h.whole;
   exact = All-map (λ e. (t : ℚ) → IsBetween e t ↔ Claim e.variable t) interval_of items h.exact;
@@ -82,20 +85,30 @@ module _ (p : LinearProgram) (s : List Status) (lawful : IsLinearProgram p) (no_
       let law = row p s optimal.tableau own_present i is t in
       let between = opposite_is t ends in
       let rates = h.exact optimal.tableau.rate optimal.is_tableau.are_rates (neg_ℚ t) in (
-        λ k. law.1 (subst (RatesStay p s (λ k. for_min p.sense (optimal.tableau.rate p.objective k)) (λ k. for_min p.sense (optimal.tableau.rate i k))) twice (rates.0 (between.0 k))),
-        λ k. between.1 (rates.1 (subst (RatesStay p s (λ k. for_min p.sense (optimal.tableau.rate p.objective k)) (λ k. for_min p.sense (optimal.tableau.rate i k))) (sym twice) (law.0 k))),
+        λ k. law.1 (subst (RatesStay p s (λ k. for_min p.sense (optimal.tableau.rate p.objective k)) (λ k. for_min p.sense (optimal.tableau.rate i k))) twice
+            (rates.0 (between.0 k))),
+        λ k. between.1
+            (rates.1 (subst (RatesStay p s (λ k. for_min p.sense (optimal.tableau.rate p.objective k)) (λ k. for_min p.sense (optimal.tableau.rate i k)))
+            (sym twice) (law.0 k))),
       )
     where
       twice : neg_ℚ (neg_ℚ t) ≡ t
       twice = by_ring1 t (λ t. opp (opp t) ≐ t) refl
 
-  pub cost_exact : (j : ℕ) → IsColumn p.matrix j → (ends : Ends) → AreEndsOfRow p s (p.rows + j) ends → (t : ℚ) → IsIn (taken_from (cost p j) ends) t ↔ IsOptimalBasis (with_cost p (p.rows + j) t) s
+  pub cost_exact : (j : ℕ) → IsColumn p.matrix j → (ends : Ends) → AreEndsOfRow p s (p.rows + j) ends → (t : ℚ) →
+      IsIn (taken_from (cost p j) ends) t ↔ IsOptimalBasis (with_cost p (p.rows + j) t) s
   cost_exact j is ends h t =
       let law = cost_changes p s optimal.tableau own_present j is (t -ℚ cost p j) in
       let between = taken_is (cost p j) t ends in
       let rates = h.exact optimal.tableau.rate optimal.is_tableau.are_rates (cost p j -ℚ t) in (
-        λ k. subst (λ v. IsOptimalBasis (with_cost p (p.rows + j) v) s) back (law.1 (subst (RatesStay p s (λ k. for_min p.sense (optimal.tableau.rate p.objective k)) (λ k. for_min p.sense (optimal.tableau.rate (p.rows + j) k))) turned (rates.0 (between.0 k)))),
-        λ k. between.1 (rates.1 (subst (RatesStay p s (λ k. for_min p.sense (optimal.tableau.rate p.objective k)) (λ k. for_min p.sense (optimal.tableau.rate (p.rows + j) k))) (sym turned)
+        λ k. subst (λ v. IsOptimalBasis (with_cost p (p.rows + j) v) s) back
+            (law.1 (subst
+            (RatesStay p s (λ k. for_min p.sense (optimal.tableau.rate p.objective k)) (λ k. for_min p.sense (optimal.tableau.rate (p.rows + j) k))) turned
+            (rates.0 (between.0 k)))),
+        λ k. between.1
+            (rates.1 (subst
+            (RatesStay p s (λ k. for_min p.sense (optimal.tableau.rate p.objective k)) (λ k. for_min p.sense (optimal.tableau.rate (p.rows + j) k)))
+            (sym turned)
             (law.0 (subst (λ v. IsOptimalBasis (with_cost p (p.rows + j) v) s) (sym back) k)))),
       )
     where

@@ -37,11 +37,13 @@ twice_below price rate y = (
   λ h. le_by_one h (by_ring3 price rate y (λ p r y. p ≐ y ⊗ r ⊕ (opposite (opposite p) ⊕ opposite y ⊗ opposite (opposite r) ⊖ number (pos 0))) refl),
 )
 
-pub rising_bound : (s : Sense) (price rate : ℚ) (j : ℕ) (y : ℚ) → Meets (rate_bound s true price rate j) y ↔ Holds (condition (for_min s price) (for_min s rate)) (neg_ℚ y)
+pub rising_bound : (s : Sense) (price rate : ℚ) (j : ℕ) (y : ℚ) →
+    Meets (rate_bound s true price rate j) y ↔ Holds (condition (for_min s price) (for_min s rate)) (neg_ℚ y)
 rising_bound Min price rate j y = below_is price rate y
 rising_bound Max price rate j y = above_is price rate y
 
-pub falling_bound : (s : Sense) (price rate : ℚ) (j : ℕ) (y : ℚ) → Meets (rate_bound s false price rate j) y ↔ Holds (condition (neg_ℚ (for_min s price)) (neg_ℚ (for_min s rate))) (neg_ℚ y)
+pub falling_bound : (s : Sense) (price rate : ℚ) (j : ℕ) (y : ℚ) →
+    Meets (rate_bound s false price rate j) y ↔ Holds (condition (neg_ℚ (for_min s price)) (neg_ℚ (for_min s rate))) (neg_ℚ y)
 falling_bound Min price rate j y = above_is price rate y
 falling_bound Max price rate j y = twice_below price rate y
 
@@ -74,10 +76,12 @@ module _ (p : LinearProgram) (s : List Status) (price rate : ℚ) (j : ℕ) wher
       stays : (y : ℚ) → SidesHold (sides_of p s price rate j) (neg_ℚ y)
       stays y = (
         flat_if (may_rise p s j) (for_min p.sense price) (for_min p.sense rate) zero_ℚ (neg_ℚ y) (for_min_zero p.sense rate none) holds.0,
-        flat_if (may_fall p s j) (neg_ℚ (for_min p.sense price)) (neg_ℚ (for_min p.sense rate)) zero_ℚ (neg_ℚ y) (neg_zero (for_min p.sense rate) (for_min_zero p.sense rate none)) holds.1,
+        flat_if (may_fall p s j) (neg_ℚ (for_min p.sense price)) (neg_ℚ (for_min p.sense rate)) zero_ℚ (neg_ℚ y)
+            (neg_zero (for_min p.sense rate) (for_min_zero p.sense rate none)) holds.1,
       )
 
-  either_then : (rate ≢ zero_ℚ) → (a b c : Option Endpoint) → (b ≡ a) ⊎ (b ≡ Some (record { value = price /ℚ rate; by = j; which = 0 })) → (c ≡ b) ⊎ (c ≡ Some (record { value = price /ℚ rate; by = j; which = 0 })) → IsEitherRate price rate j a c
+  either_then : (rate ≢ zero_ℚ) → (a b c : Option Endpoint) → (b ≡ a) ⊎ (b ≡ Some (record { value = price /ℚ rate; by = j; which = 0 })) →
+      (c ≡ b) ⊎ (c ≡ Some (record { value = price /ℚ rate; by = j; which = 0 })) → IsEitherRate price rate j a c
   either_then apart a b c _ (inr new) = inr (apart, new)
   either_then apart a b c (inl same) (inl last) = inl (last ∙ same)
   either_then apart a b c (inr new) (inl last) = inr (apart, last ∙ new)
@@ -90,11 +94,19 @@ module _ (p : LinearProgram) (s : List Status) (price rate : ℚ) (j : ℕ) wher
     high = either_then apart ends.high mid.high now.high first.high second.high;
   }
     where
-      up : (y : ℚ) → (may_rise p s j ≡ true → Meets (rate_bound p.sense true price rate j) y) ↔ IfSome (condition_if (may_rise p s j) (for_min p.sense price) (for_min p.sense rate)) (λ e. Holds e (neg_ℚ y))
-      up y = if_asked (may_rise p s j) (for_min p.sense price) (for_min p.sense rate) (neg_ℚ y) (Meets (rate_bound p.sense true price rate j) y) (rising_bound p.sense price rate j y)
+      up : (y : ℚ) →
+          (may_rise p s j ≡ true → Meets (rate_bound p.sense true price rate j) y) ↔ IfSome
+          (condition_if (may_rise p s j) (for_min p.sense price) (for_min p.sense rate)) (λ e. Holds e (neg_ℚ y))
+      up y =
+          if_asked (may_rise p s j) (for_min p.sense price) (for_min p.sense rate) (neg_ℚ y) (Meets (rate_bound p.sense true price rate j) y)
+          (rising_bound p.sense price rate j y)
 
-      down : (y : ℚ) → (may_fall p s j ≡ true → Meets (rate_bound p.sense false price rate j) y) ↔ IfSome (condition_if (may_fall p s j) (neg_ℚ (for_min p.sense price)) (neg_ℚ (for_min p.sense rate))) (λ e. Holds e (neg_ℚ y))
-      down y = if_asked (may_fall p s j) (neg_ℚ (for_min p.sense price)) (neg_ℚ (for_min p.sense rate)) (neg_ℚ y) (Meets (rate_bound p.sense false price rate j) y) (falling_bound p.sense price rate j y)
+      down : (y : ℚ) →
+          (may_fall p s j ≡ true → Meets (rate_bound p.sense false price rate j) y) ↔ IfSome
+          (condition_if (may_fall p s j) (neg_ℚ (for_min p.sense price)) (neg_ℚ (for_min p.sense rate))) (λ e. Holds e (neg_ℚ y))
+      down y =
+          if_asked (may_fall p s j) (neg_ℚ (for_min p.sense price)) (neg_ℚ (for_min p.sense rate)) (neg_ℚ y) (Meets (rate_bound p.sense false price rate j) y)
+          (falling_bound p.sense price rate j y)
 
       to : (y : ℚ) → IsBetweenEnds now y → IsBetweenEnds ends y × SidesHold (sides_of p s price rate j) (neg_ℚ y)
       to y h =
@@ -114,7 +126,8 @@ module _ (p : LinearProgram) (s : List Status) (prices row : Vector) where
     made = (tt, tt);
   }
 
-  more_ends : (n : ℕ) (before now : Option Endpoint) → (price rate : ℚ) → prices (n + 1) ≡ price → row (n + 1) ≡ rate → IsEitherRate price rate (n + 1) before now → IfSome before (IsRateEnd prices row n) → IfSome now (IsRateEnd prices row (n + 1))
+  more_ends : (n : ℕ) (before now : Option Endpoint) → (price rate : ℚ) → prices (n + 1) ≡ price → row (n + 1) ≡ rate →
+      IsEitherRate price rate (n + 1) before now → IfSome before (IsRateEnd prices row n) → IfSome now (IsRateEnd prices row (n + 1))
   more_ends n before now price rate price_is rate_is (inl same) made = subst (λ o. IfSome o (IsRateEnd prices row (n + 1))) (sym same) (at before made)
     where
       at : (o : Option Endpoint) → IfSome o (IsRateEnd prices row n) → IfSome o (IsRateEnd prices row (n + 1))
@@ -127,15 +140,19 @@ module _ (p : LinearProgram) (s : List Status) (prices row : Vector) where
     is_quotient = ap₂ ◌/ℚ◌ (sym price_is) (sym rate_is);
   })
 
-  pub next_ends : (n : ℕ) (ends now : Ends) (price rate : ℚ) → prices (n + 1) ≡ price → row (n + 1) ≡ rate → AreRowEnds p s prices row n ends → IsWithRate p s price rate (n + 1) ends now
+  pub next_ends : (n : ℕ) (ends now : Ends) (price rate : ℚ) → prices (n + 1) ≡ price → row (n + 1) ≡ rate → AreRowEnds p s prices row n ends
+      → IsWithRate p s price rate (n + 1) ends now
       → AreRowEnds p s prices row (n + 1) now
   next_ends n ends now price rate price_is rate_is before with = record {
     exact = λ y. (to y, back y);
-    made = (more_ends n ends.low now.low price rate price_is rate_is with.low before.made.0, more_ends n ends.high now.high price rate price_is rate_is with.high before.made.1);
+    made =
+        (more_ends n ends.low now.low price rate price_is rate_is with.low before.made.0, more_ends n ends.high now.high price rate price_is rate_is with.high before.made.1);
   }
     where
       own : (y : ℚ) → SidesHold (sides_of p s price rate (n + 1)) (neg_ℚ y) ↔ SidesHold (sides_of p s (prices (n + 1)) (row (n + 1)) (n + 1)) (neg_ℚ y)
-      own y = subst₂ (λ a b. SidesHold (sides_of p s price rate (n + 1)) (neg_ℚ y) ↔ SidesHold (sides_of p s a b (n + 1)) (neg_ℚ y)) (sym price_is) (sym rate_is) (λ h. h, λ h. h)
+      own y =
+          subst₂ (λ a b. SidesHold (sides_of p s price rate (n + 1)) (neg_ℚ y) ↔ SidesHold (sides_of p s a b (n + 1)) (neg_ℚ y)) (sym price_is) (sym rate_is)
+          (λ h. h, λ h. h)
 
       to : (y : ℚ) → IsBetweenEnds now y → RatesStayTo p s prices row (n + 1) (neg_ℚ y)
       to y h =

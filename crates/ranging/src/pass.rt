@@ -30,9 +30,11 @@ fn visit<R: Rates>(
     requires row_places { length row.old ≡ size at.now.lp.now.matrix }
     requires end_places { length ends.old ≡ size at.now.lp.now.matrix }
     requires basic { IsBasic at.now.lp.now.matrix (basics_of at.now.basis.now) i }
-    requires met { AllMet at.now.lp.now at.now.basis.now (value_at at.now.point.now) (i - 1) ends.old }
+    requires met { AllMet at.now.lp.now at.now.basis.now
+        (value_at at.now.point.now) (i - 1) ends.old }
     ensures found { IfOk result (AreEndsOfRow at.now.lp.now at.now.basis.now i) }
-    ensures met { OnOk result (AllMet at.now.lp.now at.now.basis.now (value_at at.now.point.now) i ends.new) }
+    ensures met { OnOk result
+        (AllMet at.now.lp.now at.now.basis.now (value_at at.now.point.now) i ends.new) }
     ensures rates { StaysAt (R.state rates.old) (R.state rates.new) at.now.lp.now at.now.basis.now }
     ensures overflow { RangeOverflow result at.now.lp.now at.now.basis.now (R.state rates.old)
         (R.state rates.new) }
@@ -62,9 +64,11 @@ fn visit_basic<R: Rates>(
     requires found_places { length found.old ≡ size at.now.lp.now.matrix }
     requires end_places { length ends.old ≡ size at.now.lp.now.matrix }
     requires variable { IsVariable at.now.lp.now.matrix i }
-    requires met { AllMet at.now.lp.now at.now.basis.now (value_at at.now.point.now) (i - 1) ends.old }
+    requires met { AllMet at.now.lp.now at.now.basis.now
+        (value_at at.now.point.now) (i - 1) ends.old }
     requires found { AllFound at.now.lp.now at.now.basis.now (i - 1) found.old }
-    ensures met { OnOk result (AllMet at.now.lp.now at.now.basis.now (value_at at.now.point.now) i ends.new) }
+    ensures met { OnOk result
+        (AllMet at.now.lp.now at.now.basis.now (value_at at.now.point.now) i ends.new) }
     ensures found { OnOk result (AllFound at.now.lp.now at.now.basis.now i found.new) }
     ensures rates { StaysAt (R.state rates.old) (R.state rates.new) at.now.lp.now at.now.basis.now }
     ensures overflow { RangeOverflow result at.now.lp.now at.now.basis.now (R.state rates.old)
@@ -98,7 +102,8 @@ pub fn pass<R: Rates>(
     requires begins { AllMet at.now.lp.now at.now.basis.now (value_at at.now.point.now) 0 ends.old }
     ensures met { OnOk result (AllMet at.now.lp.now at.now.basis.now (value_at at.now.point.now)
         (size at.now.lp.now.matrix) ends.new) }
-    ensures found { OnOk result (AllFound at.now.lp.now at.now.basis.now (size at.now.lp.now.matrix) found.new) }
+    ensures found { OnOk result
+        (AllFound at.now.lp.now at.now.basis.now (size at.now.lp.now.matrix) found.new) }
     ensures rates { StaysAt (R.state rates.old) (R.state rates.new) at.now.lp.now at.now.basis.now }
     ensures overflow { RangeOverflow result at.now.lp.now at.now.basis.now (R.state rates.old)
         (R.state rates.new) }

@@ -23,7 +23,8 @@ listed_zero js f n count zero so_far = record {
   each = λ j low high. at j low high (eqb_tells j (n + 1));
 }
   where
-    at : (j : ℕ) → 1 ≤ j → j ≤ n + 1 → ((eqb j (n + 1) ≡ true) × (j ≡ n + 1)) ⊎ ((eqb j (n + 1) ≡ false) × (j ≢ n + 1)) → ((place : ℕ) × (place < count) × (get_or js place 0 ≡ j)) ⊎ (f j ≡ zero_ℚ)
+    at : (j : ℕ) → 1 ≤ j → j ≤ n + 1 → ((eqb j (n + 1) ≡ true) × (j ≡ n + 1)) ⊎ ((eqb j (n + 1) ≡ false) × (j ≢ n + 1)) →
+        ((place : ℕ) × (place < count) × (get_or js place 0 ≡ j)) ⊎ (f j ≡ zero_ℚ)
     at j low high (inl same) = inr (ap f same.1 ∙ zero)
     at j low high (inr other) = so_far.each j low (omega (arith, other.1, high))
 
@@ -42,16 +43,19 @@ listed_more js f n count room so_far = record {
     kept : (place : ℕ) → place < count → get_or (set js count (n + 1)) place 0 ≡ get_or js place 0
     kept place below = let other : place ≢ count = omega arith in get_or-set_other js count place (n + 1) 0 other
 
-    before : (j : ℕ) → ((place : ℕ) × (place < count) × (get_or js place 0 ≡ j)) ⊎ (f j ≡ zero_ℚ) → ((place : ℕ) × (place < count + 1) × (get_or (set js count (n + 1)) place 0 ≡ j)) ⊎ (f j ≡ zero_ℚ)
+    before : (j : ℕ) → ((place : ℕ) × (place < count) × (get_or js place 0 ≡ j)) ⊎ (f j ≡ zero_ℚ) →
+        ((place : ℕ) × (place < count + 1) × (get_or (set js count (n + 1)) place 0 ≡ j)) ⊎ (f j ≡ zero_ℚ)
     before j (inl there) = inl (there.0, omega (arith, there.1), kept there.0 there.1 ∙ there.2)
     before j (inr none) = inr none
 
-    at : (j : ℕ) → 1 ≤ j → j ≤ n + 1 → ((eqb j (n + 1) ≡ true) × (j ≡ n + 1)) ⊎ ((eqb j (n + 1) ≡ false) × (j ≢ n + 1)) → ((place : ℕ) × (place < count + 1) × (get_or (set js count (n + 1)) place 0 ≡ j)) ⊎ (f j ≡ zero_ℚ)
+    at : (j : ℕ) → 1 ≤ j → j ≤ n + 1 → ((eqb j (n + 1) ≡ true) × (j ≡ n + 1)) ⊎ ((eqb j (n + 1) ≡ false) × (j ≢ n + 1)) →
+        ((place : ℕ) × (place < count + 1) × (get_or (set js count (n + 1)) place 0 ≡ j)) ⊎ (f j ≡ zero_ℚ)
     at j low high (inl same) = inl (count, omega arith, own ∙ sym same.1)
     at j low high (inr other) = before j (so_far.each j low (omega (arith, other.1, high)))
 
 -- all variables are listed
-pub listed_to_end : (js : List ℕ) (quotients : List ℚ) (f : ℕ → ℚ) (n count : ℕ) → length quotients ≤ n → n ≤ length quotients → count ≤ length js → IsFilled quotients f → ListedTo js f n count → AreChanged (take count js) quotients
+pub listed_to_end : (js : List ℕ) (quotients : List ℚ) (f : ℕ → ℚ) (n count : ℕ) → length quotients ≤ n → n ≤ length quotients → count ≤ length js →
+    IsFilled quotients f → ListedTo js f n count → AreChanged (take count js) quotients
 listed_to_end js quotients f n count all within room filled listed = record {
   numbers = λ place below. let h = listed.numbers place (omega (arith, counted, below)) in
       subst (λ (k : ℕ). (1 ≤ k) × (k ≤ length quotients)) (sym (read place (omega (arith, counted, below)))) (h.0, omega (arith, h.1, within));
@@ -64,7 +68,8 @@ listed_to_end js quotients f n count all within room filled listed = record {
     read : (place : ℕ) → place < count → get_or (take count js) place 0 ≡ get_or js place 0
     read place below = get_or-take count js place 0 below
 
-    at : (j : ℕ) → 1 ≤ j → j ≤ length quotients → ((place : ℕ) × (place < count) × (get_or js place 0 ≡ j)) ⊎ (f j ≡ zero_ℚ) → IsListed (take count js) j ⊎ (value_at quotients j ≡ zero_ℚ)
+    at : (j : ℕ) → 1 ≤ j → j ≤ length quotients → ((place : ℕ) × (place < count) × (get_or js place 0 ≡ j)) ⊎ (f j ≡ zero_ℚ) →
+        IsListed (take count js) j ⊎ (value_at quotients j ≡ zero_ℚ)
     at j low high (inl there) = inl (record { place = there.0; within = omega (arith, counted, there.1); is = read there.0 there.1 ∙ there.2 })
     at j low high (inr none) = inr (filled_at quotients f filled j low high ∙ none)
 
@@ -78,7 +83,8 @@ pub record TakenTo (js : List ℕ) (old new : List ℚ) (f : ℕ → ℚ) (n : �
 pub taken_to_end : (js : List ℕ) (old new : List ℚ) (f : ℕ → ℚ) (n : ℕ) → length js ≤ n → TakenTo js old new f n → IsTakenOver js old new f
 taken_to_end js old new f n all so_far = record { listed = λ place within. so_far.listed place (omega (arith, all, within)); others = so_far.others }
 
-pub taken_more : (js : List ℕ) (old new : List ℚ) (f : ℕ → ℚ) (n : ℕ) (v : ℚ) → AreNumbers (length new) js → n < length js → v ≡ f (get_or js n 0) → TakenTo js old new f n → TakenTo js old (set new (get_or js n 0 - 1) v) f (n + 1)
+pub taken_more : (js : List ℕ) (old new : List ℚ) (f : ℕ → ℚ) (n : ℕ) (v : ℚ) → AreNumbers (length new) js → n < length js → v ≡ f (get_or js n 0) →
+    TakenTo js old new f n → TakenTo js old (set new (get_or js n 0 - 1) v) f (n + 1)
 taken_more js old new f n v numbers within is_v so_far = record {
   listed = below_more (λ place. value_at (set new (j - 1) v) (get_or js place 0) ≡ f (get_or js place 0)) n
       (λ place below. at (get_or js place 0) (numbers place (omega arith)).0 (eqb_tells (get_or js place 0) j) (so_far.listed place below))
@@ -104,24 +110,28 @@ taken_more js old new f n v numbers within is_v so_far = record {
     at i low (inl same) before = there i same.1
     at i low (inr apart) before = kept i low apart.1 ∙ before
 
-    other : (i : ℕ) → 1 ≤ i → ((eqb i j ≡ true) × (i ≡ j)) ⊎ ((eqb i j ≡ false) × (i ≢ j)) → (value_at new i ≡ f i) ⊎ (value_at new i ≡ value_at old i) → (value_at (set new (j - 1) v) i ≡ f i) ⊎ (value_at (set new (j - 1) v) i ≡ value_at old i)
+    other : (i : ℕ) → 1 ≤ i → ((eqb i j ≡ true) × (i ≡ j)) ⊎ ((eqb i j ≡ false) × (i ≢ j)) → (value_at new i ≡ f i) ⊎ (value_at new i ≡ value_at old i) →
+        (value_at (set new (j - 1) v) i ≡ f i) ⊎ (value_at (set new (j - 1) v) i ≡ value_at old i)
     other i low (inl same) before = inl (there i same.1)
     other i low (inr apart) (inl is) = inl (kept i low apart.1 ∙ is)
     other i low (inr apart) (inr is) = inr (kept i low apart.1 ∙ is)
 
 -- the basic of the line that a loop has
-pub basic_within : (lines : List Line) (size n : ℕ) (line : Line) → n < length lines → line ≡ get_or lines n line → AreNumbers size (basics_of lines) → (1 ≤ line.basic) × (line.basic ≤ size)
+pub basic_within : (lines : List Line) (size n : ℕ) (line : Line) → n < length lines → line ≡ get_or lines n line → AreNumbers size (basics_of lines) →
+    (1 ≤ line.basic) × (line.basic ≤ size)
 basic_within lines size n line within is_line numbers =
     let basic : Line → ℕ = λ (x : Line). x.basic in
     let is : get_or (basics_of lines) n 0 ≡ line.basic = get_or-map basic lines n line 0 within ∙ ap basic (sym is_line) in
     let listed : n < length (basics_of lines) = omega (arith, length-map lines basic, within) in
     subst (λ (k : ℕ). (1 ≤ k) × (k ≤ size)) is (numbers n listed)
 
-pub place_within : (lines : List Line) (size n : ℕ) (line : Line) → n < length lines → line ≡ get_or lines n line → All (HasPlaces size) lines → length line.rates.items ≡ size
+pub place_within : (lines : List Line) (size n : ℕ) (line : Line) → n < length lines → line ≡ get_or lines n line → All (HasPlaces size) lines →
+    length line.rates.items ≡ size
 place_within lines size n line within is_line places = ap (λ (x : Line). length x.rates.items) is_line ∙ (places n line within).places
 
 -- the same at the basic of one more line
-pub taken_line : (lines : List Line) (j : ℕ) (old new : List ℚ) (f : ℕ → ℚ) (n : ℕ) (line : Line) (v : ℚ) → n < length lines → line ≡ get_or lines n line → AreNumbers (length new) (basics_of lines) → HaveRatesAt j lines f → v ≡ value_at line.rates.items j
+pub taken_line : (lines : List Line) (j : ℕ) (old new : List ℚ) (f : ℕ → ℚ) (n : ℕ) (line : Line) (v : ℚ) → n < length lines → line ≡ get_or lines n line
+    → AreNumbers (length new) (basics_of lines) → HaveRatesAt j lines f → v ≡ value_at line.rates.items j
     → TakenTo (basics_of lines) old new f n → TakenTo (basics_of lines) old (set new (line.basic - 1) v) f (n + 1)
 taken_line lines j old new f n line v within is_line numbers have is_v so_far =
     let basic : Line → ℕ = λ (x : Line). x.basic in
@@ -132,7 +142,8 @@ taken_line lines j old new f n line v within is_line numbers have is_v so_far =
     (taken_more (basics_of lines) old new f n v numbers listed (is_v ∙ has_rate ∙ ap f (sym is_basic)) so_far)
 
 -- a rate that is 0 stands there already
-pub taken_zero : (lines : List Line) (j : ℕ) (old new : List ℚ) (f : ℕ → ℚ) (n : ℕ) (line : Line) → n < length lines → line ≡ get_or lines n line → AreNumbers (length old) (basics_of lines) → All (λ v. v ≡ zero_ℚ) old → HaveRatesAt j lines f
+pub taken_zero : (lines : List Line) (j : ℕ) (old new : List ℚ) (f : ℕ → ℚ) (n : ℕ) (line : Line) → n < length lines → line ≡ get_or lines n line
+    → AreNumbers (length old) (basics_of lines) → All (λ v. v ≡ zero_ℚ) old → HaveRatesAt j lines f
     → value_at line.rates.items j ≡ zero_ℚ → TakenTo (basics_of lines) old new f n → TakenTo (basics_of lines) old new f (n + 1)
 taken_zero lines j old new f n line within is_line numbers zeros have none so_far = record {
   listed = below_more (λ place. value_at new (get_or (basics_of lines) place 0) ≡ f (get_or (basics_of lines) place 0)) n so_far.listed

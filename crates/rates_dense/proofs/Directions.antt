@@ -40,13 +40,16 @@ module _ (a : Matrix) (b : Basics) (slots : List ℕ) (lines : List Line) (quoti
       direction = table.are_rates j nonbasic
 
       have : HaveRatesAt j lines d
-      have k e below = let is = table.each_line k e below in is.entries j nonbasic.0 ∙ ap (λ m. cond m zero_ℚ (table.rate (get_or lines k e).basic j)) nonbasic.1
+      have k e below =
+          let is = table.each_line k e below in is.entries j nonbasic.0 ∙ ap (λ m. cond m zero_ℚ (table.rate (get_or lines k e).basic j)) nonbasic.1
 
       taken : IsTakenOver (basics_of lines) zeros out d
       taken = written d have
 
       zero_there : (k : ℕ) → IsVariable a k → value_at zeros k ≡ zero_ℚ
-      zero_there k var = let within : k - 1 < size a = omega (arith, var.0, var.1) in ap (λ (xs : List ℚ). value_at xs k) are_zeros ∙ get_or-replicate (size a) (k - 1) zero_ℚ zero_ℚ within
+      zero_there k var =
+          let within : k - 1 < size a = omega (arith, var.0, var.1) in ap (λ (xs : List ℚ). value_at xs k) are_zeros
+          ∙ get_or-replicate (size a) (k - 1) zero_ℚ zero_ℚ within
 
       own : value_at (set out (j - 1) one) j ≡ one
       own = let within : j - 1 < length out = omega (arith, counted, nonbasic.0.0, nonbasic.0.1) in get_or-set_same out (j - 1) one zero_ℚ within
@@ -69,7 +72,8 @@ module _ (a : Matrix) (b : Basics) (slots : List ℕ) (lines : List Line) (quoti
       elsewhere k var none (inl e) = e
       elsewhere k var none (inr e) = e ∙ zero_there k var ∙ sym none
 
-      at : (k : ℕ) → IsVariable a k → ((eqb k j ≡ true) × (k ≡ j)) ⊎ ((eqb k j ≡ false) × (k ≢ j)) → (m : Bool) → is_in b k ≡ m → value_at (set out (j - 1) one) k ≡ d k
+      at : (k : ℕ) → IsVariable a k → ((eqb k j ≡ true) × (k ≡ j)) ⊎ ((eqb k j ≡ false) × (k ≢ j)) → (m : Bool) → is_in b k ≡ m →
+          value_at (set out (j - 1) one) k ≡ d k
       at k var (inl same) m is = ap (value_at (set out (j - 1) one)) same.1 ∙ own ∙ is_one ∙ sym direction.own ∙ ap d (sym same.1)
       at k var (inr other) true is = kept k var other.1 ∙ at_basic k (var, is)
       at k var (inr other) false is =

@@ -49,7 +49,8 @@ basic_kept p q quotients old new is other = at is.committed
 
 module _ (a : Matrix) (b : Basics) (slots : List ℕ) (lines : List Line) (quotients : List ℚ) (table : IsTableOf a b slots lines quotients) where
   -- only the workspace differs
-  pub table_kept : (now : List Line) (used : List ℚ) → length now ≡ length lines → length used ≡ length quotients → LineByLine SameRates lines now → IsTableOf a b slots now used
+  pub table_kept : (now : List Line) (used : List ℚ) → length now ≡ length lines → length used ≡ length quotients → LineByLine SameRates lines now →
+      IsTableOf a b slots now used
   table_kept now used counted room same = record {
     small = table.small;
     nonsingular = table.nonsingular;
@@ -100,7 +101,8 @@ module _ (a : Matrix) (b : Basics) (slots : List ℕ) (lines : List Line) (quoti
 
     module _ (used : List ℚ) (room : length used ≡ size a) (are : HoldsAt (λ leaver. AreQuotients p q leaver.rates.items used) lines slot) where
       -- the quotients of the leaver's line, whose default is any line
-      pub are_quotients : (d : Line) (k : ℕ) → IsVariable a k → value_at used k ≡ cond (eqb k p) one_ℚ (value_at (get_or lines slot d).rates.items k) /ℚ value_at (get_or lines slot d).rates.items q
+      pub are_quotients : (d : Line) (k : ℕ) → IsVariable a k →
+          value_at used k ≡ cond (eqb k p) one_ℚ (value_at (get_or lines slot d).rates.items k) /ℚ value_at (get_or lines slot d).rates.items q
       are_quotients d k var =
           let high : k ≤ length used = omega (arith, room, var.1) in
           filled_at used (quotient_at p q (get_or lines slot d).rates.items) (are d).filled k var.0 high
@@ -117,7 +119,8 @@ module _ (a : Matrix) (b : Basics) (slots : List ℕ) (lines : List Line) (quoti
           taken : (f : ℕ → ℚ) → IsTakenOver change.changed change.ready.rates.items new.rates.items f → (k : ℕ) → IsVariable a k
               → (value_at used k ≡ zero_ℚ → value_at change.ready.rates.items k ≡ f k) → value_at new.rates.items k ≡ f k
           taken f over k var kept =
-              taken_everywhere change.changed used change.ready.rates.items new.rates.items f change.are_changed (ready.places ∙ sym room) over k var.0 (omega (arith, room, var.1)) kept
+              taken_everywhere change.changed used change.ready.rates.items new.rates.items f change.are_changed (ready.places ∙ sym room) over k var.0
+              (omega (arith, room, var.1)) kept
 
           at_leaver : (i : ℕ) → line_entry b table.rate i p ≡ zero_ℚ
           at_leaver i = ap (λ m. cond m zero_ℚ (table.rate i p)) leaves.1
@@ -140,7 +143,8 @@ module _ (a : Matrix) (b : Basics) (slots : List ℕ) (lines : List Line) (quoti
             places = takes.same_places ∙ ready.places;
             room = takes.same_room ∙ ready.room;
             entries = λ k var.
-                let own : value_at change.ready.rates.items k ≡ leaver k = ready.entries k var ∙ ap (λ i. line_entry b table.rate i k) same ∙ sym (leaver_entry old k var) in
+                let own : value_at change.ready.rates.items k ≡ leaver k =
+                ready.entries k var ∙ ap (λ i. line_entry b table.rate i k) same ∙ sym (leaver_entry old k var) in
                 taken (entering_rate p q used) (takes.taken (entering_rate p q used) (change.is_ready.entering same)) k var
                 (λ none. own ∙ unchanged_entering p q (value_at used) leaver (leaver_entry old p leaves.0 ∙ at_leaver p) entering_apart k
                 (λ reported. zero_from_quotient (leaver k) (leaver q) pivot_apart (sym (quotient_is k var reported) ∙ none)) none)
@@ -148,13 +152,18 @@ module _ (a : Matrix) (b : Basics) (slots : List ℕ) (lines : List Line) (quoti
                 ∙ ap (λ i. line_entry (exchanged b p q) (exchanged_rate table.rate p q) i k) (sym now);
           }
           at (changed_line other apart now takes) = record {
-            is_basic = subst (λ k. IsBasic a (exchanged b p q) k) (sym now) (basic_stays a b counted table.rate table.are_rates p q leaves enters change.ready.basic ready.is_basic other);
+            is_basic =
+                subst (λ k. IsBasic a (exchanged b p q) k) (sym now)
+                (basic_stays a b counted table.rate table.are_rates p q leaves enters change.ready.basic ready.is_basic other);
             places = takes.same_places ∙ ready.places;
             room = takes.same_room ∙ ready.room;
             entries = λ k var.
-                taken (staying_rate p q used change.ready.rates.items) (takes.taken (staying_rate p q used change.ready.rates.items) (change.is_ready.staying other apart)) k var
-                (unchanged_entry p q (value_at used) (value_at change.ready.rates.items) (ready.entries p leaves.0 ∙ at_leaver change.ready.basic) entering_apart k)
-                ∙ staying_new a b counted table.rate table.are_rates p q leaves enters leaver (value_at used) (leaver_entry old) (are_quotients old) change.ready.basic (value_at change.ready.rates.items) ready.entries k var
+                taken (staying_rate p q used change.ready.rates.items)
+                (takes.taken (staying_rate p q used change.ready.rates.items) (change.is_ready.staying other apart)) k var
+                (unchanged_entry p q (value_at used) (value_at change.ready.rates.items)
+                (ready.entries p leaves.0 ∙ at_leaver change.ready.basic) entering_apart k)
+                ∙ staying_new a b counted table.rate table.are_rates p q leaves enters leaver (value_at used) (leaver_entry old)
+                (are_quotients old) change.ready.basic (value_at change.ready.rates.items) ready.entries k var
                 ∙ ap (λ i. line_entry (exchanged b p q) (exchanged_rate table.rate p q) i k) (sym now);
           }
           at (same_line other none now) = subst (λ (line : Line). IsLine a (exchanged b p q) (exchanged_rate table.rate p q) line) (sym now) (record {
@@ -163,10 +172,12 @@ module _ (a : Matrix) (b : Basics) (slots : List ℕ) (lines : List Line) (quoti
             room = ready.room;
             entries = λ k var.
                 untouched_entry p q (value_at used) (value_at change.ready.rates.items) (ready.entries p leaves.0 ∙ at_leaver change.ready.basic) none k
-                ∙ staying_new a b counted table.rate table.are_rates p q leaves enters leaver (value_at used) (leaver_entry old) (are_quotients old) change.ready.basic (value_at change.ready.rates.items) ready.entries k var;
+                ∙ staying_new a b counted table.rate table.are_rates p q leaves enters leaver (value_at used) (leaver_entry old)
+                (are_quotients old) change.ready.basic (value_at change.ready.rates.items) ready.entries k var;
           })
 
-      pub table_then : (now : List Line) → length now ≡ length lines → LineByLine (IsExchanged p q used) lines now → IsTableOf a (exchanged b p q) (set slots (q - 1) slot) now used
+      pub table_then : (now : List Line) → length now ≡ length lines → LineByLine (IsExchanged p q used) lines now →
+          IsTableOf a (exchanged b p q) (set slots (q - 1) slot) now used
       table_then now same change = record {
         small = table.small;
         nonsingular = nonsingular_then;
@@ -192,7 +203,8 @@ module _ (a : Matrix) (b : Basics) (slots : List ℕ) (lines : List Line) (quoti
                     ∙ basic_enters p q used (get_or lines slot d) (get_or now slot d) (change slot d slot_within) ((table.placed p leaves).own d);
               }
 
-          at : (k : ℕ) → IsBasic a (exchanged b p q) k → (((eqb k q ≡ true) × (k ≡ q)) ⊎ ((eqb k q ≡ false) × (k ≢ q))) → IsPlaced (set slots (q - 1) slot) now k
+          at : (k : ℕ) → IsBasic a (exchanged b p q) k → (((eqb k q ≡ true) × (k ≡ q)) ⊎ ((eqb k q ≡ false) × (k ≢ q))) →
+              IsPlaced (set slots (q - 1) slot) now k
           at k basic (inl is_q) = subst (λ n. IsPlaced (set slots (q - 1) slot) now n) (sym is_q.1) entered
           at k basic (inr not_q) =
               let before = basic_before a b counted table.rate table.are_rates p q leaves enters k basic not_q.1 in
@@ -203,6 +215,7 @@ module _ (a : Matrix) (b : Basics) (slots : List ℕ) (lines : List Line) (quoti
               record {
                 within = subst (λ n. n < length now) (sym is_slot) (omega (arith, same, was.within));
                 own = λ d. ap (λ n. (get_or now n d).basic) is_slot
-                    ∙ basic_kept p q used (get_or lines (get_or slots (k - 1) 0) d) (get_or now (get_or slots (k - 1) 0) d) (change (get_or slots (k - 1) 0) d was.within) (differs d)
+                    ∙ basic_kept p q used (get_or lines (get_or slots (k - 1) 0) d) (get_or now (get_or slots (k - 1) 0) d)
+                    (change (get_or slots (k - 1) 0) d was.within) (differs d)
                     ∙ was.own d;
               }

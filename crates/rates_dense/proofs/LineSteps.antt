@@ -12,7 +12,9 @@ pub some_line : (lines : List Line) (at : ℕ) → at < length lines → Line
 some_line [] at within = absurd (omega arith)
 some_line (line ∷ lines) at within = line
 
-pub some_refused : (p q : ℕ) (quotients : List ℚ) (lines : List Line) (slot : ℕ) (line : Line) (e : Evidence) → slot < length lines → ((d : Line) → get_or lines slot d ≡ line) → line.basic ≢ p → StayingRefused line.basic p q quotients line.rates.items e → SomeLineRefused p q quotients lines e
+pub some_refused : (p q : ℕ) (quotients : List ℚ) (lines : List Line) (slot : ℕ) (line : Line) (e : Evidence) → slot < length lines →
+    ((d : Line) → get_or lines slot d ≡ line) → line.basic ≢ p → StayingRefused line.basic p q quotients line.rates.items e →
+    SomeLineRefused p q quotients lines e
 some_refused p q quotients lines slot line e within is_line stays refused = record {
   slot = slot;
   within = within;

@@ -36,13 +36,16 @@ untouched_entry p q quotients old at_p at_q k = at (eqb_tells k q) (eqb_tells k 
     at (inl same) other = ap old same.1 ∙ at_q ∙ sym (ap (λ m. cond m zero_ℚ (cond (eqb k p) (quotients k *ℚ old q) (old k -ℚ quotients k *ℚ old q))) same.0)
     at (inr not_q) (inl same) =
         ap old same.1 ∙ at_p ∙ sym none
-        ∙ sym (ap (λ m. cond m zero_ℚ (cond (eqb k p) (quotients k *ℚ old q) (old k -ℚ quotients k *ℚ old q))) not_q.0 ∙ ap (λ m. cond m (quotients k *ℚ old q) (old k -ℚ quotients k *ℚ old q)) same.0)
+        ∙ sym (ap (λ m. cond m zero_ℚ (cond (eqb k p) (quotients k *ℚ old q) (old k -ℚ quotients k *ℚ old q))) not_q.0
+        ∙ ap (λ m. cond m (quotients k *ℚ old q) (old k -ℚ quotients k *ℚ old q)) same.0)
     at (inr not_q) (inr not_p) =
         sym (add-zero (old k)) ∙ ap (λ x. old k +ℚ x) (sym neg_zero) ∙ ap (λ x. old k -ℚ x) (sym none)
-        ∙ sym (ap (λ m. cond m zero_ℚ (cond (eqb k p) (quotients k *ℚ old q) (old k -ℚ quotients k *ℚ old q))) not_q.0 ∙ ap (λ m. cond m (quotients k *ℚ old q) (old k -ℚ quotients k *ℚ old q)) not_p.0)
+        ∙ sym (ap (λ m. cond m zero_ℚ (cond (eqb k p) (quotients k *ℚ old q) (old k -ℚ quotients k *ℚ old q))) not_q.0
+        ∙ ap (λ m. cond m (quotients k *ℚ old q) (old k -ℚ quotients k *ℚ old q)) not_p.0)
 
 -- nor does an entry change where the quotient is 0, which it is not at the entering variable
-pub unchanged_entry : (p q : ℕ) (quotients old : Vector) → old p ≡ zero_ℚ → quotients q ≢ zero_ℚ → (k : ℕ) → quotients k ≡ zero_ℚ → old k ≡ staying_entry p q quotients old k
+pub unchanged_entry : (p q : ℕ) (quotients old : Vector) → old p ≡ zero_ℚ → quotients q ≢ zero_ℚ → (k : ℕ) → quotients k ≡ zero_ℚ →
+    old k ≡ staying_entry p q quotients old k
 unchanged_entry p q quotients old at_p apart k none = at (eqb_tells k q) (eqb_tells k p)
   where
     nothing : zero_ℚ ≡ quotients k *ℚ old q
@@ -59,7 +62,8 @@ unchanged_entry p q quotients old at_p apart k none = at (eqb_tells k q) (eqb_te
         sym (add-zero (old k)) ∙ ap (λ x. old k +ℚ x) (sym neg_zero) ∙ ap (λ x. old k -ℚ x) nothing
         ∙ sym (ap (λ m. cond m (quotients k *ℚ old q) (old k -ℚ quotients k *ℚ old q)) not_p.0) ∙ past_entering not_q.0
 
-pub unchanged_entering : (p q : ℕ) (quotients leaver : Vector) → leaver p ≡ zero_ℚ → quotients q ≢ zero_ℚ → (k : ℕ) → (eqb k p ≡ false → leaver k ≡ zero_ℚ) → quotients k ≡ zero_ℚ → leaver k ≡ entering_entry p q quotients k
+pub unchanged_entering : (p q : ℕ) (quotients leaver : Vector) → leaver p ≡ zero_ℚ → quotients q ≢ zero_ℚ → (k : ℕ) → (eqb k p ≡ false → leaver k ≡ zero_ℚ) →
+    quotients k ≡ zero_ℚ → leaver k ≡ entering_entry p q quotients k
 unchanged_entering p q quotients leaver at_p apart k elsewhere none = at (eqb_tells k q) (eqb_tells k p)
   where
     past_entering : eqb k q ≡ false → cond (eqb k p) (quotients k) (neg_ℚ (quotients k)) ≡ entering_entry p q quotients k
@@ -72,7 +76,8 @@ unchanged_entering p q quotients leaver at_p apart k elsewhere none = at (eqb_te
     at (inr not_q) (inr not_p) =
         elsewhere not_p.0 ∙ sym neg_zero ∙ ap neg_ℚ (sym none) ∙ sym (ap (λ m. cond m (quotients k) (neg_ℚ (quotients k))) not_p.0) ∙ past_entering not_q.0
 
-module _ (a : Matrix) (b : Basics) (counted : length b ≡ size a) (rate : ℕ → ℕ → ℚ) (are : AreRates a b rate) (p q : ℕ) (leaves : IsBasic a b p) (enters : IsNonbasic a b q) where
+module _ (a : Matrix) (b : Basics) (counted : length b ≡ size a) (rate : ℕ → ℕ → ℚ) (are : AreRates a b rate) (p q : ℕ) (leaves : IsBasic a b p)
+    (enters : IsNonbasic a b q) where
   q_in : is_in (exchanged b p q) q ≡ true
   q_in = entering_in a b counted p q leaves enters
 
@@ -111,7 +116,8 @@ module _ (a : Matrix) (b : Basics) (counted : length b ≡ size a) (rate : ℕ �
   new_at_basic : (i k : ℕ) → IsVariable a k → is_in b k ≡ true → k ≢ p → k ≢ q → new_entry i k ≡ zero_ℚ
   new_at_basic i k var is_basic not_p not_q = ap (λ m. cond m zero_ℚ (exchanged_rate rate p q i k)) (stays k var not_p not_q ∙ is_basic)
 
-  new_at_nonbasic : (i k : ℕ) → IsVariable a k → is_in b k ≡ false → eqb k p ≡ false → k ≢ p → k ≢ q → new_entry i k ≡ rate i k -ℚ (rate p k /ℚ rate p q) *ℚ rate i q
+  new_at_nonbasic : (i k : ℕ) → IsVariable a k → is_in b k ≡ false → eqb k p ≡ false → k ≢ p → k ≢ q →
+      new_entry i k ≡ rate i k -ℚ (rate p k /ℚ rate p q) *ℚ rate i q
   new_at_nonbasic i k var out reported not_p not_q =
       ap (λ m. cond m zero_ℚ (exchanged_rate rate p q i k)) (stays k var not_p not_q ∙ out)
       ∙ ap (λ m. cond m ((one_ℚ /ℚ rate p q) *ℚ rate i q) (rate i k -ℚ (rate p k /ℚ rate p q) *ℚ rate i q)) reported
@@ -162,7 +168,8 @@ module _ (a : Matrix) (b : Basics) (counted : length b ≡ size a) (rate : ℕ �
               ∙ ap (λ x. x *ℚ old q) (quotient_at_leaver k var same.0) ∙ ap (λ x. (one_ℚ /ℚ rate p q) *ℚ x) factor ∙ sym (new_at_leaver i k same.0 same.1)
           at (inr not_q) (inr not_p) true is =
               past_both not_q.0 not_p.0 ∙ ap (λ x. old k -ℚ x *ℚ old q) (quotient_at_basic k var not_p.0 is) ∙ ap (λ x. old k -ℚ x) (zero-mul (old q))
-              ∙ ap (λ x. old k +ℚ x) neg_zero ∙ add-zero (old k) ∙ is_old k var ∙ ap (λ m. cond m zero_ℚ (rate i k)) is ∙ sym (new_at_basic i k var is not_p.1 not_q.1)
+              ∙ ap (λ x. old k +ℚ x) neg_zero ∙ add-zero (old k) ∙ is_old k var ∙ ap (λ m. cond m zero_ℚ (rate i k)) is
+              ∙ sym (new_at_basic i k var is not_p.1 not_q.1)
           at (inr not_q) (inr not_p) false is =
               past_both not_q.0 not_p.0 ∙ ap (λ x. x -ℚ quotients k *ℚ old q) (is_old k var ∙ ap (λ m. cond m zero_ℚ (rate i k)) is)
               ∙ ap (λ x. rate i k -ℚ x *ℚ old q) (quotient_at_nonbasic k var not_p.0 is) ∙ ap (λ x. rate i k -ℚ (rate p k /ℚ rate p q) *ℚ x) factor

@@ -25,7 +25,8 @@ written_then j u v old before after first then = record {
 }
 
 -- the number before those that are written
-pub written_more : (j : ℕ) (c : List Entry) (old now : List Line) (n later : ℕ) (e : Entry) (f after : Line) → n < length c → later ≡ n + 1 → e ≡ get_or c n e → IsNumberOf (length old) e.row
+pub written_more : (j : ℕ) (c : List Entry) (old now : List Line) (n later : ℕ) (e : Entry) (f after : Line) → n < length c → later ≡ n + 1 → e ≡ get_or c n e
+    → IsNumberOf (length old) e.row
     → IsWritten j e.value (get_or now (e.row - 1) f) after → AreWritten j (drop later c) old now → AreWritten j (drop n c) old (set now (e.row - 1) after)
 written_more j c old now n later e f after within is_later is_e number change so_far = record {
   counted = length-set now place after ∙ so_far.counted;
@@ -44,19 +45,25 @@ written_more j c old now n later e f after within is_later is_e number change so
     in_now : place < length now
     in_now = omega (arith, so_far.counted, number.0, number.1)
 
-    at : (slot : ℕ) (d : Line) → slot < length old → ((eqb slot place ≡ true) × (slot ≡ place)) ⊎ ((eqb slot place ≡ false) × (slot ≢ place)) → IsWritten j (on_row (drop n c) (slot + 1)) (get_or old slot d) (get_or (set now place after) slot d)
+    at : (slot : ℕ) (d : Line) → slot < length old → ((eqb slot place ≡ true) × (slot ≡ place)) ⊎ ((eqb slot place ≡ false) × (slot ≢ place)) →
+        IsWritten j (on_row (drop n c) (slot + 1)) (get_or old slot d) (get_or (set now place after) slot d)
     at slot d below (inl same) =
         let is_row : e.row ≡ slot + 1 = omega (arith, same.1, number.0) in
-        let number_there : e.value ≡ on_row (drop n c) (slot + 1) = sym (ap (λ (es : List Entry). on_row es (slot + 1)) is_list ∙ ap (λ m. cond m e.value (on_row (drop later c) (slot + 1))) (eq-eqb e.row (slot + 1) is_row)) in
+        let number_there : e.value ≡ on_row (drop n c) (slot + 1) =
+        sym (ap (λ (es : List Entry). on_row es (slot + 1)) is_list
+        ∙ ap (λ m. cond m e.value (on_row (drop later c) (slot + 1))) (eq-eqb e.row (slot + 1) is_row)) in
         let was : get_or now slot d ≡ get_or now place f = ap (λ m. get_or now m d) same.1 ∙ get_or_default now place d f in_now in
-        let is : after ≡ get_or (set now place after) slot d = sym (ap (λ m. get_or (set now place after) m d) same.1 ∙ get_or-set_same now place after d in_now) in
+        let is : after ≡ get_or (set now place after) slot d =
+        sym (ap (λ m. get_or (set now place after) m d) same.1 ∙ get_or-set_same now place after d in_now) in
         subst (λ (v : ℚ). IsWritten j v (get_or old slot d) (get_or (set now place after) slot d)) number_there
         (subst (λ (line : Line). IsWritten j e.value (get_or old slot d) line) is
         (written_then j (on_row (drop later c) (slot + 1)) e.value (get_or old slot d) (get_or now place f) after
         (subst (λ (line : Line). IsWritten j (on_row (drop later c) (slot + 1)) (get_or old slot d) line) was (so_far.each slot d below)) change))
     at slot d below (inr other) =
-        let apart : eqb e.row (slot + 1) ≡ false = elim (eqb_tells e.row (slot + 1)) [ inl same ↦ absurd (other.1 (omega (arith, same.1))) | inr differs ↦ differs.0 ] in
-        let number_there : on_row (drop later c) (slot + 1) ≡ on_row (drop n c) (slot + 1) = sym (ap (λ (es : List Entry). on_row es (slot + 1)) is_list ∙ ap (λ m. cond m e.value (on_row (drop later c) (slot + 1))) apart) in
+        let apart : eqb e.row (slot + 1) ≡ false =
+        elim (eqb_tells e.row (slot + 1)) [ inl same ↦ absurd (other.1 (omega (arith, same.1))) | inr differs ↦ differs.0 ] in
+        let number_there : on_row (drop later c) (slot + 1) ≡ on_row (drop n c) (slot + 1) =
+        sym (ap (λ (es : List Entry). on_row es (slot + 1)) is_list ∙ ap (λ m. cond m e.value (on_row (drop later c) (slot + 1))) apart) in
         let is : get_or now slot d ≡ get_or (set now place after) slot d = sym (get_or-set_other now place slot after d other.1) in
         subst (λ (v : ℚ). IsWritten j v (get_or old slot d) (get_or (set now place after) slot d)) number_there
         (subst (λ (line : Line). IsWritten j (on_row (drop later c) (slot + 1)) (get_or old slot d) line) is (so_far.each slot d below))
@@ -91,12 +98,14 @@ module _ (a : Matrix) where
           };
     }
       where
-        at : (slot : ℕ) (d : Line) → slot < a.rows → (k : ℕ) → IsVariable a k → ((eqb k j ≡ true) × (k ≡ j)) ⊎ ((eqb k j ≡ false) × (k ≢ j)) → value_at (get_or new slot d).rates.items k ≡ cond (leb k (a.rows + (m + 1))) (opening_entry a (slot + 1) k) zero_ℚ
+        at : (slot : ℕ) (d : Line) → slot < a.rows → (k : ℕ) → IsVariable a k → ((eqb k j ≡ true) × (k ≡ j)) ⊎ ((eqb k j ≡ false) × (k ≢ j)) →
+            value_at (get_or new slot d).rates.items k ≡ cond (leb k (a.rows + (m + 1))) (opening_entry a (slot + 1) k) zero_ℚ
         at slot d below k var (inl same) =
             let number : j - a.rows ≡ m + 1 = omega arith in
             let low : leb j (a.rows + (m + 1)) ≡ true = grind arith in
             let high : leb j a.rows ≡ false = grind arith in
-            let is : opening_entry a (slot + 1) j ≡ on_row (column a (m + 1)) (slot + 1) = ap (λ b. cond b zero_ℚ (entry a (slot + 1) (j - a.rows))) high ∙ ap (λ n. entry a (slot + 1) n) number in
+            let is : opening_entry a (slot + 1) j ≡ on_row (column a (m + 1)) (slot + 1) =
+            ap (λ b. cond b zero_ℚ (entry a (slot + 1) (j - a.rows))) high ∙ ap (λ n. entry a (slot + 1) n) number in
             subst (λ n. value_at (get_or new slot d).rates.items n ≡ cond (leb n (a.rows + (m + 1))) (opening_entry a (slot + 1) n) zero_ℚ) (sym same.1)
             ((written.each slot d (omega (arith, are.counted, below))).there ∙ sym is ∙ sym (ap (λ b. cond b (opening_entry a (slot + 1) j) zero_ℚ) low))
         at slot d below k var (inr other) =

@@ -11,7 +11,8 @@ use Rattle.rates_dense.specs.Opening.{opening_entry, IsOpeningLine, AreOpeningLi
 use Rattle.rates_dense.specs.Table.{IsLine, IsTableOf}
 use Rattle.rates_dense.proofs.Fills.{filled_at}
 
-module _ (a : Matrix) (small : size a < 2 ^ 32) (slots : List ℕ) (lines : List Line) (room : List ℚ) (in_order : AreInOrder (size a) slots) (are : AreOpeningLines a a.rows lines) (counted : length room ≡ size a) where
+module _ (a : Matrix) (small : size a < 2 ^ 32) (slots : List ℕ) (lines : List Line) (room : List ℚ) (in_order : AreInOrder (size a) slots)
+    (are : AreOpeningLines a a.rows lines) (counted : length room ≡ size a) where
   -- a row's line, at its slot
   line_is : (k : ℕ) (d : Line) → k < length lines → IsOpeningLine a (k + 1) (get_or lines k d)
   line_is k d below = are.each k d (omega (arith, are.counted, below))
@@ -44,7 +45,8 @@ module _ (a : Matrix) (small : size a < 2 ^ 32) (slots : List ℕ) (lines : List
       row : leb (k + 1) a.rows ≡ true
       row = grind arith
 
-      at_entry : (j : ℕ) → IsVariable a j → (low : Bool) → leb j a.rows ≡ low → opening_entry a (k + 1) j ≡ cond (is_in (row_basics a) j) zero_ℚ (opening_rate a (k + 1) j)
+      at_entry : (j : ℕ) → IsVariable a j → (low : Bool) → leb j a.rows ≡ low →
+          opening_entry a (k + 1) j ≡ cond (is_in (row_basics a) j) zero_ℚ (opening_rate a (k + 1) j)
       at_entry j var low is = rw (is_in-row_basics a j var, row) refl
 
   pub opening_table : IsTableOf a (row_basics a) slots lines room

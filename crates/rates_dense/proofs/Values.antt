@@ -27,7 +27,8 @@ same_reported x y v b is h e = same_from_compare ((Equal-is (compare_ℚ x v)).0
 
 minus_one_apart : whole (negsuc 0) ≢ zero_ℚ
 minus_one_apart e =
-    one_apart (by_ring1 zero_ℚ (λ x. number (pos 1) ≐ number (negsuc 0) ⊗ number (negsuc 0)) refl ∙ ap (λ u. u *ℚ whole (negsuc 0)) e ∙ zero-mul (whole (negsuc 0)))
+    one_apart (by_ring1 zero_ℚ (λ x. number (pos 1) ≐ number (negsuc 0) ⊗ number (negsuc 0)) refl ∙ ap (λ u. u *ℚ whole (negsuc 0)) e
+    ∙ zero-mul (whole (negsuc 0)))
 
 pub times_minus_one : (x f : ℚ) → f ≡ whole (negsuc 0) → neg_ℚ x ≡ x *ℚ f
 times_minus_one x f e = by_ring1 x (λ x. opposite x ≐ x ⊗ number (negsuc 0)) refl ∙ ap (λ u. x *ℚ u) (sym e)

@@ -37,4 +37,5 @@ pub record IsTableOf (a : Matrix) (b : Basics) (slots : List ℕ) (lines : List 
 abbrev pub IsTable : Inside → Type 0
 IsTable a =
     let inverse = inverse_of a in
-    IsTableOf inverse.matrix inverse.basics a.slots.items a.lines.items a.quotients.items × (length a.changed.items ≡ size inverse.matrix) × (length a.changing.items ≡ length a.lines.items)
+    IsTableOf inverse.matrix inverse.basics a.slots.items a.lines.items a.quotients.items × (length a.changed.items ≡ size inverse.matrix) ×
+    (length a.changing.items ≡ length a.lines.items)

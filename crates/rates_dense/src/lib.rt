@@ -56,7 +56,8 @@ fn list_changing(lines: &[Line], exchange: &Exchange, changing: &mut [usize]) ->
     requires q_high { All (λ line. exchange.now.q ≤ length line.rates.items) lines.now }
     requires room { length changing.old ≡ length lines.now }
     ensures within { result ≤ length lines.now }
-    ensures listed { AreChanging exchange.now.p exchange.now.q lines.now (take result changing.new) }
+    ensures listed { AreChanging exchange.now.p exchange.now.q lines.now
+        (take result changing.new) }
 {
     let mut count = 0;
     for (slot, line) in lines.iter().enumerate() {
@@ -84,8 +85,10 @@ fn prepare_lines(
     requires listed { length changed.now ≤ length quotients.now }
     requires places { All (HasPlaces (length quotients.now)) lines.old }
     ensures same { LineByLine SameRates lines.old lines.new }
-    ensures ready { OnOk result (All (IsReady exchange.now.p exchange.now.q quotients.now changed.now) lines.new) }
-    ensures refused { IfErr result (SomeLineRefused exchange.now.p exchange.now.q quotients.now lines.old) }
+    ensures ready { OnOk result
+        (All (IsReady exchange.now.p exchange.now.q quotients.now changed.now) lines.new) }
+    ensures refused { IfErr result
+        (SomeLineRefused exchange.now.p exchange.now.q quotients.now lines.old) }
 {
     for slot in changing {
         lines[*slot].prepare(exchange, quotients, changed)?;
@@ -107,7 +110,8 @@ fn commit_lines(
     requires variables { AreNumbers size changed.now }
     requires listed { length changed.now ≤ size }
     requires places { All (HasPlaces size) lines.old }
-    ensures { LineByLine (IsCommitted exchange.now.p exchange.now.q changed.now) lines.old lines.new }
+    ensures { LineByLine
+        (IsCommitted exchange.now.p exchange.now.q changed.now) lines.old lines.new }
 {
     for slot in changing {
         lines[*slot].commit(exchange, changed);
@@ -161,10 +165,12 @@ fn exchange_lines(
     requires slots { length changing.old ≡ length lines.old }
     requires places { All (HasPlaces (length quotients.old)) lines.old }
     requires slot { slot < length lines.old }
-    requires pivot { HoldsAt (λ leaver. value_at leaver.rates.items exchange.now.q ≢ zero_ℚ) lines.old slot }
+    requires pivot { HoldsAt
+        (λ leaver. value_at leaver.rates.items exchange.now.q ≢ zero_ℚ) lines.old slot }
     ensures quotients { OnOk result
         (HoldsAt (λ leaver. AreQuotients exchange.now.p exchange.now.q leaver.rates.items quotients.new) lines.old slot) }
-    ensures lines { OnOk result (LineByLine (IsExchanged exchange.now.p exchange.now.q quotients.new) lines.old lines.new) }
+    ensures lines { OnOk result
+        (LineByLine (IsExchanged exchange.now.p exchange.now.q quotients.new) lines.old lines.new) }
     ensures err { OnErr result (LineByLine SameRates lines.old lines.new) }
     ensures refused { IfErr result (LinesRefused exchange.now.p exchange.now.q lines.old slot) }
 {
@@ -235,7 +241,8 @@ impl Rates for Dense {
         ensures ok { OnOk result (self.new ≡ record self.old
             { basics = exchanged self.old.basics p q }) }
         ensures err { OnErr result (self.new ≡ self.old) }
-        ensures overflow { ExchangeOverflow result p q (table_state self.old) (table_state self.new) }
+        ensures overflow { ExchangeOverflow result p q (table_state self.old)
+            (table_state self.new) }
 
         // an overflow by a formula of this exchange, at the present basics; memory never runs out
         ensures own { IfErr result (IsOwnOverflow p q) }

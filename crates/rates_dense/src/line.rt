@@ -202,7 +202,8 @@ pub fn fill_quotients(
     requires room { length quotients.old ≡ length rates.now }
     requires list { length changed.old ≡ length rates.now }
     requires pivot { value_at rates.now exchange.now.q ≢ zero_ℚ }
-    ensures filled { OnOk result (IsFilled quotients.new (quotient_at exchange.now.p exchange.now.q rates.now)) }
+    ensures filled { OnOk result
+        (IsFilled quotients.new (quotient_at exchange.now.p exchange.now.q rates.now)) }
     ensures within { IfOk result (λ count. count ≤ length quotients.new) }
     ensures listed { IfOk result (λ count. AreChanged (take count changed.new) quotients.new) }
     ensures refused { IfErr result (QuotientRefused exchange.now.p exchange.now.q rates.now) }
@@ -231,7 +232,8 @@ pub fn fill_quotients(
 fn fill_entering(exchange: &Exchange, quotients: &[Frac], changed: &[u32], next: &mut [Frac])
     requires variables { AreNumbers (length quotients.now) changed.now }
     requires room { length changed.now ≤ length next.old }
-    ensures { IsFilledAt changed.now next.new (entering_rate exchange.now.p exchange.now.q quotients.now) }
+    ensures { IsFilledAt changed.now next.new
+        (entering_rate exchange.now.p exchange.now.q quotients.now) }
 {
     let Exchange { p, q } = *exchange;
     for (place, number) in changed.iter().enumerate() {
@@ -263,7 +265,8 @@ fn fill_staying(
     requires room { length changed.now ≤ length next.old }
     ensures filled { OnOk result (IsFilledAt changed.now next.new
         (staying_rate exchange.now.p exchange.now.q quotients.now rates.now)) }
-    ensures refused { IfErr result (StayingRefused i exchange.now.p exchange.now.q quotients.now rates.now) }
+    ensures refused { IfErr result
+        (StayingRefused i exchange.now.p exchange.now.q quotients.now rates.now) }
 {
     let Exchange { p, q } = *exchange;
     let factor = rates[q as usize - 1];
@@ -339,9 +342,11 @@ impl Line {
         requires places { length self.old.rates.items ≡ length quotients.now }
         requires room { length self.old.next.items ≡ length quotients.now }
         ensures same { SameRates self.old self.new }
-        ensures ready { OnOk result (IsReady exchange.now.p exchange.now.q quotients.now changed.now self.new) }
+        ensures ready { OnOk result
+            (IsReady exchange.now.p exchange.now.q quotients.now changed.now self.new) }
         ensures stays { OnErr result (self.old.basic ≢ exchange.now.p) }
-        ensures refused { IfErr result (StayingRefused self.old.basic exchange.now.p exchange.now.q quotients.now
+        ensures refused { IfErr result
+            (StayingRefused self.old.basic exchange.now.p exchange.now.q quotients.now
             self.old.rates.items) }
     {
         if self.basic == exchange.p {

@@ -17,9 +17,11 @@ pub same_marks : (b g : Basics) → length b ≡ length g → ((i : ℕ) → get
 same_marks [] [] same within count = refl
 same_marks [] (y ∷ ys) same within count = absurd (omega (arith, same))
 same_marks (x ∷ xs) [] same within count = absurd (omega (arith, same))
-same_marks (true ∷ xs) (true ∷ ys) same within count = ap (λ ms. true ∷ ms) (same_marks xs ys (omega (arith, same)) (λ i h. within (suc i) h) (omega (arith, count)))
+same_marks (true ∷ xs) (true ∷ ys) same within count =
+    ap (λ ms. true ∷ ms) (same_marks xs ys (omega (arith, same)) (λ i h. within (suc i) h) (omega (arith, count)))
 same_marks (true ∷ xs) (false ∷ ys) same within count = absurd (clash (sym (within 0 refl)))
-same_marks (false ∷ xs) (true ∷ ys) same within count = absurd (let rest = fewer_marks xs ys (omega (arith, same)) (λ i h. within (suc i) h) in omega (arith, rest, count))
+same_marks (false ∷ xs) (true ∷ ys) same within count =
+    absurd (let rest = fewer_marks xs ys (omega (arith, same)) (λ i h. within (suc i) h) in omega (arith, rest, count))
 same_marks (false ∷ xs) (false ∷ ys) same within count = ap (λ ms. false ∷ ms) (same_marks xs ys (omega (arith, same)) (λ i h. within (suc i) h) count)
 
 more_past : (b : Basics) (m i : ℕ) → m ≤ i → i < length b → get_or b i false ≡ false → marked (drop m (set b i true)) ≡ suc (marked (drop m b))
@@ -36,5 +38,6 @@ same_past (x ∷ ms) zero i before = absurd (omega arith)
 same_past (x ∷ ms) (suc m) zero before = refl
 same_past (x ∷ ms) (suc m) (suc i) before = same_past ms m i (omega arith)
 
-pub one_column_more : (b : Basics) (m p q : ℕ) → p < m → m ≤ q → q < length b → get_or b q false ≡ false → marked (drop m (set (set b q true) p false)) ≡ suc (marked (drop m b))
+pub one_column_more : (b : Basics) (m p q : ℕ) → p < m → m ≤ q → q < length b → get_or b q false ≡ false →
+    marked (drop m (set (set b q true) p false)) ≡ suc (marked (drop m b))
 one_column_more b m p q before after below out = same_past (set b q true) m p before ∙ more_past b m q after below out

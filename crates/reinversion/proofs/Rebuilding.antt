@@ -38,14 +38,17 @@ rebuilt_start a b g same are none = record {
       let few = columns_at_most a [] (row_basics a) refl in
       let zero_few : basic_columns a (row_basics a) ≤ 0 = few in
       ap length none ∙ (let e : 0 ≡ basic_columns a (row_basics a) = omega (arith, zero_few) in e) ∙ ap (basic_columns a) (sym are);
-  ways = subst (λ ws. All (λ w. HasColumnsWithin a w b) ws) (sym (ap (λ (x : Matrix). prefixes (row_basics x) g.etas) same ∙ ap (prefixes (row_basics a)) none)) only;
+  ways =
+      subst (λ ws. All (λ w. HasColumnsWithin a w b) ws)
+      (sym (ap (λ (x : Matrix). prefixes (row_basics x) g.etas) same ∙ ap (prefixes (row_basics a)) none)) only;
 }
   where
     only : All (λ w. HasColumnsWithin a w b) (row_basics a ∷ [])
     only k d below = let first : 0 ≡ k = omega arith in subst (λ n. HasColumnsWithin a (get_or (row_basics a ∷ []) n d) b) first (rows_within a b)
 
 -- one column more is in, if it is basic
-pub next_column : (a : Matrix) (b : Basics) (c : ℕ) (g : Inverse) → (is_in b (a.rows + (c + 1)) ≡ true → is_in g.basics (a.rows + (c + 1)) ≡ true) → IsRebuilt a b c g → IsRebuilt a b (c + 1) g
+pub next_column : (a : Matrix) (b : Basics) (c : ℕ) (g : Inverse) → (is_in b (a.rows + (c + 1)) ≡ true → is_in g.basics (a.rows + (c + 1)) ≡ true) →
+    IsRebuilt a b c g → IsRebuilt a b (c + 1) g
 next_column a b c g enters h = record {
   same_matrix = h.same_matrix;
   within = h.within;
@@ -54,7 +57,8 @@ next_column a b c g enters h = record {
   ways = h.ways;
 }
   where
-    at : (j : ℕ) → j ≤ a.rows + (c + 1) → IsVariable a j → is_in b j ≡ true → (((eqb j (a.rows + (c + 1)) ≡ true) × (j ≡ a.rows + (c + 1))) ⊎ ((eqb j (a.rows + (c + 1)) ≡ false) × (j ≢ a.rows + (c + 1)))) → is_in g.basics j ≡ true
+    at : (j : ℕ) → j ≤ a.rows + (c + 1) → IsVariable a j → is_in b j ≡ true →
+        (((eqb j (a.rows + (c + 1)) ≡ true) × (j ≡ a.rows + (c + 1))) ⊎ ((eqb j (a.rows + (c + 1)) ≡ false) × (j ≢ a.rows + (c + 1)))) → is_in g.basics j ≡ true
     at j low is basic (inl same) = ap (is_in g.basics) same.1 ∙ enters (ap (is_in b) (sym same.1) ∙ basic)
     at j low is basic (inr other) = h.all_in j (omega (arith, low, other.1)) is basic
 
@@ -69,8 +73,10 @@ no_columns a b c g h = record {
 }
 
 -- a column that enters
-module _ (a : Matrix) (b : Basics) (c : ℕ) (g f : Inverse) (p : ℕ) (column : IsColumn a c) (basic : is_in b (a.rows + c) ≡ true) (enters_out : is_in g.basics (a.rows + c) ≡ false) (counted_g : length g.basics ≡ size a)
-    (row : IsRow a p) (leaves : is_in g.basics p ≡ true) (out : is_in b p ≡ false) (are : g.basics ≡ after (row_basics g.matrix) g.etas) (more : IsAppended g p (a.rows + c) f) where
+module _ (a : Matrix) (b : Basics) (c : ℕ) (g f : Inverse) (p : ℕ) (column : IsColumn a c) (basic : is_in b (a.rows + c) ≡ true)
+    (enters_out : is_in g.basics (a.rows + c) ≡ false) (counted_g : length g.basics ≡ size a)
+    (row : IsRow a p) (leaves : is_in g.basics p ≡ true) (out : is_in b p ≡ false) (are : g.basics ≡ after (row_basics g.matrix) g.etas)
+    (more : IsAppended g p (a.rows + c) f) where
   variable : IsVariable a (a.rows + c)
   variable = (omega (arith, column.0), omega (arith, column.1))
 
@@ -81,7 +87,8 @@ module _ (a : Matrix) (b : Basics) (c : ℕ) (g f : Inverse) (p : ℕ) (column :
   entering_variable = (variable, enters_out)
 
   stays : (j : ℕ) → IsVariable a j → j ≢ p → j ≢ a.rows + c → is_in f.basics j ≡ is_in g.basics j
-  stays j is other_p other_k = ap (λ m. is_in m j) more.is_exchanged ∙ others_stay a g.basics counted_g p (a.rows + c) leaver entering_variable j is other_p other_k
+  stays j is other_p other_k =
+      ap (λ m. is_in m j) more.is_exchanged ∙ others_stay a g.basics counted_g p (a.rows + c) leaver entering_variable j is other_p other_k
 
   pub entered : is_in f.basics (a.rows + c) ≡ true
   entered = ap (λ m. is_in m (a.rows + c)) more.is_exchanged ∙ entering_in a g.basics counted_g p (a.rows + c) leaver entering_variable
@@ -101,12 +108,14 @@ module _ (a : Matrix) (b : Basics) (c : ℕ) (g f : Inverse) (p : ℕ) (column :
     within = within_then h.within;
     all_in = λ j low is inside. at j low is inside (eqb_tells j (a.rows + c));
     counted =
-        ap length more.one_more ∙ length-append g.etas (more.eta ∷ []) ∙ (let e : length g.etas + 1 ≡ suc (length g.etas) = omega arith in e) ∙ ap suc h.counted ∙ sym columns;
+        ap length more.one_more ∙ length-append g.etas (more.eta ∷ []) ∙ (let e : length g.etas + 1 ≡ suc (length g.etas) = omega arith in e) ∙ ap suc h.counted
+        ∙ sym columns;
     ways = subst (λ ws. All (λ w. HasColumnsWithin a w b) ws) (sym ways_then)
         (All-append (λ w. HasColumnsWithin a w b) (ways_of g) (f.basics ∷ []) h.ways last);
   }
     where
-      at : (j : ℕ) → j ≤ a.rows + n → IsVariable a j → is_in b j ≡ true → (((eqb j (a.rows + c) ≡ true) × (j ≡ a.rows + c)) ⊎ ((eqb j (a.rows + c) ≡ false) × (j ≢ a.rows + c))) → is_in f.basics j ≡ true
+      at : (j : ℕ) → j ≤ a.rows + n → IsVariable a j → is_in b j ≡ true →
+          (((eqb j (a.rows + c) ≡ true) × (j ≡ a.rows + c)) ⊎ ((eqb j (a.rows + c) ≡ false) × (j ≢ a.rows + c))) → is_in f.basics j ≡ true
       at j low is inside (inl same) = ap (is_in f.basics) same.1 ∙ entered
       at j low is inside (inr other) =
           let not_p : j ≢ p = λ e. clash (sym inside ∙ ap (is_in b) e ∙ out) in
@@ -115,20 +124,24 @@ module _ (a : Matrix) (b : Basics) (c : ℕ) (g f : Inverse) (p : ℕ) (column :
       columns : basic_columns a f.basics ≡ suc (basic_columns a g.basics)
       columns =
           ap (basic_columns a) more.is_exchanged ∙ sym (marked_is (drop a.rows (exchanged g.basics p (a.rows + c))))
-          ∙ one_column_more g.basics a.rows (p - 1) (a.rows + c - 1) (omega (arith, row.0, row.1)) (omega (arith, column.0)) (omega (arith, counted_g, column.0, column.1)) enters_out
+          ∙ one_column_more g.basics a.rows (p - 1) (a.rows + c - 1) (omega (arith, row.0, row.1)) (omega (arith, column.0))
+          (omega (arith, counted_g, column.0, column.1)) enters_out
           ∙ ap suc (marked_is (drop a.rows g.basics))
 
       ways_then : ways_of f ≡ ways_of g ++ (f.basics ∷ [])
       ways_then =
-          ap (λ (x : Matrix). prefixes (row_basics x) f.etas) more.same_matrix ∙ ap (prefixes (row_basics g.matrix)) more.one_more ∙ prefixes-append (row_basics g.matrix) g.etas more.eta
+          ap (λ (x : Matrix). prefixes (row_basics x) f.etas) more.same_matrix ∙ ap (prefixes (row_basics g.matrix)) more.one_more
+          ∙ prefixes-append (row_basics g.matrix) g.etas more.eta
           ∙ ap (λ w. ways_of g ++ (w ∷ []))
-          (ap (λ w. exchanged w more.eta.p more.eta.q) (sym are) ∙ ap (λ i. exchanged g.basics i more.eta.q) more.is_p ∙ ap (λ i. exchanged g.basics p i) more.is_q ∙ sym more.is_exchanged)
+          (ap (λ w. exchanged w more.eta.p more.eta.q) (sym are) ∙ ap (λ i. exchanged g.basics i more.eta.q) more.is_p
+          ∙ ap (λ i. exchanged g.basics p i) more.is_q ∙ sym more.is_exchanged)
 
       last : All (λ w. HasColumnsWithin a w b) (f.basics ∷ [])
       last k d below = let first : 0 ≡ k = omega arith in subst (λ i. HasColumnsWithin a (get_or (f.basics ∷ []) i d) b) first (within_then h.within)
 
 -- all columns are through
-pub rebuilt_all : (f g : Inverse) → IsNonsingular f.matrix f.basics → IsNonsingular g.matrix g.basics → (c : ℕ) → c ≡ f.matrix.cols → IsRebuilt f.matrix f.basics c g → IsRemade f g
+pub rebuilt_all : (f g : Inverse) → IsNonsingular f.matrix f.basics → IsNonsingular g.matrix g.basics → (c : ℕ) → c ≡ f.matrix.cols →
+    IsRebuilt f.matrix f.basics c g → IsRemade f g
 rebuilt_all f g one two c all h = record {
   same_matrix = h.same_matrix;
   same_basics = same;
@@ -157,7 +170,8 @@ rebuilt_all f g one two c all h = record {
             marked_below (m ∷ ms) (suc n) h = let rest = marked_below ms n h in omega (arith, rest)
 
 -- there is one that may leave
-pub some_leaver : (a : Matrix) (b : Basics) (c : ℕ) (g : Inverse) (xs : List ℚ) → IsNonsingular a b → IsColumn a c → is_in b (a.rows + c) ≡ true → IsRebuilt a b 0 g → IsDirectionOf a g.basics (a.rows + c) (value_at xs)
+pub some_leaver : (a : Matrix) (b : Basics) (c : ℕ) (g : Inverse) (xs : List ℚ) → IsNonsingular a b → IsColumn a c → is_in b (a.rows + c) ≡ true
+    → IsRebuilt a b 0 g → IsDirectionOf a g.basics (a.rows + c) (value_at xs)
     → ((p : ℕ) → IsRow a p → IsLeaver a b g.basics xs p → ⊥) → ⊥
 some_leaver a b c g xs one column basic h direction no_leaver =
     one_apart (sym direction.own ∙ one.only_zero (value_at xs) direction.keeps vanishes (a.rows + c) (omega (arith, column.0), omega (arith, column.1)))

@@ -60,7 +60,8 @@ last_same f g last same_matrix same_basics h = record {
 }
 
 -- what the fields keep where the file is made anew
-pub form_remade : (a b : Inside) → IsForm a → IsNonsingular a.file.matrix a.file.basics → IsRemade a.file b.file → b.last ≡ a.last → b.price ≡ a.price → b.since ≡ 0 → IsForm b
+pub form_remade : (a b : Inside) → IsForm a → IsNonsingular a.file.matrix a.file.basics → IsRemade a.file b.file → b.last ≡ a.last → b.price ≡ a.price →
+    b.since ≡ 0 → IsForm b
 form_remade a b h one remade same_last same_price none = record {
   price = same_price ∙ h.price ∙ ap size (sym remade.same_matrix);
   last = subst (λ (x : LastColumn). IsLast b.file x) (sym same_last) (last_same a.file b.file a.last remade.same_matrix remade.same_basics h.last);
@@ -75,10 +76,12 @@ form_remade a b h one remade same_last same_price none = record {
 
 -- what was due is done
 pub prepared : (f g : Form) (r : Reinverted) → f.since + 1 ≡ 50 → g.since ≡ 0 → g.file.matrix ≡ f.file.matrix → g.file.basics ≡ f.file.basics
-    → IfDone (length g.file.etas ≤ basic_columns g.file.matrix g.file.basics) r → IfKept (KeptRefused f.file.matrix f.file.basics) r → IfKept (λ _. g.file ≡ f.file) r → IsPrepared f g
+    → IfDone (length g.file.etas ≤ basic_columns g.file.matrix g.file.basics) r → IfKept (KeptRefused f.file.matrix f.file.basics) r
+    → IfKept (λ _. g.file ≡ f.file) r → IsPrepared f g
 prepared f g Done due none same_matrix same_basics done kept same =
     is_new due none
-    (subst (λ (a : Matrix). length g.file.etas ≤ basic_columns a f.file.basics) same_matrix (subst (λ (b : Basics). length g.file.etas ≤ basic_columns g.file.matrix b) same_basics done))
+    (subst (λ (a : Matrix). length g.file.etas ≤ basic_columns a f.file.basics) same_matrix
+    (subst (λ (b : Basics). length g.file.etas ≤ basic_columns g.file.matrix b) same_basics done))
 prepared f g (Kept e) due none same_matrix same_basics done kept same = is_refused due none same e kept
 
 pub prepared_few : (f g : Form) → IsPrepared f g → g.since + 1 < 50
@@ -86,6 +89,7 @@ prepared_few f g (not_due few same) = subst (λ (x : Form). x.since + 1 < 50) (s
 prepared_few f g (is_new due none short) = omega (arith, none)
 prepared_few f g (is_refused due none same e kept) = omega (arith, none)
 
-pub turn_is : (r : Result (Unit {0}) Stop) (f g h : Form) (p q : ℕ) → IsPrepared f g → OnOk r (IsAppended g.file p q h.file) → OnOk r (h.since ≡ g.since + 1) → OnOk r (IsTurn f h)
+pub turn_is : (r : Result (Unit {0}) Stop) (f g h : Form) (p q : ℕ) → IsPrepared f g → OnOk r (IsAppended g.file p q h.file) → OnOk r (h.since ≡ g.since + 1) →
+    OnOk r (IsTurn f h)
 turn_is (Ok x) f g h p q ready more counted = turn_after f g h p q ready more counted
 turn_is (Err e) f g h p q ready more counted = tt

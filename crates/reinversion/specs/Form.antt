@@ -41,7 +41,8 @@ pub data IsPrepared (f g : Form) : Type 0 where
 pub data IsTurn (f g : Form) : Type 0 where
   goes_on : f.since + 1 < 50 → g.since ≡ f.since + 1 → length g.file.etas ≡ length f.file.etas + 1 → IsTurn f g
   made_anew : f.since + 1 ≡ 50 → g.since ≡ 1 → length g.file.etas ≤ basic_columns f.file.matrix f.file.basics + 1 → IsTurn f g
-  stays_long : f.since + 1 ≡ 50 → g.since ≡ 1 → length g.file.etas ≡ length f.file.etas + 1 → (e : Evidence) → KeptRefused f.file.matrix f.file.basics e → IsTurn f g
+  stays_long : f.since + 1 ≡ 50 → g.since ≡ 1 → length g.file.etas ≡ length f.file.etas + 1 → (e : Evidence) → KeptRefused f.file.matrix f.file.basics e →
+      IsTurn f g
 
 -- the fact, if the reinversion was done
 abbrev pub IfDone : Type 0 → Reinverted → Type 0

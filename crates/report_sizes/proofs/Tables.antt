@@ -31,11 +31,14 @@ module _ (problem : Problem ℕ) (p : LinearProgram) where
 
   -- ---- SOLUTION
 
-  pub lines_of_solution_fit : (s : List Status) (point prices slack : List ℚ) → ((k : ℕ) → LimitFits (lower_of p k)) → ((k : ℕ) → LimitFits (upper_of p k)) → VectorFits (cost p) →
+  pub lines_of_solution_fit : (s : List Status) (point prices slack : List ℚ) → ((k : ℕ) → LimitFits (lower_of p k)) → ((k : ℕ) → LimitFits (upper_of p k)) →
+      VectorFits (cost p) →
       VectorFits (value_at point) → VectorFits (value_at prices) → VectorFits (value_at slack) → SolutionFits (solution_lines problem p s point prices slack)
   lines_of_solution_fit s point prices slack low high costs z y d = (
-    lines_fit problem (row_values p s point slack prices) (λ k. (tt, (z k, (d k, (limit_fits (lower_of p k) (low k), (limit_fits (upper_of p k) (high k), (y k, tt))))))) (numbers_from 1 p.rows),
-    lines_fit problem (column_values p s point prices) (λ k. (tt, (z k, (costs (k - p.rows), (limit_fits (lower_of p k) (low k), (limit_fits (upper_of p k) (high k), (y k, tt))))))) _,
+    lines_fit problem (row_values p s point slack prices)
+        (λ k. (tt, (z k, (d k, (limit_fits (lower_of p k) (low k), (limit_fits (upper_of p k) (high k), (y k, tt))))))) (numbers_from 1 p.rows),
+    lines_fit problem (column_values p s point prices)
+        (λ k. (tt, (z k, (costs (k - p.rows), (limit_fits (lower_of p k) (low k), (limit_fits (upper_of p k) (high k), (y k, tt))))))) _,
   )
 
 -- ---- intervals
@@ -44,6 +47,10 @@ pub intervals_fit : (sheet : Sheet) (parts : List ParaPart) → All PartFits par
 intervals_fit sheet [] fit = tt
 intervals_fit sheet (part ∷ parts) fit =
     let here : PartFits part = fit 0 part (search rules) in (
-      (here.to, lines_fit sheet.problem.now (part_values sheet.lp.now part) (λ k. (tt, (here.value k, (here.value_rate k, (here.price k, (here.price_rate k, tt)))))) (variables sheet.lp.now.matrix)),
+      (
+        here.to,
+        lines_fit sheet.problem.now (part_values sheet.lp.now part)
+            (λ k. (tt, (here.value k, (here.value_rate k, (here.price k, (here.price_rate k, tt)))))) (variables sheet.lp.now.matrix),
+      ),
       intervals_fit sheet parts (λ k d below. fit (suc k) d (search rules)),
     )

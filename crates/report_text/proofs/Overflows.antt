@@ -17,12 +17,16 @@ pub letters_mapped : {X : Type 0} (letter : X → ℕ) (items : List X) → flat
 letters_mapped letter [] = refl
 letters_mapped letter (x ∷ xs) = ap (λ rest. letter x ∷ rest) (letters_mapped letter xs)
 
-pub overflow_parts : (e : Evidence) (place : Option endings.Place) (card : ℕ) → concat (codes "STOP 20 OVERFLOW F" ∷ digits e.formula ∷ codes " " ∷ refused_text e.refused ∷ []) ++ (concat (evidence_tail e ∷ codes " CARD " ∷ digits card ∷ codes "\n" ∷ []) ++ place_text place) ≡ overflow_text (record { evidence = e; place = place; card = card })
+pub overflow_parts : (e : Evidence) (place : Option endings.Place) (card : ℕ) →
+    concat (codes "STOP 20 OVERFLOW F" ∷ digits e.formula ∷ codes " " ∷ refused_text e.refused ∷ []) ++
+    (concat (evidence_tail e ∷ codes " CARD " ∷ digits card ∷ codes "\n" ∷ []) ++ place_text place) ≡ overflow_text
+    (record { evidence = e; place = place; card = card })
 overflow_parts e None card = simp append_assoc
 overflow_parts e (Some place) card = simp (letters_mapped, append_assoc)
 
 -- a piece of the letters that are left, and then the others
-pub letters_in_pieces : {X : Type 0} (f : X → List ℕ) (done whole : List ℕ) (rest piece after : List X) → rest ≡ piece ++ after → done ++ flat_map f rest ≡ whole → (done ++ flat_map f piece) ++ flat_map f after ≡ whole
+pub letters_in_pieces : {X : Type 0} (f : X → List ℕ) (done whole : List ℕ) (rest piece after : List X) → rest ≡ piece ++ after →
+    done ++ flat_map f rest ≡ whole → (done ++ flat_map f piece) ++ flat_map f after ≡ whole
 letters_in_pieces f done whole rest piece after are all =
     append_assoc done (flat_map f piece) (flat_map f after) ∙ ap (λ t. done ++ t) (sym (ap (flat_map f) are ∙ flat_map-append f piece after)) ∙ all
 

@@ -19,21 +19,28 @@ use Rattle.listing_tables.specs.Lines.{line_of, part_values}
 use Rattle.listing_tables.specs.Tables.{line_view}
 use Rattle.report_text.specs.Parametric.{interval_view}
 
-pub chain_parts : (by : Solver) (chain : Chain) → concat (solver_text by ∷ codes " FROM " ∷ rational_text chain.from ∷ codes " CHANGE " ∷ chain.change ∷ codes "\n" ∷ []) ++ (flat_map interval_text (enumerate_from 1 chain.intervals) ++ chain_end_text by chain.end) ≡ chain_text by chain
+pub chain_parts : (by : Solver) (chain : Chain) →
+    concat (solver_text by ∷ codes " FROM " ∷ rational_text chain.from ∷ codes " CHANGE " ∷ chain.change ∷ codes "\n" ∷ []) ++
+    (flat_map interval_text (enumerate_from 1 chain.intervals) ++ chain_end_text by chain.end) ≡ chain_text by chain
 chain_parts by chain = simp (append_assoc, append-nil)
 
-pub interval_parts : (number : ℕ) (interval : ParametricInterval) → concat (codes "INTERVAL " ∷ digits number ∷ codes " FROM " ∷ rational_text interval.from ∷ codes " TO " ∷ rational_text interval.to ∷ codes "\n" ∷ []) ++ table_text interval.lines ≡ interval_text (number, interval)
+pub interval_parts : (number : ℕ) (interval : ParametricInterval) →
+    concat (codes "INTERVAL " ∷ digits number ∷ codes " FROM " ∷ rational_text interval.from ∷ codes " TO " ∷ rational_text interval.to ∷ codes "\n" ∷ []) ++ table_text interval.lines ≡ interval_text (number, interval)
 interval_parts number interval = simp (append_assoc, append-nil)
 
 -- the line of an end, and the lines after it
-pub unbounded_parts : (by : Solver) (past : ℚ) (lines : List Line) → concat (solver_text by ∷ codes " UNBOUNDED PAST " ∷ rational_text past ∷ codes "\n" ∷ []) ++ table_text lines ≡ chain_end_text by (UnboundedPast past lines)
+pub unbounded_parts : (by : Solver) (past : ℚ) (lines : List Line) →
+    concat (solver_text by ∷ codes " UNBOUNDED PAST " ∷ rational_text past ∷ codes "\n" ∷ []) ++ table_text lines ≡ chain_end_text by (UnboundedPast past lines)
 unbounded_parts by past lines = simp (append_assoc, append-nil)
 
-pub infeasible_parts : (by : Solver) (past : ℚ) (lines : List Line) → concat (solver_text by ∷ codes " INFEASIBLE PAST " ∷ rational_text past ∷ codes "\n" ∷ []) ++ table_text lines ≡ chain_end_text by (InfeasiblePast past lines)
+pub infeasible_parts : (by : Solver) (past : ℚ) (lines : List Line) →
+    concat (solver_text by ∷ codes " INFEASIBLE PAST " ∷ rational_text past ∷ codes "\n" ∷ []) ++ table_text lines ≡ chain_end_text by
+    (InfeasiblePast past lines)
 infeasible_parts by past lines = simp (append_assoc, append-nil)
 
 -- a line for each variable
-pub part_table : (sheet : Sheet) (last : ℕ) → last ≡ size sheet.lp.now.matrix → (part : Bor ParaPart) → flat_map (line_view sheet (Parts part)) (numbers_from 1 (last - 0)) ≡ table_text (interval_view sheet part.now).lines
+pub part_table : (sheet : Sheet) (last : ℕ) → last ≡ size sheet.lp.now.matrix → (part : Bor ParaPart) →
+    flat_map (line_view sheet (Parts part)) (numbers_from 1 (last - 0)) ≡ table_text (interval_view sheet part.now).lines
 part_table sheet last counted part =
     let count : last - 0 ≡ size sheet.lp.now.matrix = omega arith in
     ap (λ n. flat_map (line_view sheet (Parts part)) (numbers_from 1 n)) count
@@ -54,7 +61,8 @@ module _ {X Y : Type 0} (f : X → Y) (text : ℕ × Y → List ℕ) (xs : List 
   numbered_inside i inside = rw (length-enumerate_from 1 (map f xs), length-map xs f) inside
 
   -- one more of them
-  pub numbered_next : (i : ℕ) (d : X) → i < length xs → flat_map text (take i (enumerate_from 1 (map f xs))) ++ text (i + 1, f (get_or xs i d)) ≡ flat_map text (take (i + 1) (enumerate_from 1 (map f xs)))
+  pub numbered_next : (i : ℕ) (d : X) → i < length xs →
+      flat_map text (take i (enumerate_from 1 (map f xs))) ++ text (i + 1, f (get_or xs i d)) ≡ flat_map text (take (i + 1) (enumerate_from 1 (map f xs)))
   numbered_next i d inside =
       let all = enumerate_from 1 (map f xs) in
       ap (λ w. flat_map text (take i all) ++ w) (sym (numbered_at i d inside) ∙ sym (append-nil (text (get_or all i (0, f d)))))

@@ -14,7 +14,9 @@ use Rattle.listing_tables.specs.Lines.{line_of, row_values, column_values}
 use Rattle.listing_tables.specs.Tables.{HasLine, line_view}
 use Rattle.report_text.specs.Solutions.{IsSolution, lines_view, rows_heading, columns_heading}
 
-solution_parts : (mark : Mark) (lines : SolutionLines) → concat (codes "SOLUTION " ∷ mark_text mark ∷ codes "\n" ∷ []) ++ ((rows_heading ++ table_text lines.rows) ++ (columns_heading ++ table_text lines.columns)) ≡ solution_text mark lines
+solution_parts : (mark : Mark) (lines : SolutionLines) →
+    concat (codes "SOLUTION " ∷ mark_text mark ∷ codes "\n" ∷ []) ++
+    ((rows_heading ++ table_text lines.rows) ++ (columns_heading ++ table_text lines.columns)) ≡ solution_text mark lines
 solution_parts mark lines = simp (append_assoc, append-nil)
 
 module _ (sheet : Sheet) (standing : Standing) where
@@ -35,12 +37,17 @@ module _ (sheet : Sheet) (standing : Standing) where
   rows_are : rows_text ≡ rows_heading ++ table_text (lines_view sheet standing).rows
   rows_are =
       ap (λ w. rows_heading ++ w)
-      (sym (flat_map-map line_text (line_of sheet.problem.now (row_values sheet.lp.now standing.basis.now standing.point.now standing.slack.now standing.prices.now)) (numbers_from 1 sheet.lp.now.matrix.rows)))
+      (sym (flat_map-map line_text
+      (line_of sheet.problem.now (row_values sheet.lp.now standing.basis.now standing.point.now standing.slack.now standing.prices.now))
+      (numbers_from 1 sheet.lp.now.matrix.rows)))
 
   columns_are : columns_text ≡ columns_heading ++ table_text (lines_view sheet standing).columns
   columns_are =
       ap (λ w. columns_heading ++ w)
-      (sym (flat_map-map line_text (line_of sheet.problem.now (column_values sheet.lp.now standing.basis.now standing.point.now standing.prices.now)) (numbers_from (sheet.lp.now.matrix.rows + 1) sheet.lp.now.matrix.cols)))
+      (sym (flat_map-map line_text (line_of sheet.problem.now (column_values sheet.lp.now standing.basis.now standing.point.now standing.prices.now))
+      (numbers_from (sheet.lp.now.matrix.rows + 1) sheet.lp.now.matrix.cols)))
 
-  pub solution_written : (mark : Mark) → concat (codes "SOLUTION " ∷ mark_text mark ∷ codes "\n" ∷ []) ++ (rows_text ++ columns_text) ≡ solution_text mark (lines_view sheet standing)
-  solution_written mark = (λ i. concat (codes "SOLUTION " ∷ mark_text mark ∷ codes "\n" ∷ []) ++ (rows_are i ++ columns_are i)) ∙ solution_parts mark (lines_view sheet standing)
+  pub solution_written : (mark : Mark) →
+      concat (codes "SOLUTION " ∷ mark_text mark ∷ codes "\n" ∷ []) ++ (rows_text ++ columns_text) ≡ solution_text mark (lines_view sheet standing)
+  solution_written mark =
+      (λ i. concat (codes "SOLUTION " ∷ mark_text mark ∷ codes "\n" ∷ []) ++ (rows_are i ++ columns_are i)) ∙ solution_parts mark (lines_view sheet standing)

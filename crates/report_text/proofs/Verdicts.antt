@@ -18,26 +18,36 @@ use Rattle.listing_tables.specs.Tables.{line_view}
 use Rattle.listing_tables.proofs.Tables.{lines_kept}
 
 -- equal objectives are written alike
-pub same_objective : (by : Solver) (found : List ℕ) (steps : ℕ) (x y : ℚ) → x ≡ y → concat (solver_text by ∷ codes " " ∷ concat (found ∷ digits steps ∷ codes " OBJECTIVE " ∷ rational_text x ∷ []) ∷ []) ≡ concat (solver_text by ∷ codes " " ∷ concat (found ∷ digits steps ∷ codes " OBJECTIVE " ∷ rational_text y ∷ []) ∷ [])
-same_objective by found steps x y e = ap (λ v. concat (solver_text by ∷ codes " " ∷ concat (found ∷ digits steps ∷ codes " OBJECTIVE " ∷ rational_text v ∷ []) ∷ [])) e
+pub same_objective : (by : Solver) (found : List ℕ) (steps : ℕ) (x y : ℚ) → x ≡ y →
+    concat (solver_text by ∷ codes " " ∷ concat (found ∷ digits steps ∷ codes " OBJECTIVE " ∷ rational_text x ∷ []) ∷ []) ≡ concat
+    (solver_text by ∷ codes " " ∷ concat (found ∷ digits steps ∷ codes " OBJECTIVE " ∷ rational_text y ∷ []) ∷ [])
+same_objective by found steps x y e =
+    ap (λ v. concat (solver_text by ∷ codes " " ∷ concat (found ∷ digits steps ∷ codes " OBJECTIVE " ∷ rational_text v ∷ []) ∷ [])) e
 
 -- nothing stands after the number of a crossed variable
-pub crossed_head : (by : Solver) (number : ℕ) → concat (solver_text by ∷ codes " " ∷ concat (codes "INFEASIBLE STEPS 0 CROSSED " ∷ digits number ∷ [] ∷ []) ∷ []) ≡ concat (solver_text by ∷ codes " " ∷ verdict_head (CrossedAt number) ∷ [])
+pub crossed_head : (by : Solver) (number : ℕ) →
+    concat (solver_text by ∷ codes " " ∷ concat (codes "INFEASIBLE STEPS 0 CROSSED " ∷ digits number ∷ [] ∷ []) ∷ []) ≡ concat
+    (solver_text by ∷ codes " " ∷ verdict_head (CrossedAt number) ∷ [])
 crossed_head by number = ap (λ w. concat (solver_text by ∷ codes " " ∷ (codes "INFEASIBLE STEPS 0 CROSSED " ++ w) ∷ [])) (append-nil (digits number))
 
-pub verdict_parts : (by : Solver) (verdict : PathVerdict) (check : Check) → concat (solver_text by ∷ codes " " ∷ verdict_head verdict ∷ []) ++ (concat (codes " " ∷ check_text check ∷ codes "\n" ∷ []) ++ table_text (verdict_lines verdict)) ≡ verdict_text by verdict check
+pub verdict_parts : (by : Solver) (verdict : PathVerdict) (check : Check) →
+    concat (solver_text by ∷ codes " " ∷ verdict_head verdict ∷ []) ++
+    (concat (codes " " ∷ check_text check ∷ codes "\n" ∷ []) ++ table_text (verdict_lines verdict)) ≡ verdict_text by verdict check
 verdict_parts by verdict check = simp (append_assoc, append-nil)
 
 module _ (sheet : Sheet) (last : ℕ) (counted : last ≡ size sheet.lp.now.matrix) where
   all_of_them : last - 0 ≡ size sheet.lp.now.matrix
   all_of_them = omega arith
 
-  pub ray_table : (ray : Bor (List ℚ)) → flat_map (line_view sheet (Multipliers ray)) (numbers_from 1 (last - 0)) ≡ table_text (ray_lines sheet.problem.now sheet.lp.now ray.now)
+  pub ray_table : (ray : Bor (List ℚ)) →
+      flat_map (line_view sheet (Multipliers ray)) (numbers_from 1 (last - 0)) ≡ table_text (ray_lines sheet.problem.now sheet.lp.now ray.now)
   ray_table ray =
       ap (λ n. flat_map (line_view sheet (Multipliers ray)) (numbers_from 1 n)) all_of_them
-      ∙ lines_kept (λ k. not (eq_ℚ (value_at ray.now k) zero_ℚ)) (line_of sheet.problem.now (multiplier_values ray.now)) line_text (variables sheet.lp.now.matrix)
+      ∙ lines_kept (λ k. not (eq_ℚ (value_at ray.now k) zero_ℚ)) (line_of sheet.problem.now (multiplier_values ray.now)) line_text
+      (variables sheet.lp.now.matrix)
 
-  pub pair_table : (first second : Bor (List ℚ)) → flat_map (line_view sheet (Pairs first second)) (numbers_from 1 (last - 0)) ≡ table_text (pair_lines sheet.problem.now sheet.lp.now first.now second.now)
+  pub pair_table : (first second : Bor (List ℚ)) →
+      flat_map (line_view sheet (Pairs first second)) (numbers_from 1 (last - 0)) ≡ table_text (pair_lines sheet.problem.now sheet.lp.now first.now second.now)
   pair_table first second =
       ap (λ n. flat_map (line_view sheet (Pairs first second)) (numbers_from 1 n)) all_of_them
       ∙ sym (flat_map-map line_text (line_of sheet.problem.now (pair_values first.now second.now)) (variables sheet.lp.now.matrix))

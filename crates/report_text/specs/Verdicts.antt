@@ -30,7 +30,8 @@ abbrev pub verdict_view : Sheet → Outcome → PathVerdict
 verdict_view sheet (Optimal steps point prices) = OptimalAt steps (value_at point sheet.lp.now.objective)
 verdict_view sheet (Crossed k) = CrossedAt k
 verdict_view sheet (Infeasible steps ray) = InfeasibleBy steps (ray_lines sheet.problem.now sheet.lp.now ray)
-verdict_view sheet (Unbounded steps point direction) = UnboundedBy steps (value_at point sheet.lp.now.objective) (pair_lines sheet.problem.now sheet.lp.now point direction)
+verdict_view sheet (Unbounded steps point direction) =
+    UnboundedBy steps (value_at point sheet.lp.now.objective) (pair_lines sheet.problem.now sheet.lp.now point direction)
 
 -- a check that was refused nothing is made
 abbrev pub check_view : Option Refused → Check

@@ -39,7 +39,8 @@ ending_view (Code code) = endings.Ended code
 ending_view Words = endings.WordsRefused
 ending_view (Control fault card) = endings.ControlStop (record { number = fault; card = card })
 ending_view (Verb fault card) = endings.VerbStop (record { fault = fault; card = card })
-ending_view (SingularBasis card sheet dependency) = endings.SingularStop (record { card = card; lines = ray_lines sheet.problem.now sheet.lp.now dependency.now })
+ending_view (SingularBasis card sheet dependency) =
+    endings.SingularStop (record { card = card; lines = ray_lines sheet.problem.now sheet.lp.now dependency.now })
 ending_view (PricesWrong card variable) = endings.PriceStop (record { card = card; variable = variable })
 ending_view (Deck fault card number column) = endings.DeckStop (record { fault = fault; card = card; number = number; column = column })
 ending_view (Card fault) = endings.CardStop fault
@@ -91,7 +92,8 @@ text_view (BcdOut name cards) = report_text (reports.BcdOut name cards)
 text_view (BasisOut name cards) = report_text (reports.BasisOut name cards)
 text_view (Inserted name basic) = report_text (reports.Inserted name basic)
 text_view (Solved by sheet outcome refused) = report_text (reports.Solved by (verdict_view sheet outcome.now) (check_view refused))
-text_view (Solution mark sheet basis point prices slack) = report_text (reports.Solution mark (solution_lines sheet.problem.now sheet.lp.now basis.now point.now prices.now slack.now))
+text_view (Solution mark sheet basis point prices slack) =
+    report_text (reports.Solution mark (solution_lines sheet.problem.now sheet.lp.now basis.now point.now prices.now slack.now))
 text_view (Ranges sheet basis point report) = report_text (reports.Ranges (range_lines sheet.lp.now basis.now point.now report.now sheet.problem.now))
 text_view (Parametric by sheet change from to run) = report_text (reports.Parametric by (chain_view sheet change from to run.now))
 text_view (End ending) = ending_text (ending_view ending)

@@ -17,7 +17,8 @@ pub fn put_row_section<P: Sink>(
 ) -> Result<(), WriteStop>
     requires { (k : ℕ) → 0 < k → k ≤ sheet.lp.now.matrix.rows → HasLine sheet table k }
     ensures { Writes (P.taken print.old) (P.taken print.new) result (heading.now ++
-        flat_map (line_view sheet.entry table.entry) (numbers_from 1 sheet.entry.lp.now.matrix.rows)) }
+        flat_map (line_view sheet.entry table.entry)
+        (numbers_from 1 sheet.entry.lp.now.matrix.rows)) }
 {
     put_all(print, heading)?;
     put_table(print, sheet, table, 0, row_count(sheet.lp))
@@ -30,9 +31,11 @@ pub fn put_column_section<P: Sink>(
     sheet: Sheet<'_>,
     table: Table<'_>,
 ) -> Result<(), WriteStop>
-    requires { (k : ℕ) → sheet.lp.now.matrix.rows < k → k ≤ size sheet.lp.now.matrix → HasLine sheet table k }
+    requires { (k : ℕ) → sheet.lp.now.matrix.rows < k →
+        k ≤ size sheet.lp.now.matrix → HasLine sheet table k }
     ensures { Writes (P.taken print.old) (P.taken print.new) result (heading.now ++
-        flat_map (line_view sheet.entry table.entry) (numbers_from (sheet.entry.lp.now.matrix.rows + 1)
+        flat_map (line_view sheet.entry table.entry)
+        (numbers_from (sheet.entry.lp.now.matrix.rows + 1)
         sheet.entry.lp.now.matrix.cols)) }
 {
     put_all(print, heading)?;

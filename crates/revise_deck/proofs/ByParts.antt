@@ -15,8 +15,10 @@ bounds_by columns sets = map (group_by (bound_by (name_at (group_names columns))
 
 module _ (old : Problem ℕ) (rows : List (Row ℕ)) (columns rhs ranges : List (Group (Entry ℕ))) (bounds : List (Group (Bound ℕ))) (name : Name)
     (n : name ≡ old.name) (r : rows ≡ old.rows) (c : columns ≡ old.columns) (h : rhs ≡ old.rhs) (g : ranges ≡ old.ranges) (b : bounds ≡ old.bounds) where
-  pub named_by_parts : (named_rows : List (Row Name)) (named_columns named_rhs named_ranges : List (Group (Entry Name))) (named_bounds : List (Group (Bound Name)))
-      → named_rows ≡ rows_by rows rows → named_columns ≡ entries_by rows columns → named_rhs ≡ entries_by rows rhs → named_ranges ≡ entries_by rows ranges → named_bounds ≡ bounds_by columns bounds
+  pub named_by_parts : (named_rows : List (Row Name)) (named_columns named_rhs named_ranges : List (Group (Entry Name)))
+      (named_bounds : List (Group (Bound Name)))
+      → named_rows ≡ rows_by rows rows → named_columns ≡ entries_by rows columns → named_rhs ≡ entries_by rows rhs → named_ranges ≡ entries_by rows ranges
+      → named_bounds ≡ bounds_by columns bounds
       → record { name = name; rows = named_rows; columns = named_columns; rhs = named_rhs; ranges = named_ranges; bounds = named_bounds } ≡ by_names old
   unfolding by_names
   named_by_parts named_rows named_columns named_rhs named_ranges named_bounds rs cs hs gs bs = λ i. record {

@@ -19,27 +19,31 @@ use Rattle.revise_deck.specs.Different.{AreDifferentEntries, do_meet, AreDiffere
 -- ---- what a list has at a place
 
 -- what holds of all the elements that others stand for holds of one at a place
-pub each_at : {X Y : Type 0} (P : Y → Type 0) (f : X → Y) (xs : List X) (i : ℕ) (d x : X) → AllByRecursion P (map f xs) → i < length xs → x ≡ get_or xs i d → P (f x)
+pub each_at : {X Y : Type 0} (P : Y → Type 0) (f : X → Y) (xs : List X) (i : ℕ) (d x : X) → AllByRecursion P (map f xs) → i < length xs → x ≡ get_or xs i d →
+    P (f x)
 each_at P f [] i d x all below is = absurd (omega (arith, below))
 each_at P f (y ∷ xs) zero d x all below is = subst (λ z. P (f z)) (sym is) all.0
 each_at P f (y ∷ xs) (suc i) d x all below is = let inner : i < length xs = omega (arith, below) in each_at P f xs i d x all.1 inner is
 
 module _ {Y : Type 0} (alike : Y → Y → Bool) (turned : (a b : Y) → alike a b ≡ alike b a) where
   -- none before it is like it
-  pub none_before : {X : Type 0} (f : X → Y) (xs : List X) (i : ℕ) (d x : X) → IsDistinct alike (map f xs) → i < length xs → x ≡ get_or xs i d → list_any (λ y. alike (f x) (f y)) (take i xs) ≡ false
+  pub none_before : {X : Type 0} (f : X → Y) (xs : List X) (i : ℕ) (d x : X) → IsDistinct alike (map f xs) → i < length xs → x ≡ get_or xs i d →
+      list_any (λ y. alike (f x) (f y)) (take i xs) ≡ false
   unfolding IsDistinct
   none_before f xs zero d x distinct below is = refl
   none_before f [] (suc i) d x distinct below is = absurd (omega (arith, below))
   none_before f (y ∷ xs) (suc i) d x distinct below is =
       let inner : i < length xs = omega (arith, below) in
-      ap₂ (λ a b. a || b) (turned (f x) (f y) ∙ each_at (λ other. alike (f y) other ≡ false) f xs i d x distinct.0 inner is) (none_before f xs i d x distinct.1 inner is)
+      ap₂ (λ a b. a || b) (turned (f x) (f y) ∙ each_at (λ other. alike (f y) other ≡ false) f xs i d x distinct.0 inner is)
+      (none_before f xs i d x distinct.1 inner is)
 
 any-map : {X Y : Type 0} (p : Y → Bool) (f : X → Y) (xs : List X) → list_any p (map f xs) ≡ list_any (λ x. p (f x)) xs
 any-map p f [] = refl
 any-map p f (x ∷ xs) = ap (λ b. p (f x) || b) (any-map p f xs)
 
 -- a thing at a place has a name that none before it has
-pub name_is_new : {X Y : Type 0} (f : X → Y) (name_of : Y → Name) (xs : List X) (list : List Y) (i : ℕ) (d x : X) (y : Y) → IsDistinct same (map name_of (map f xs)) → i < length xs → x ≡ get_or xs i d → y ≡ f x → list ≡ map f (take i xs)
+pub name_is_new : {X Y : Type 0} (f : X → Y) (name_of : Y → Name) (xs : List X) (list : List Y) (i : ℕ) (d x : X) (y : Y)
+    → IsDistinct same (map name_of (map f xs)) → i < length xs → x ≡ get_or xs i d → y ≡ f x → list ≡ map f (take i xs)
     → list_any (λ other. same (name_of y) (name_of other)) list ≡ false
 name_is_new f name_of xs list i d x y distinct below is own before =
     ap₂ (λ z others. list_any (λ other. same (name_of z) (name_of other)) others) own before
@@ -47,7 +51,9 @@ name_is_new f name_of xs list i d x y distinct below is own before =
     ∙ none_before same same_sym (λ x. name_of (f x)) xs i d x (subst (IsDistinct same) (map-map name_of f xs) distinct) below is
 
 meet_turned : (a b : Bound Name) → do_meet a b ≡ do_meet b a
-meet_turned a b = by (same a.column b.column) (same b.column a.column) (touches_upper a.kind) (touches_upper b.kind) (touches_lower a.kind) (touches_lower b.kind) (same_sym a.column b.column)
+meet_turned a b =
+    by (same a.column b.column) (same b.column a.column) (touches_upper a.kind) (touches_upper b.kind) (touches_lower a.kind) (touches_lower b.kind)
+    (same_sym a.column b.column)
   where
     by : (s t au bu al bl : Bool) → s ≡ t → (s && (au && bu || al && bl)) ≡ (t && (bu && au || bl && al))
     by true true true true al bl e = refl
@@ -68,10 +74,12 @@ meet_turned a b = by (same a.column b.column) (same b.column a.column) (touches_
     by false true au bu al bl e = absurd (cc e)
 
 -- a bound at a place touches no end that one before it touches
-pub bound_is_new : {X : Type 0} (f : X → Bound Name) (xs : List X) (list : List (Bound Name)) (i : ℕ) (d x : X) (y : Bound Name) → AreDifferentBounds (map f xs) → i < length xs → x ≡ get_or xs i d → y ≡ f x → list ≡ map f (take i xs)
+pub bound_is_new : {X : Type 0} (f : X → Bound Name) (xs : List X) (list : List (Bound Name)) (i : ℕ) (d x : X) (y : Bound Name) → AreDifferentBounds (map f xs)
+    → i < length xs → x ≡ get_or xs i d → y ≡ f x → list ≡ map f (take i xs)
     → list_any (do_meet y) list ≡ false
 bound_is_new f xs list i d x y distinct below is own before =
-    ap₂ (λ z others. list_any (do_meet z) others) own before ∙ any-map (do_meet (f x)) f (take i xs) ∙ none_before do_meet meet_turned f xs i d x distinct below is
+    ap₂ (λ z others. list_any (do_meet z) others) own before ∙ any-map (do_meet (f x)) f (take i xs)
+    ∙ none_before do_meet meet_turned f xs i d x distinct below is
 
 -- ---- a lawful problem
 
@@ -83,8 +91,14 @@ different_parts before (row ∷ rows) are = (of row.parts are.0, different_parts
     of None are = tt
     of (Some parts) are = are.distinct
 
-different_groups : {X : Type 0} {N : Name → Type 0} (I J : List X → Type 0) → ((items : List X) → I items → J items) → (groups : List (Group X)) → AreGroups N I groups → AreDifferentGroups J groups
-different_groups {X} I J change groups are = record { names = are.distinct; items = each-change (λ (group : Group X). I group.items) (λ group. J group.items) (λ group is. change group.items is) groups are.items }
+different_groups : {X : Type 0} {N : Name → Type 0} (I J : List X → Type 0) → ((items : List X) → I items → J items) → (groups : List (Group X)) →
+    AreGroups N I groups → AreDifferentGroups J groups
+different_groups {X} I J change groups are =
+    record {
+      names = are.distinct;
+      items = each-change (λ (group : Group X). I group.items) (λ group. J group.items)
+          (λ group is. change group.items is) groups are.items;
+    }
 
 module _ (old : Problem ℕ) (lawful : IsProblem old) where
   known : IsLawful (by_names old)
@@ -96,16 +110,24 @@ module _ (old : Problem ℕ) (lawful : IsProblem old) where
 
   pub different_columns : AreDifferentGroups AreDifferentEntries (map (group_by (entry_by (name_at (row_names old)))) old.columns)
   unfolding by_names
-  different_columns = different_groups (AreColumnEntries (map (row_by (name_at (row_names old))) old.rows)) AreDifferentEntries (λ items are. are.entries_lawful.distinct) (map (group_by (entry_by (name_at (row_names old)))) old.columns) known.columns
+  different_columns =
+      different_groups (AreColumnEntries (map (row_by (name_at (row_names old))) old.rows)) AreDifferentEntries (λ items are. are.entries_lawful.distinct)
+      (map (group_by (entry_by (name_at (row_names old)))) old.columns) known.columns
 
   pub different_rhs : AreDifferentGroups AreDifferentEntries (map (group_by (entry_by (name_at (row_names old)))) old.rhs)
   unfolding by_names
-  different_rhs = different_groups (AreRightHandSides (map (row_by (name_at (row_names old))) old.rows)) AreDifferentEntries (λ items are. are.entries_lawful.distinct) (map (group_by (entry_by (name_at (row_names old)))) old.rhs) known.rhs
+  different_rhs =
+      different_groups (AreRightHandSides (map (row_by (name_at (row_names old))) old.rows)) AreDifferentEntries (λ items are. are.entries_lawful.distinct)
+      (map (group_by (entry_by (name_at (row_names old)))) old.rhs) known.rhs
 
   pub different_ranges : AreDifferentGroups AreDifferentEntries (map (group_by (entry_by (name_at (row_names old)))) old.ranges)
   unfolding by_names
-  different_ranges = different_groups (AreRanges (map (row_by (name_at (row_names old))) old.rows)) AreDifferentEntries (λ items are. are.entries_lawful.distinct) (map (group_by (entry_by (name_at (row_names old)))) old.ranges) known.ranges
+  different_ranges =
+      different_groups (AreRanges (map (row_by (name_at (row_names old))) old.rows)) AreDifferentEntries (λ items are. are.entries_lawful.distinct)
+      (map (group_by (entry_by (name_at (row_names old)))) old.ranges) known.ranges
 
   pub different_bounds : AreDifferentGroups AreDifferentBounds (map (group_by (bound_by (name_at (group_names old.columns)))) old.bounds)
   unfolding by_names
-  different_bounds = different_groups (AreBoundSets (map (group_by (entry_by (name_at (row_names old)))) old.columns)) AreDifferentBounds (λ items are. are.bounds_lawful.apart) (map (group_by (bound_by (name_at (group_names old.columns)))) old.bounds) known.bounds
+  different_bounds =
+      different_groups (AreBoundSets (map (group_by (entry_by (name_at (row_names old)))) old.columns)) AreDifferentBounds
+      (λ items are. are.bounds_lawful.apart) (map (group_by (bound_by (name_at (group_names old.columns)))) old.bounds) known.bounds

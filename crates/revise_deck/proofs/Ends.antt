@@ -47,21 +47,29 @@ module _ (old : Problem ℕ) (deck : List Card) (name : Option Name) where
   cards_fine fine = no_first (first_faulty (revise_card_fault (by_names old)) [] (live deck)) _ fine
 
 -- the revised problem, under a name, is a problem
-pub is_problem : (old : Problem ℕ) (deck : List Card) (own : Name) (problem : Problem Name) → IsProblem old → IsName own → ArePrintableCards deck → fault_by (revise_card_fault (by_names old)) deck ≡ None
+pub is_problem : (old : Problem ℕ) (deck : List Card) (own : Name) (problem : Problem Name) → IsProblem old → IsName own → ArePrintableCards deck
+    → fault_by (revise_card_fault (by_names old)) deck ≡ None
     → problem ≡ revised (by_names old) (live deck) → IsProblem (numbered (record problem { name = own }))
 is_problem old deck own problem lawful named printable fine is =
     subst (λ (p : Problem Name). IsProblem (numbered (record p { name = own }))) (sym is)
     (lawful-numbered (record (revised (by_names old) (live deck)) { name = own }) named
-    (renamed own (revised (by_names old) (live deck)) (revised-lawful (by_names old) (live deck) (named-lawful old lawful) (printable_live deck printable) (cards_fine old deck None fine))))
+    (renamed own (revised (by_names old) (live deck))
+    (revised-lawful (by_names old) (live deck) (named-lawful old lawful) (printable_live deck printable) (cards_fine old deck None fine))))
 
 -- and the revision gives it
-pub gives : (old : Problem ℕ) (deck : List Card) (name : Option Name) (own : Name) (viewed : Problem Name) (problem : Problem ℕ) → fault_by (revise_card_fault (by_names old)) deck ≡ None
-    → viewed ≡ revised (by_names old) (live deck) → own ≡ unwrap_or name (deck_name (live deck)) → problem ≡ numbered (record viewed { name = own }) → revision old deck name ≡ Ok problem
+pub gives : (old : Problem ℕ) (deck : List Card) (name : Option Name) (own : Name) (viewed : Problem Name) (problem : Problem ℕ)
+    → fault_by (revise_card_fault (by_names old)) deck ≡ None
+    → viewed ≡ revised (by_names old) (live deck) → own ≡ unwrap_or name (deck_name (live deck)) → problem ≡ numbered (record viewed { name = own })
+    → revision old deck name ≡ Ok problem
 gives old deck name own viewed problem fine is own_is problem_is =
     whole old deck name fine
-    ∙ ap (λ (p : Problem ℕ). Ok p) (ap (λ n. numbered (record (revised (by_names old) (live deck)) { name = n })) (sym own_is) ∙ ap (λ (p : Problem Name). numbered (record p { name = own })) (sym is) ∙ sym problem_is)
+    ∙ ap (λ (p : Problem ℕ). Ok p)
+    (ap (λ n. numbered (record (revised (by_names old) (live deck)) { name = n })) (sym own_is)
+    ∙ ap (λ (p : Problem Name). numbered (record p { name = own })) (sym is) ∙ sym problem_is)
 
 -- after no card
-pub nothing_read : (state : State) (problem : Problem Name) → state ≡ record { style = FixedFields; section = None; action = None; under = under_of [] []; problem = problem } → state ≡ state_of state.problem []
+pub nothing_read : (state : State) (problem : Problem Name) →
+    state ≡ record { style = FixedFields; section = None; action = None; under = under_of [] []; problem = problem } → state ≡ state_of state.problem []
 unfolding revised
-nothing_read state problem e = e ∙ ap (λ p. record { style = FixedFields; section = None; action = None; under = under_of [] []; problem = p }) (ap (λ (s : State). s.problem) (sym e))
+nothing_read state problem e =
+    e ∙ ap (λ p. record { style = FixedFields; section = None; action = None; under = under_of [] []; problem = p }) (ap (λ (s : State). s.problem) (sym e))

@@ -11,7 +11,8 @@ use Rattle.problem_definitions.specs.Names.{Name}
 use Rattle.problem_definitions.specs.Valid.{IsName}
 use Rattle.revise_definitions.specs.Actions.{short_name}
 
-text-passes : (P : List ℕ → Type 0) (all : List Word) (place : ℕ) → P [] → AllByRecursion (λ (word : Word). P word.text) all → P (unwrap_or (option_map (λ (word : Word). word.text) (slice_get all place)) [])
+text-passes : (P : List ℕ → Type 0) (all : List Word) (place : ℕ) → P [] → AllByRecursion (λ (word : Word). P word.text) all →
+    P (unwrap_or (option_map (λ (word : Word). word.text) (slice_get all place)) [])
 text-passes P [] place blank each = blank
 text-passes P (word ∷ all) zero blank each = each.0
 text-passes P (word ∷ all) (suc place) blank each = text-passes P all place blank each.1
@@ -21,10 +22,12 @@ pub word_text-is : (card : List ℕ) (place : ℕ) → list_all is_printable car
 word_text-is card place printable = text-passes IsWordText (words card) place refl (words-texts card printable)
 
 -- a word is a name where it isn't longer than names are
-pub short-name : (found : Option Name) (word : List ℕ) → IsWordText word → IsSome found ↔ IsName word → IfSome found (λ name. name ≡ word) → found ≡ short_name word
+pub short-name : (found : Option Name) (word : List ℕ) → IsWordText word → IsSome found ↔ IsName word → IfSome found (λ name. name ≡ word) →
+    found ≡ short_name word
 short-name None word is named value = by (nat_le (length word) 8) refl
   where
     by : (b : Bool) → nat_le (length word) 8 ≡ b → None ≡ cond b (Some word) None
-    by true short = absurd (cc (named.1 (record { short = leb-true (length word) 8 short; printable = word-printable word is; trimmed = word-trimmed word is })))
+    by true short =
+        absurd (cc (named.1 (record { short = leb-true (length word) 8 short; printable = word-printable word is; trimmed = word-trimmed word is })))
     by false long = refl
 short-name (Some name) word is named value = ap Some value ∙ ap (λ b. cond b (Some word) None) (sym (le-leb (length word) 8 (named.0 refl).short))

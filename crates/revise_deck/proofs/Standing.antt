@@ -7,10 +7,12 @@ use Rattle.deck_definitions.specs.Sections.{is_section}
 use Rattle.revise_deck.specs.State.{State, standing_fault, inner_fault}
 
 -- in a section with data cards
-pub standing : (state : State) (section : Section) (card : List ℕ) → state.section ≡ Some section → is_section Header section ≡ false → standing_fault state section card ≡ inner_fault state card
+pub standing : (state : State) (section : Section) (card : List ℕ) → state.section ≡ Some section → is_section Header section ≡ false →
+    standing_fault state section card ≡ inner_fault state card
 standing state section card stands e = by section e ∙ ap (λ o. inner_fault (record state { section = o }) card) (sym stands)
   where
-    by : (section : Section) → is_section Header section ≡ false → standing_fault state section card ≡ inner_fault (record state { section = Some section }) card
+    by : (section : Section) → is_section Header section ≡ false →
+        standing_fault state section card ≡ inner_fault (record state { section = Some section }) card
     by Header e = absurd (cc e)
     by Rows e = refl
     by Columns e = refl
@@ -20,7 +22,8 @@ standing state section card stands e = by section e ∙ ap (λ o. inner_fault (r
     by Endata e = refl
 
 -- directly after NAME
-pub out_of_order : (state : State) (section : Section) (card : List ℕ) → state.section ≡ Some section → is_section Header section ≡ true → inner_fault state card ≡ Some SectionOrder
+pub out_of_order : (state : State) (section : Section) (card : List ℕ) → state.section ≡ Some section → is_section Header section ≡ true →
+    inner_fault state card ≡ Some SectionOrder
 out_of_order state section card stands e = ap (λ o. inner_fault (record state { section = o }) card) stands ∙ by section e
   where
     by : (section : Section) → is_section Header section ≡ true → inner_fault (record state { section = Some section }) card ≡ Some SectionOrder

@@ -85,11 +85,21 @@ read_at state card = reading_of (form_on state.style (unwrap_or state.section He
 -- one more action card or data card
 abbrev pub inner_with : State → List ℕ → State
 inner_with state card =
-    if is_action_card state.style card then record state { action = action_on state.style card; under = under_of (unwrap_or (anchor_on state.style card) []) [] }
+    if is_action_card state.style card then record state {
+      action = action_on state.style card;
+      under = under_of
+          (unwrap_or (anchor_on state.style card) []) [];
+    }
     else record state { under = with_card_under state.under (read_at state card); problem = problem_with state (read_at state card) }
 
 -- one more card
 abbrev pub state_with : State → List ℕ → State
 state_with state card =
-    if is_section_card card then record state { style = unwrap_or (style_begun card) state.style; section = option_or (section_begun card) state.section; action = None; under = under_of [] [] }
+    if is_section_card card then record state {
+      style = unwrap_or (style_begun card) state.style;
+      section = option_or
+          (section_begun card) state.section;
+      action = None;
+      under = under_of [] [];
+    }
     else inner_with state card

@@ -131,7 +131,8 @@ impl ReviseDraft {
         card: Card<'_>,
     ) -> Result<(), CardStop<DeckFaultKind>>
         ensures no_fault { OnOk result
-            (action_fault self.old.problem section (action_on self.old.style (card_bytes card.entry))
+            (action_fault self.old.problem section
+            (action_on self.old.style (card_bytes card.entry))
             (anchor_on self.old.style (card_bytes card.entry)) ≡ None) }
         ensures step { OnOk result (state_view self.new ≡ record (state_view self.old) {
           action = action_on self.old.style (card_bytes card.entry);
@@ -139,7 +140,8 @@ impl ReviseDraft {
               (unwrap_or (anchor_on self.old.style (card_bytes card.entry)) []) [];
         }) }
         ensures stop { IfErr result (ReportsDeckFault
-            (action_fault self.old.problem section (action_on self.old.style (card_bytes card.entry))
+            (action_fault self.old.problem section
+            (action_on self.old.style (card_bytes card.entry))
             (anchor_on self.old.style (card_bytes card.entry)))) }
     {
         let action = action_of(card, self.style);

@@ -54,7 +54,8 @@ modified : rows_after ("ROWS" ∷ " MODIFY" ∷ " DG S A 2" ∷ " DL S COST 5 B 
 unfolding revised reading_of words
 modified = refl
 
-kind_modified : rows_after ("ROWS" ∷ " MODIFY" ∷ " DG S A 2" ∷ []) ≡ row N "COST" ∷ row L "A" ∷ row L "B" ∷ sum_row G "S" (entry "A" "2" ∷ entry "B" "1" ∷ []) ∷ []
+kind_modified : rows_after ("ROWS" ∷ " MODIFY" ∷ " DG S A 2" ∷ []) ≡ row N "COST" ∷ row L "A" ∷ row L "B" ∷ sum_row G "S"
+    (entry "A" "2" ∷ entry "B" "1" ∷ []) ∷ []
 unfolding revised reading_of words
 kind_modified = refl
 
@@ -91,7 +92,8 @@ second_pair_alone : (revised sums (fixed ("ROWS" ∷ " MODIFY" ∷ " DL S       
 unfolding revised reading_of
 second_pair_alone = refl
 
-second_number : revise_fault sums (fixed ("ROWS" ∷ " MODIFY" ∷ " DL S                                  B         1.2.3" ∷ "ENDATA" ∷ [])) ≡ found 4 (Number (BadCharacter 4) 53)
+second_number : revise_fault sums (fixed ("ROWS" ∷ " MODIFY" ∷ " DL S                                  B         1.2.3" ∷ "ENDATA" ∷ [])) ≡ found 4
+    (Number (BadCharacter 4) 53)
 unfolding revise_fault revise_card_fault revised reading_of number_fault
 second_number = refl
 
@@ -118,7 +120,8 @@ combination_deleted = refl
 
 -- cards one after another with one type and one name are of one combination
 inserted : rows_after ("ROWS" ∷ " BEFORE B" ∷ " DL U A 1" ∷ " DL U COST 0" ∷ " G V" ∷ " DN W V 1 U 2" ∷ [])
-    ≡ row N "COST" ∷ row L "A" ∷ sum_row L "U" (entry "A" "1" ∷ entry "COST" "0" ∷ []) ∷ row G "V" ∷ sum_row N "W" (entry "V" "1" ∷ entry "U" "2" ∷ []) ∷ row L "B" ∷ sum_row L "S" (entry "A" "1" ∷ entry "B" "1" ∷ []) ∷ []
+    ≡ row N "COST" ∷ row L "A" ∷ sum_row L "U" (entry "A" "1" ∷ entry "COST" "0" ∷ []) ∷ row G "V" ∷ sum_row N "W"
+    (entry "V" "1" ∷ entry "U" "2" ∷ []) ∷ row L "B" ∷ sum_row L "S" (entry "A" "1" ∷ entry "B" "1" ∷ []) ∷ []
 unfolding revised reading_of words
 inserted = refl
 
@@ -127,7 +130,8 @@ inserted_after : rows_after ("ROWS" ∷ " AFTER COST" ∷ " DL U COST 2" ∷ " D
 unfolding revised reading_of words
 inserted_after = refl
 
-lawful_insertions : faults ("ROWS" ∷ " BEFORE B" ∷ " DL U A 1" ∷ "* a remark" ∷ " DL U COST 0" ∷ " G V" ∷ " DN W V 1 U 2" ∷ " AFTER" ∷ " DE Z S 1 W 1" ∷ "ENDATA" ∷ []) ≡ None
+lawful_insertions : faults
+    ("ROWS" ∷ " BEFORE B" ∷ " DL U A 1" ∷ "* a remark" ∷ " DL U COST 0" ∷ " G V" ∷ " DN W V 1 U 2" ∷ " AFTER" ∷ " DE Z S 1 W 1" ∷ "ENDATA" ∷ []) ≡ None
 unfolding revise_fault revise_card_fault revised reading_of words number_fault
 lawful_insertions = refl
 
@@ -180,9 +184,18 @@ entry_deleted = refl
 -- the numbers of parts follow the edited order
 renumbered : revision (numbered sums) (of_deck ("ROWS" ∷ " BEFORE" ∷ " L NEW" ∷ "RANGES" ∷ " DELETE" ∷ " R" ∷ "ENDATA" ∷ [])) None ≡ Ok (record {
   name = [];
-  rows = row L "NEW" ∷ row N "COST" ∷ row L "A" ∷ row L "B" ∷ combination L (codes "S") (record { row = 3; value = decimal_of (codes "1") } ∷ record { row = 4; value = decimal_of (codes "1") } ∷ []) ∷ [];
-  columns = group "X" (record { row = 2; value = decimal_of (codes "-1") } ∷ record { row = 3; value = decimal_of (codes "1") } ∷ []) ∷ group "Y" (record { row = 2; value = decimal_of (codes "-1") } ∷ record { row = 4; value = decimal_of (codes "1") } ∷ []) ∷ [];
-  rhs = group "" (record { row = 3; value = decimal_of (codes "3") } ∷ record { row = 4; value = decimal_of (codes "3") } ∷ record { row = 5; value = decimal_of (codes "4") } ∷ []) ∷ [];
+  rows =
+      row L "NEW" ∷ row N "COST" ∷ row L "A" ∷ row L "B" ∷ combination L (codes "S")
+      (record { row = 3; value = decimal_of (codes "1") } ∷ record { row = 4; value = decimal_of (codes "1") } ∷ []) ∷ [];
+  columns =
+      group "X" (record { row = 2; value = decimal_of (codes "-1") } ∷ record { row = 3; value = decimal_of (codes "1") } ∷ []) ∷ group "Y"
+      (record { row = 2; value = decimal_of (codes "-1") } ∷ record { row = 4; value = decimal_of (codes "1") } ∷ []) ∷ [];
+  rhs =
+      group "" (record { row = 3; value = decimal_of (codes "3") } ∷ record { row = 4; value = decimal_of (codes "3") } ∷ record {
+        row = 5;
+        value = decimal_of
+            (codes "4");
+      } ∷ []) ∷ [];
   ranges = [];
   bounds = [];
 })

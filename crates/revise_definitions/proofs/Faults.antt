@@ -240,7 +240,8 @@ insert_column_goes_on : faults ("COLUMNS" ∷ " AFTER" ∷ "    V         COST  
 unfolding revise_fault revise_card_fault revised reading_of number_fault
 insert_column_goes_on = refl
 
-insert_column_under_next : faults ("COLUMNS" ∷ " AFTER" ∷ "    V         COST      1" ∷ " AFTER" ∷ "    V         LIM       1" ∷ "ENDATA" ∷ []) ≡ found 6 ColumnSplit
+insert_column_under_next : faults
+    ("COLUMNS" ∷ " AFTER" ∷ "    V         COST      1" ∷ " AFTER" ∷ "    V         LIM       1" ∷ "ENDATA" ∷ []) ≡ found 6 ColumnSplit
 unfolding revise_fault revise_card_fault revised reading_of number_fault
 insert_column_under_next = refl
 
@@ -249,7 +250,8 @@ unfolding revise_fault revise_card_fault revised reading_of number_fault
 insert_entry_twice = refl
 
 -- RHS and RANGES
-modify_sets : faults ("RHS" ∷ " MODIFY" ∷ "    B         LIM       1              LIM       2" ∷ "RANGES" ∷ " MODIFY" ∷ "    NEW       LIM       1" ∷ "ENDATA" ∷ []) ≡ None
+modify_sets : faults
+    ("RHS" ∷ " MODIFY" ∷ "    B         LIM       1              LIM       2" ∷ "RANGES" ∷ " MODIFY" ∷ "    NEW       LIM       1" ∷ "ENDATA" ∷ []) ≡ None
 unfolding revise_fault revise_card_fault revised reading_of number_fault
 modify_sets = refl
 

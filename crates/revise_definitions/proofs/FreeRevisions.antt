@@ -41,7 +41,8 @@ columns_edited : free ("COLUMNS" ∷ " BEFORE Y" ∷ " Z COST 3 LIM 4" ∷ " MOD
 unfolding revised reading_of words
 columns_edited = refl
 
-sets_edited : free ("RHS" ∷ " MODIFY" ∷ " LIM 9" ∷ " B COST 1" ∷ " DELETE" ∷ " B LIM" ∷ "RANGES" ∷ " DELETE" ∷ " R" ∷ "BOUNDS" ∷ " MODIFY" ∷ " FR BND Y" ∷ " UP X 7" ∷ " DELETE" ∷ " BND X" ∷ [])
+sets_edited : free
+    ("RHS" ∷ " MODIFY" ∷ " LIM 9" ∷ " B COST 1" ∷ " DELETE" ∷ " B LIM" ∷ "RANGES" ∷ " DELETE" ∷ " R" ∷ "BOUNDS" ∷ " MODIFY" ∷ " FR BND Y" ∷ " UP X 7" ∷ " DELETE" ∷ " BND X" ∷ [])
     ≡ fixed ("RHS" ∷ " MODIFY" ∷ "              LIM       9" ∷ "    B         COST      1" ∷ " DELETE" ∷ "    B         LIM" ∷ "RANGES" ∷ " DELETE" ∷ "    R" ∷ "BOUNDS" ∷ " MODIFY" ∷ " FR BND       Y" ∷ " UP           X         7" ∷ " DELETE" ∷ "    BND       X" ∷ [])
 unfolding revised reading_of words
 sets_edited = refl

@@ -30,14 +30,19 @@ put_entries-length (entry ∷ new) entries = omega (arith, put_entry-length entr
 module _ (seen : Problem Name) (section : Section) where
   -- the test of a pair after others
   abbrev after : List (Entry Name) → ℕ → List Pair → Pair → Option DeckFaultKind
-  after items count before pair = put_fault seen section (put_entries (map entry_of before) items) (count + (length (put_entries (map entry_of before) items) - length items)) pair
+  after items count before pair =
+      put_fault seen section (put_entries (map entry_of before) items) (count + (length (put_entries (map entry_of before) items) - length items)) pair
 
   -- the first pair is tested against the items that are there, and the others against what it leaves
   pub puts_fault-cons : (items : List (Entry Name)) (count : ℕ) (pair : Pair) (pairs : List Pair)
       → puts_fault seen section items count (pair ∷ pairs)
-      ≡ option_or (put_fault seen section items count pair) (puts_fault seen section (put_entry items (entry_of pair)) (count + (length (put_entry items (entry_of pair)) - length items)) pairs)
+      ≡ option_or (put_fault seen section items count pair)
+      (puts_fault seen section (put_entry items (entry_of pair)) (count + (length (put_entry items (entry_of pair)) - length items)) pairs)
   puts_fault-cons items count pair pairs =
-      ap₂ option_or first (ap first_fault (each_after-shift (after items count) (pair ∷ []) [] pairs ∙ each_after-same (λ before. after items count (pair ∷ before)) (after next (count + (length next - length items))) same_later [] pairs))
+      ap₂ option_or first
+      (ap first_fault
+      (each_after-shift (after items count) (pair ∷ []) [] pairs
+      ∙ each_after-same (λ before. after items count (pair ∷ before)) (after next (count + (length next - length items))) same_later [] pairs))
     where
       next : List (Entry Name)
       next = put_entry items (entry_of pair)
@@ -45,8 +50,10 @@ module _ (seen : Problem Name) (section : Section) where
       first : after items count [] pair ≡ put_fault seen section items count pair
       first = let none : count + (length items - length items) ≡ count = omega arith in ap (λ n. put_fault seen section items n pair) none
 
-      same_later : (before : List Pair) (other : Pair) → after items count (pair ∷ before) other ≡ after next (count + (length next - length items)) before other
+      same_later : (before : List Pair) (other : Pair) →
+          after items count (pair ∷ before) other ≡ after next (count + (length next - length items)) before other
       same_later before other =
-          let more : count + (length (put_entries (map entry_of before) next) - length items) ≡ count + (length next - length items) + (length (put_entries (map entry_of before) next) - length next)
+          let more : count + (length (put_entries (map entry_of before) next) - length items) ≡ count + (length next - length items) +
+          (length (put_entries (map entry_of before) next) - length next)
           = omega (arith, put_entry-length items (entry_of pair), put_entries-length (map entry_of before) next) in
           ap (λ n. put_fault seen section (put_entries (map entry_of before) next) n other) more

@@ -30,7 +30,8 @@ module _ {X : Type 0} (p : X → Bool) (xs : List X) (x : X) where
       long : length (xs ++ x ∷ []) ≡ length xs + 1
       long = length-append xs (x ∷ [])
 
-      by : (b : Bool) → drop (length (xs ++ x ∷ []) - cond (not b) (1 + suffix_len (λ y. not (p y)) xs) 0) (xs ++ x ∷ []) ≡ cond b [] (after_last p xs ++ x ∷ [])
+      by : (b : Bool) →
+          drop (length (xs ++ x ∷ []) - cond (not b) (1 + suffix_len (λ y. not (p y)) xs) 0) (xs ++ x ∷ []) ≡ cond b [] (after_last p xs ++ x ∷ [])
       by true =
           let all : length (xs ++ x ∷ []) ≤ length (xs ++ x ∷ []) - 0 = omega arith in
           drop_of_length-le (xs ++ x ∷ []) all
@@ -55,18 +56,22 @@ module _ (cards : List Card) (card : Card) where
   abbrev action_card_by : Style → List Card → Option Card
   action_card_by style cards = action_card (last_or None (filter (λ c. is_heading style c.bytes) cards))
 
-  action_card-step : (style : Style) → action_card_by style (cards ++ card ∷ []) ≡ cond (is_section_card card.bytes) None (cond (is_action_card style card.bytes) (Some card) (action_card_by style cards))
+  action_card-step : (style : Style) →
+      action_card_by style (cards ++ card ∷ []) ≡ cond (is_section_card card.bytes) None
+      (cond (is_action_card style card.bytes) (Some card) (action_card_by style cards))
   action_card-step style =
       ap action_card (last_passing-push (λ c. is_heading style c.bytes) cards card)
       ∙ by (is_section_card card.bytes) (is_action_card style card.bytes) (last_or None (filter (λ c. is_heading style c.bytes) cards)) refl
     where
-      by : (a b : Bool) (o : Option Card) → is_section_card card.bytes ≡ a → action_card (cond (a || b) (Some card) o) ≡ cond a None (cond b (Some card) (action_card o))
+      by : (a b : Bool) (o : Option Card) → is_section_card card.bytes ≡ a →
+          action_card (cond (a || b) (Some card) o) ≡ cond a None (cond b (Some card) (action_card o))
       by true b o e = rw e refl
       by false true o e = rw e refl
       by false false o e = refl
 
   -- The action card that holds after one more card is that card, where it is an action card, and none after a section card.
-  pub action_card_after-push : action_card_after (cards ++ card ∷ []) ≡ cond (is_section_card card.bytes) None (cond (is_action_card (style_of cards) card.bytes) (Some card) (action_card_after cards))
+  pub action_card_after-push : action_card_after (cards ++ card ∷ []) ≡ cond (is_section_card card.bytes) None
+      (cond (is_action_card (style_of cards) card.bytes) (Some card) (action_card_after cards))
   action_card_after-push = action_card-step (style_of (cards ++ card ∷ [])) ∙ same (is_section_card card.bytes) refl
     where
       same : (a : Bool) → is_section_card card.bytes ≡ a
@@ -76,8 +81,11 @@ module _ (cards : List Card) (card : Card) where
       same false plain = ap (λ style. cond (is_action_card style card.bytes) (Some card) (action_card_by style cards)) (style_of-data cards card plain)
 
   -- a data card changes the form of none
-  same-forms : is_section_card card.bytes ≡ false → is_action_card (style_of cards) card.bytes ≡ false → (c : List ℕ) → edit_form_of (cards ++ card ∷ []) c ≡ edit_form_of cards c
-  same-forms plain other c = λ i. form_on (style i) (unwrap_or (section i) Header) (unwrap_or (option_map deletes (option_and_then (λ d. action_on (style i) d.bytes) (held i))) false) c
+  same-forms : is_section_card card.bytes ≡ false → is_action_card (style_of cards) card.bytes ≡ false → (c : List ℕ) →
+      edit_form_of (cards ++ card ∷ []) c ≡ edit_form_of cards c
+  same-forms plain other c =
+      λ i. form_on (style i) (unwrap_or (section i) Header)
+      (unwrap_or (option_map deletes (option_and_then (λ d. action_on (style i) d.bytes) (held i))) false) c
     where
       style : style_of (cards ++ card ∷ []) ≡ style_of cards
       style = style_of-data cards card plain
@@ -94,27 +102,38 @@ module _ (cards : List Card) (card : Card) where
   abbrev under_by : Style → List Card → List Card
   under_by style cards = after_last (λ c. is_heading style c.bytes) cards
 
-  read_under-step : (style : Style) (form : List ℕ → Form) → read_under form (under_by style (cards ++ card ∷ [])) ≡ cond (is_heading style card.bytes) [] (read_under form (under_by style cards) ++ reading_of (form card.bytes) card.bytes ∷ [])
+  read_under-step : (style : Style) (form : List ℕ → Form) →
+      read_under form (under_by style (cards ++ card ∷ [])) ≡ cond (is_heading style card.bytes) []
+      (read_under form (under_by style cards) ++ reading_of (form card.bytes) card.bytes ∷ [])
   read_under-step style form = ap (read_under form) (after_last-push (λ c. is_heading style c.bytes) cards card) ∙ by (is_heading style card.bytes)
     where
-      by : (b : Bool) → read_under form (cond b [] (under_by style cards ++ card ∷ [])) ≡ cond b [] (read_under form (under_by style cards) ++ reading_of (form card.bytes) card.bytes ∷ [])
+      by : (b : Bool) →
+          read_under form (cond b [] (under_by style cards ++ card ∷ [])) ≡ cond b []
+          (read_under form (under_by style cards) ++ reading_of (form card.bytes) card.bytes ∷ [])
       by true = refl
       by false = map-append (λ c. reading_of (form c.bytes) c.bytes) (under_by style cards) (card ∷ [])
 
   -- The cards under an action begin anew after a section card or an action card.
-  pub under_after-push : under_after (cards ++ card ∷ []) ≡ cond (is_heading (style_of cards) card.bytes) [] (under_after cards ++ reading_of (edit_form_of cards card.bytes) card.bytes ∷ [])
-  under_after-push = read_under-step (style_of (cards ++ card ∷ [])) (edit_form_of (cards ++ card ∷ [])) ∙ by (is_section_card card.bytes) (is_action_card (style_of cards) card.bytes) refl refl
+  pub under_after-push : under_after (cards ++ card ∷ []) ≡ cond (is_heading (style_of cards) card.bytes) []
+      (under_after cards ++ reading_of (edit_form_of cards card.bytes) card.bytes ∷ [])
+  under_after-push =
+      read_under-step (style_of (cards ++ card ∷ [])) (edit_form_of (cards ++ card ∷ []))
+      ∙ by (is_section_card card.bytes) (is_action_card (style_of cards) card.bytes) refl refl
     where
       with_form : Style → (List ℕ → Form) → List Reading
       with_form style form = read_under form (under_by style cards) ++ reading_of (form card.bytes) card.bytes ∷ []
 
-      heading : (b : Bool) → is_section_card card.bytes ≡ false → is_action_card (style_of cards) card.bytes ≡ b → is_heading (style_of (cards ++ card ∷ [])) card.bytes ≡ b
+      heading : (b : Bool) → is_section_card card.bytes ≡ false → is_action_card (style_of cards) card.bytes ≡ b →
+          is_heading (style_of (cards ++ card ∷ [])) card.bytes ≡ b
       heading b plain action = rw (style_of-data cards card plain, plain) action
 
       by : (a b : Bool) → is_section_card card.bytes ≡ a → is_action_card (style_of cards) card.bytes ≡ b
-          → cond (is_heading (style_of (cards ++ card ∷ [])) card.bytes) [] (with_form (style_of (cards ++ card ∷ [])) (edit_form_of (cards ++ card ∷ []))) ≡ cond (a || b) [] (with_form (style_of cards) (edit_form_of cards))
+          → cond (is_heading (style_of (cards ++ card ∷ [])) card.bytes) []
+          (with_form (style_of (cards ++ card ∷ [])) (edit_form_of (cards ++ card ∷ []))) ≡ cond (a || b) []
+          (with_form (style_of cards) (edit_form_of cards))
       by true b section action = rw section refl
-      by false true plain action = ap (λ b. cond b [] (with_form (style_of (cards ++ card ∷ [])) (edit_form_of (cards ++ card ∷ [])))) (heading true plain action)
+      by false true plain action =
+          ap (λ b. cond b [] (with_form (style_of (cards ++ card ∷ [])) (edit_form_of (cards ++ card ∷ [])))) (heading true plain action)
       by false false plain other = λ i. cond (heading false plain other i) [] (with_form (style_of-data cards card plain i) (λ c. same-forms plain other c i))
 
 -- the problem after an edit, if there is one
@@ -123,9 +142,12 @@ with_edit None problem = problem
 with_edit (Some edit) problem = edited problem edit
 
 -- One more card edits the problem once, if it stands for an edit.
-pub revised-push : (old : Problem Name) (cards : List Card) (card : Card) → revised old (cards ++ card ∷ []) ≡ with_edit (edit_of cards card) (revised old cards)
+pub revised-push : (old : Problem Name) (cards : List Card) (card : Card) →
+    revised old (cards ++ card ∷ []) ≡ with_edit (edit_of cards card) (revised old cards)
 unfolding revised
-revised-push old cards card = ap (fold edited old) (gathered-push edit_of cards card) ∙ fold-append edited old (edits cards) (option_to_list (edit_of cards card)) ∙ by (edit_of cards card)
+revised-push old cards card =
+    ap (fold edited old) (gathered-push edit_of cards card) ∙ fold-append edited old (edits cards) (option_to_list (edit_of cards card))
+    ∙ by (edit_of cards card)
   where
     by : (o : Option Edit) → fold edited (fold edited old (edits cards)) (option_to_list o) ≡ with_edit o (fold edited old (edits cards))
     by None = refl
@@ -133,7 +155,8 @@ revised-push old cards card = ap (fold edited old) (gathered-push edit_of cards 
 
 -- One more card under an action begins a row, unless it goes on with the combination of the card before it.
 pub rows_begun-push : (under : List Reading) (card : Reading) → rows_begun (under ++ card ∷ []) ≡ rows_begun under + cond (goes_on_row under card) 0 1
-rows_begun-push under card = ap length (gathered-push begins under card) ∙ length-append (gathered begins under) (option_to_list (begins under card)) ∙ by (goes_on_row under card)
+rows_begun-push under card =
+    ap length (gathered-push begins under card) ∙ length-append (gathered begins under) (option_to_list (begins under card)) ∙ by (goes_on_row under card)
   where
     begins : List Reading → Reading → Option Reading
     begins before next = cond (goes_on_row before next) None (Some next)
@@ -144,4 +167,6 @@ rows_begun-push under card = ap length (gathered-push begins under card) ∙ len
 
 -- whether a card goes on with the one before it is decided by the last of those before it
 pub goes_on_row-push : (under : List Reading) (before card : Reading) → goes_on_row (under ++ before ∷ []) card ≡ goes_on_row (before ∷ []) card
-goes_on_row-push under before card = ap (λ last. unwrap_or (option_and_then (λ c. option_map (λ kind. is_card_of kind c.name1 card) (named combination_kinds c.kind)) last) false) (last_or-push None under (Some before))
+goes_on_row-push under before card =
+    ap (λ last. unwrap_or (option_and_then (λ c. option_map (λ kind. is_card_of kind c.name1 card) (named combination_kinds c.kind)) last) false)
+    (last_or-push None under (Some before))

@@ -12,7 +12,8 @@ absent_parts : (name : Name) (rows : List (Row Name)) → has_row rows name ≡ 
 absent_parts name [] absent = refl
 absent_parts name (row ∷ rows) absent = by (same name row.name) absent (absent_parts name rows)
   where
-    by : (b : Bool) → (b || has_row rows name) ≡ false → (has_row rows name ≡ false → parts_of name rows ≡ []) → cond b (unwrap_or row.parts []) [] ++ parts_of name rows ≡ []
+    by : (b : Bool) → (b || has_row rows name) ≡ false → (has_row rows name ≡ false → parts_of name rows ≡ []) →
+        cond b (unwrap_or row.parts []) [] ++ parts_of name rows ≡ []
     by true h rest = absurd (cc h)
     by false h rest = rest h
 
@@ -22,5 +23,6 @@ first_parts name rows pairs absent new = subst (λ items. AreNew items pairs) (a
 no_items : {X : Type 0} (name : Name) (groups : List (Group X)) → has_group groups name ≡ false → items_of name groups ≡ []
 no_items name groups absent = items_of-absent name groups (sym (has_group-names groups name) ∙ absent)
 
-pub first_items : (name : Name) (groups : List (Group (Entry Name))) (pairs : List Pair) → has_group groups name ≡ false → AreNew (items_of name groups) pairs → AreNew [] pairs
+pub first_items : (name : Name) (groups : List (Group (Entry Name))) (pairs : List Pair) → has_group groups name ≡ false → AreNew (items_of name groups) pairs →
+    AreNew [] pairs
 first_items name groups pairs absent new = subst (λ items. AreNew items pairs) (no_items name groups absent) new

@@ -41,7 +41,9 @@ put-there items entry row = by (has_entry items entry.row) refl
     already true e there = subst (λ r. has_entry items r ≡ true) (sym (same_eq row entry.row e)) there
     already false e there = refl
 
-    by : (b : Bool) → has_entry items entry.row ≡ b → has_entry (cond b (map (λ other. cond (same entry.row other.row) entry other) items) (items ++ entry ∷ [])) row ≡ (same row entry.row || has_entry items row)
+    by : (b : Bool) → has_entry items entry.row ≡ b →
+        has_entry (cond b (map (λ other. cond (same entry.row other.row) entry other) items) (items ++ entry ∷ [])) row ≡
+        (same row entry.row || has_entry items row)
     by true there = kept items ∙ already (same row entry.row) refl there
     by false absent = list_any-append (λ e. same row e.row) items (entry ∷ []) ∙ or_turned (has_entry items row) (same row entry.row)
 
@@ -57,54 +59,67 @@ module _ (seen : Problem Name) (section : Section) (items : List (Entry Name)) (
   puts_one pair = puts_fault-cons seen section items count pair [] ∙ or_none (put_test seen section (has_entry items pair.row) count pair)
 
   pub puts_two : (pair other : Pair) → puts_fault seen section items count (pair ∷ other ∷ [])
-      ≡ option_or (put_test seen section (has_entry items pair.row) count pair) (put_test seen section (same other.row pair.row || has_entry items other.row) (count + cond (has_entry items pair.row) 0 1) other)
+      ≡ option_or (put_test seen section (has_entry items pair.row) count pair)
+      (put_test seen section (same other.row pair.row || has_entry items other.row) (count + cond (has_entry items pair.row) 0 1) other)
   puts_two pair other =
       puts_fault-cons seen section items count pair (other ∷ [])
       ∙ ap (option_or (put_test seen section (has_entry items pair.row) count pair))
       (puts_fault-cons seen section (put_entry items (entry_of pair)) (count + (length (put_entry items (entry_of pair)) - length items)) other []
-      ∙ or_none (put_test seen section (has_entry (put_entry items (entry_of pair)) other.row) (count + (length (put_entry items (entry_of pair)) - length items)) other)
+      ∙ or_none (put_test seen section (has_entry (put_entry items (entry_of pair)) other.row)
+      (count + (length (put_entry items (entry_of pair)) - length items)) other)
       ∙ ap₂ (λ there more. put_test seen section there (count + more) other) (put-there items (entry_of pair) other.row) (put-more items (entry_of pair)))
 
   -- the fault that was found of two pairs, or of one
-  pub puts_found_two : (whole fault more_fault : Option DeckFaultKind) (there second : Bool) (more : ℕ) (pair other : Pair) (pairs : List Pair) → whole ≡ option_or fault more_fault
+  pub puts_found_two : (whole fault more_fault : Option DeckFaultKind) (there second : Bool) (more : ℕ) (pair other : Pair) (pairs : List Pair)
+      → whole ≡ option_or fault more_fault
       → fault ≡ put_test seen section there count pair → there ≡ has_entry items pair.row → more_fault ≡ put_test seen section second more other
-      → second ≡ (same other.row pair.row || has_entry items other.row) → more ≡ count + cond there 0 1 → pairs ≡ pair ∷ other ∷ [] → whole ≡ puts_fault seen section items count pairs
+      → second ≡ (same other.row pair.row || has_entry items other.row) → more ≡ count + cond there 0 1 → pairs ≡ pair ∷ other ∷ []
+      → whole ≡ puts_fault seen section items count pairs
   puts_found_two whole fault more_fault there second more pair other pairs w f t o s m p =
       w ∙ ap₂ option_or (f ∙ ap (λ b. put_test seen section b count pair) t)
       (o ∙ ap (λ n. put_test seen section second n other) m ∙ ap₂ (λ a b. put_test seen section a (count + cond b 0 1) other) s t)
       ∙ sym (ap (puts_fault seen section items count) p ∙ puts_two pair other)
 
-  pub puts_found_one : (fault : Option DeckFaultKind) (there : Bool) (pair : Pair) (pairs : List Pair) → fault ≡ put_test seen section there count pair → there ≡ has_entry items pair.row → pairs ≡ pair ∷ []
+  pub puts_found_one : (fault : Option DeckFaultKind) (there : Bool) (pair : Pair) (pairs : List Pair) → fault ≡ put_test seen section there count pair
+      → there ≡ has_entry items pair.row → pairs ≡ pair ∷ []
       → fault ≡ puts_fault seen section items count pairs
-  puts_found_one fault there pair pairs f t p = f ∙ ap (λ b. put_test seen section b count pair) t ∙ sym (ap (puts_fault seen section items count) p ∙ puts_one pair)
+  puts_found_one fault there pair pairs f t p =
+      f ∙ ap (λ b. put_test seen section b count pair) t ∙ sym (ap (puts_fault seen section items count) p ∙ puts_one pair)
 
 module _ (seen : Problem Name) (section : Section) (taken : List (Entry Name)) (count : ℕ) where
   pub pairs_one : (pair : Pair) → pairs_fault seen section taken count (pair ∷ []) ≡ pair_test seen section (has_entry taken pair.row) count pair
   pairs_one pair = pairs_fault-cons seen section taken count pair [] ∙ or_none (pair_test seen section (has_entry taken pair.row) count pair)
 
   pub pairs_two : (pair other : Pair) → pairs_fault seen section taken count (pair ∷ other ∷ [])
-      ≡ option_or (pair_test seen section (has_entry taken pair.row) count pair) (pair_test seen section (same other.row pair.row || has_entry taken other.row) (count + 1) other)
+      ≡ option_or (pair_test seen section (has_entry taken pair.row) count pair)
+      (pair_test seen section (same other.row pair.row || has_entry taken other.row) (count + 1) other)
   pairs_two pair other =
       pairs_fault-cons seen section taken count pair (other ∷ [])
       ∙ ap (option_or (pair_test seen section (has_entry taken pair.row) count pair))
       (pairs_fault-cons seen section (taken ++ entry_of pair ∷ []) (count + 1) other []
       ∙ or_none (pair_test seen section (has_entry (taken ++ entry_of pair ∷ []) other.row) (count + 1) other)
-      ∙ ap (λ there. pair_test seen section there (count + 1) other) (list_any-append (λ e. same other.row e.row) taken (entry_of pair ∷ []) ∙ or_turned (has_entry taken other.row) (same other.row pair.row)))
+      ∙ ap (λ there. pair_test seen section there (count + 1) other)
+      (list_any-append (λ e. same other.row e.row) taken (entry_of pair ∷ []) ∙ or_turned (has_entry taken other.row) (same other.row pair.row)))
 
-  pub pairs_found_two : (whole fault more_fault : Option DeckFaultKind) (there second : Bool) (pair other : Pair) (pairs : List Pair) → whole ≡ option_or fault more_fault
+  pub pairs_found_two : (whole fault more_fault : Option DeckFaultKind) (there second : Bool) (pair other : Pair) (pairs : List Pair)
+      → whole ≡ option_or fault more_fault
       → fault ≡ pair_test seen section there count pair → there ≡ has_entry taken pair.row → more_fault ≡ pair_test seen section second (count + 1) other
       → second ≡ (same other.row pair.row || has_entry taken other.row) → pairs ≡ pair ∷ other ∷ [] → whole ≡ pairs_fault seen section taken count pairs
   pairs_found_two whole fault more_fault there second pair other pairs w f t o s p =
       w ∙ ap₂ option_or (f ∙ ap (λ b. pair_test seen section b count pair) t) (o ∙ ap (λ b. pair_test seen section b (count + 1) other) s)
       ∙ sym (ap (pairs_fault seen section taken count) p ∙ pairs_two pair other)
 
-  pub pairs_found_one : (fault : Option DeckFaultKind) (there : Bool) (pair : Pair) (pairs : List Pair) → fault ≡ pair_test seen section there count pair → there ≡ has_entry taken pair.row → pairs ≡ pair ∷ []
+  pub pairs_found_one : (fault : Option DeckFaultKind) (there : Bool) (pair : Pair) (pairs : List Pair) → fault ≡ pair_test seen section there count pair
+      → there ≡ has_entry taken pair.row → pairs ≡ pair ∷ []
       → fault ≡ pairs_fault seen section taken count pairs
-  pairs_found_one fault there pair pairs f t p = f ∙ ap (λ b. pair_test seen section b count pair) t ∙ sym (ap (pairs_fault seen section taken count) p ∙ pairs_one pair)
+  pairs_found_one fault there pair pairs f t p =
+      f ∙ ap (λ b. pair_test seen section b count pair) t ∙ sym (ap (pairs_fault seen section taken count) p ∙ pairs_one pair)
 
 -- parts that replace or are added, of which each is tested by itself
 pub put_parts : (rows : List (Row Name)) (one other : Option Pair)
-    → puts_fault (rows_alone rows) Rows [] 0 (option_to_list one ++ option_to_list other) ≡ option_or (puts_fault (rows_alone rows) Rows [] 0 (option_to_list one)) (puts_fault (rows_alone rows) Rows [] 0 (option_to_list other))
+    → puts_fault (rows_alone rows) Rows [] 0 (option_to_list one ++ option_to_list other) ≡ option_or
+    (puts_fault (rows_alone rows) Rows [] 0 (option_to_list one)) (puts_fault (rows_alone rows) Rows [] 0 (option_to_list other))
 put_parts rows None other = refl
 put_parts rows (Some one) None = sym (or_none (puts_fault (rows_alone rows) Rows [] 0 (one ∷ [])))
-put_parts rows (Some one) (Some other) = puts_two (rows_alone rows) Rows [] 0 one other ∙ sym (ap₂ option_or (puts_one (rows_alone rows) Rows [] 0 one) (puts_one (rows_alone rows) Rows [] 0 other))
+put_parts rows (Some one) (Some other) =
+    puts_two (rows_alone rows) Rows [] 0 one other ∙ sym (ap₂ option_or (puts_one (rows_alone rows) Rows [] 0 one) (puts_one (rows_alone rows) Rows [] 0 other))

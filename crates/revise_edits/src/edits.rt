@@ -169,7 +169,8 @@ fn delete_column_of(
     problem: &mut NamedProblem,
 ) -> Result<(), AllocError>
     ensures { OnOk result (problem.new ≡ columns_edited Action.Delete
-        (record { anchor = []; there = 0; names = []; last = None; combination = None }) (viewed card.now) problem.old) }
+        (record { anchor = []; there = 0; names = []; last = None; combination = None })
+        (viewed card.now) problem.old) }
 {
     if is_blank(card.name2.bytes()) {
         remove_column(card.name1, problem);

@@ -43,7 +43,8 @@ fn added_row_fault(
     under: &UnderAction,
     card: &DataCard<'_>,
 ) -> Option<DeckFaultKind>
-    ensures { result ≡ rows_fault (rows_alone rows.now) (goes_on_row_from under.now (viewed card.now))
+    ensures { result ≡
+        rows_fault (rows_alone rows.now) (goes_on_row_from under.now (viewed card.now))
         (earlier_among action under.now (viewed card.now) rows.now) (viewed card.now) }
 {
     let goes_on = under.goes_on_row(card);

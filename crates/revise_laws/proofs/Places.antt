@@ -48,24 +48,29 @@ pub name_at-there : (names : List Name) (number : ℕ) → IsNumberOf (length na
 name_at-there names number is = at-there names (number - 1) (below names number is)
 
 -- the number of the name at a number is that number
-pub number_in-name_at : (names : List Name) → IsDistinct same names → (number : ℕ) → IsNumberOf (length names) number → number_in names (name_at names number) ≡ number
+pub number_in-name_at : (names : List Name) → IsDistinct same names → (number : ℕ) → IsNumberOf (length names) number →
+    number_in names (name_at names number) ≡ number
 number_in-name_at names distinct number is =
     let place = at-place names (number - 1) (below names number is) distinct in
     number_in-is names (name_at names number) (name_at-there names number is) ∙ omega (arith, place, is.positive)
 
 -- different numbers have different names
-pub names_apart : (names : List Name) → IsDistinct same names → (a b : ℕ) → IsNumberOf (length names) a → IsNumberOf (length names) b → nat_eq a b ≡ false → same (name_at names a) (name_at names b) ≡ false
+pub names_apart : (names : List Name) → IsDistinct same names → (a b : ℕ) → IsNumberOf (length names) a → IsNumberOf (length names) b → nat_eq a b ≡ false →
+    same (name_at names a) (name_at names b) ≡ false
 names_apart names distinct a b is_a is_b apart = by (same (name_at names a) (name_at names b)) refl
   where
     by : (t : Bool) → same (name_at names a) (name_at names b) ≡ t → t ≡ false
     by false e = refl
     by true e =
-        let one : a ≡ b = sym (number_in-name_at names distinct a is_a) ∙ ap (number_in names) (same_eq (name_at names a) (name_at names b) e) ∙ number_in-name_at names distinct b is_b in
+        let one : a ≡ b =
+        sym (number_in-name_at names distinct a is_a) ∙ ap (number_in names) (same_eq (name_at names a) (name_at names b) e)
+        ∙ number_in-name_at names distinct b is_b in
         absurd (cc (apart, eq-eqb a b one))
 
 -- of a longer list too
 pub name_at-front : (front back : List Name) (number : ℕ) → IsNumberOf (length front) number → has_name front (name_at (front ++ back) number) ≡ true
-name_at-front front back number is = subst (λ name. has_name front name ≡ true) (first front (number - 1) (below front number is)) (name_at-there front number is)
+name_at-front front back number is =
+    subst (λ name. has_name front name ≡ true) (first front (number - 1) (below front number is)) (name_at-there front number is)
   where
     first : (front : List Name) (place : ℕ) → place < length front → at front place ≡ at (front ++ back) place
     first [] place below' = absurd (omega (arith, below'))
@@ -73,17 +78,20 @@ name_at-front front back number is = subst (λ name. has_name front name ≡ tru
     first (name ∷ front) (suc place) below' = let inner : place < length front = omega (arith, below') in first front place inner
 
 module _ {R : Type 0} (test : Row R → Bool) where
-  unlike-fails : (rows : List (Row R)) (name : Name) → AllByRecursion (λ other. same name other ≡ false) (map (λ row. row.name) rows) → list_any (λ row. same name row.name && test row) rows ≡ false
+  unlike-fails : (rows : List (Row R)) (name : Name) → AllByRecursion (λ other. same name other ≡ false) (map (λ row. row.name) rows) →
+      list_any (λ row. same name row.name && test row) rows ≡ false
   unlike-fails [] name apart = refl
   unlike-fails (row ∷ rows) name apart = rw apart.0 (unlike-fails rows name apart.1)
 
   -- a row that fails a test by its number fails it by its name
-  test-name : (rows : List (Row R)) → IsDistinct same (map (λ row. row.name) rows) → (number : ℕ) → IsNumberOf (length (map (λ row. row.name) rows)) number → unwrap_or (option_map test (slice_get rows (number - 1))) false ≡ false
+  test-name : (rows : List (Row R)) → IsDistinct same (map (λ row. row.name) rows) → (number : ℕ) → IsNumberOf (length (map (λ row. row.name) rows)) number
+      → unwrap_or (option_map test (slice_get rows (number - 1))) false ≡ false
       → list_any (λ row. same (name_at (map (λ row. row.name) rows) number) row.name && test row) rows ≡ false
   unfolding IsDistinct
   test-name rows distinct number is fails = tested rows distinct (number - 1) (below (map (λ row. row.name) rows) number is) fails
     where
-      tested : (rows : List (Row R)) → IsDistinct same (map (λ row. row.name) rows) → (place : ℕ) → place < length (map (λ row. row.name) rows) → unwrap_or (option_map test (slice_get rows place)) false ≡ false
+      tested : (rows : List (Row R)) → IsDistinct same (map (λ row. row.name) rows) → (place : ℕ) → place < length (map (λ row. row.name) rows)
+          → unwrap_or (option_map test (slice_get rows place)) false ≡ false
           → list_any (λ row. same (at (map (λ row. row.name) rows) place) row.name && test row) rows ≡ false
       tested [] distinct place below fails = refl
       tested (row ∷ rest) distinct zero below fails = rw (fails, unlike-fails rest row.name distinct.0) (closed (same row.name row.name))
@@ -93,14 +101,18 @@ module _ {R : Type 0} (test : Row R → Bool) where
           closed false = refl
       tested (row ∷ rest) distinct (suc place) below fails =
           let inner : place < length (map (λ row. row.name) rest) = omega (arith, below) in
-          let other : same (at (map (λ row. row.name) rest) place) row.name ≡ false = same_sym (at (map (λ row. row.name) rest) place) row.name ∙ each-at (λ y. same row.name y ≡ false) (map (λ row. row.name) rest) place inner distinct.0 in
+          let other : same (at (map (λ row. row.name) rest) place) row.name ≡ false =
+          same_sym (at (map (λ row. row.name) rest) place) row.name
+          ∙ each-at (λ y. same row.name y ≡ false) (map (λ row. row.name) rest) place inner distinct.0 in
           rw other (tested rest distinct.1 place inner fails)
 
 -- a row that isn't free by its number isn't by its name, and one that is no combination
-pub free_row-name : {R : Type 0} (rows : List (Row R)) → IsDistinct same (map (λ row. row.name) rows) → (number : ℕ) → IsNumberOf (length (map (λ row. row.name) rows)) number → is_free_row rows number ≡ false
+pub free_row-name : {R : Type 0} (rows : List (Row R)) → IsDistinct same (map (λ row. row.name) rows) → (number : ℕ)
+    → IsNumberOf (length (map (λ row. row.name) rows)) number → is_free_row rows number ≡ false
     → has_free_row rows (name_at (map (λ row. row.name) rows) number) ≡ false
 free_row-name = test-name (λ row. is_free_kind row.kind)
 
-pub combination-name : {R : Type 0} (rows : List (Row R)) → IsDistinct same (map (λ row. row.name) rows) → (number : ℕ) → IsNumberOf (length (map (λ row. row.name) rows)) number → is_combination rows number ≡ false
+pub combination-name : {R : Type 0} (rows : List (Row R)) → IsDistinct same (map (λ row. row.name) rows) → (number : ℕ)
+    → IsNumberOf (length (map (λ row. row.name) rows)) number → is_combination rows number ≡ false
     → has_combination rows (name_at (map (λ row. row.name) rows) number) ≡ false
 combination-name = test-name (λ row. is_some row.parts)

@@ -32,7 +32,8 @@ no-entries rows = record { on_rows = tt; distinct = tt; values = tt }
 
 -- ---- one entry
 
-put-each : (P : Entry Name → Type 0) (entries : List (Entry Name)) (entry : Entry Name) → AllByRecursion P entries → P entry → AllByRecursion P (put_entry entries entry)
+put-each : (P : Entry Name → Type 0) (entries : List (Entry Name)) (entry : Entry Name) → AllByRecursion P entries → P entry →
+    AllByRecursion P (put_entry entries entry)
 put-each P entries entry each new = by (has_entry entries entry.row)
   where
     replaced : (list : List (Entry Name)) → AllByRecursion P list → AllByRecursion P (map (λ other. cond (same entry.row other.row) entry other) list)
@@ -47,10 +48,12 @@ put-each P entries entry each new = by (has_entry entries entry.row)
     by true = replaced entries each
     by false = each-push P entries entry each new
 
-put-distinct : (entries : List (Entry Name)) (entry : Entry Name) → IsDistinct same (map (λ e. e.row) entries) → IsDistinct same (map (λ e. e.row) (put_entry entries entry))
+put-distinct : (entries : List (Entry Name)) (entry : Entry Name) → IsDistinct same (map (λ e. e.row) entries) →
+    IsDistinct same (map (λ e. e.row) (put_entry entries entry))
 put-distinct entries entry distinct = by (has_entry entries entry.row) refl
   where
-    rows_kept : (list : List (Entry Name)) → map (λ (e : Entry Name). e.row) (map (λ other. cond (same entry.row other.row) entry other) list) ≡ map (λ e. e.row) list
+    rows_kept : (list : List (Entry Name)) →
+        map (λ (e : Entry Name). e.row) (map (λ other. cond (same entry.row other.row) entry other) list) ≡ map (λ e. e.row) list
     rows_kept [] = refl
     rows_kept (other ∷ list) = ap₂ (λ row rows. row ∷ rows) (one (same entry.row other.row) refl) (rows_kept list)
       where
@@ -62,7 +65,8 @@ put-distinct entries entry distinct = by (has_entry entries entry.row) refl
     names_of [] = refl
     names_of (e ∷ list) = ap (λ b. same entry.row e.row || b) (names_of list)
 
-    by : (b : Bool) → has_entry entries entry.row ≡ b → IsDistinct same (map (λ e. e.row) (cond b (map (λ other. cond (same entry.row other.row) entry other) entries) (entries ++ entry ∷ [])))
+    by : (b : Bool) → has_entry entries entry.row ≡ b →
+        IsDistinct same (map (λ e. e.row) (cond b (map (λ other. cond (same entry.row other.row) entry other) entries) (entries ++ entry ∷ [])))
     by true there = subst (IsDistinct same) (sym (rows_kept entries)) distinct
     by false absent = subst (IsDistinct same) (sym (map-append (λ e. e.row) entries (entry ∷ [])))
         (distinct-push same (map (λ e. e.row) entries) entry.row distinct (absent-apart (map (λ e. e.row) entries) entry.row (sym (names_of entries) ∙ absent)))
@@ -84,11 +88,13 @@ put-grows entries entry = by (has_entry entries entry.row)
 
 -- ---- one after another
 
-pub puts-each : (P : Entry Name → Type 0) (new entries : List (Entry Name)) → AllByRecursion P new → AllByRecursion P entries → AllByRecursion P (put_entries new entries)
+pub puts-each : (P : Entry Name → Type 0) (new entries : List (Entry Name)) → AllByRecursion P new → AllByRecursion P entries →
+    AllByRecursion P (put_entries new entries)
 puts-each P [] entries also each = each
 puts-each P (entry ∷ new) entries also each = puts-each P new (put_entry entries entry) also.1 (put-each P entries entry each also.0)
 
-pub puts-distinct : (new entries : List (Entry Name)) → IsDistinct same (map (λ e. e.row) entries) → IsDistinct same (map (λ e. e.row) (put_entries new entries))
+pub puts-distinct : (new entries : List (Entry Name)) → IsDistinct same (map (λ e. e.row) entries) →
+    IsDistinct same (map (λ e. e.row) (put_entries new entries))
 puts-distinct [] entries distinct = distinct
 puts-distinct (entry ∷ new) entries distinct = puts-distinct new (put_entry entries entry) (put-distinct entries entry distinct)
 
@@ -106,7 +112,8 @@ pub record Fits (seen : Problem Name) (section : Section) (entry : Entry Name) :
   pub plain : (is_section Columns section && has_combination seen.rows entry.row) ≡ false
   pub value : IsDecimal entry.value
 
-pub puts-lawful : (seen : Problem Name) (section : Section) (new entries : List (Entry Name)) → AllByRecursion (Fits seen section) new → AreLawfulEntries seen.rows entries → AreLawfulEntries seen.rows (put_entries new entries)
+pub puts-lawful : (seen : Problem Name) (section : Section) (new entries : List (Entry Name)) → AllByRecursion (Fits seen section) new →
+    AreLawfulEntries seen.rows entries → AreLawfulEntries seen.rows (put_entries new entries)
 puts-lawful seen section new entries fit lawful = record {
   on_rows = puts-each (λ (e : Entry Name). has_row seen.rows e.row ≡ true) new entries (rows_there new fit) lawful.on_rows;
   distinct = puts-distinct new entries lawful.distinct;
@@ -154,7 +161,8 @@ module _ (seen : Problem Name) (section : Section) where
     first : PutPasses items count pair
     others : puts_fault seen section (put_entry items (entry_of pair)) (count + (length (put_entry items (entry_of pair)) - length items)) pairs ≡ None
 
-  puts-pass : (items : List (Entry Name)) (count : ℕ) (pair : Pair) (pairs : List Pair) → puts_fault seen section items count (pair ∷ pairs) ≡ None → PutsPass items count pair pairs
+  puts-pass : (items : List (Entry Name)) (count : ℕ) (pair : Pair) (pairs : List Pair) → puts_fault seen section items count (pair ∷ pairs) ≡ None →
+      PutsPass items count pair pairs
   puts-pass items count pair pairs fine =
       let later = puts_fault seen section (put_entry items (entry_of pair)) (count + (length (put_entry items (entry_of pair)) - length items)) pairs in
       let both : option_or (put_fault seen section items count pair) later ≡ None = sym (puts_fault-cons seen section items count pair pairs) ∙ fine in
@@ -163,27 +171,37 @@ module _ (seen : Problem Name) (section : Section) where
         others = no_second (put_fault seen section items count pair) later both;
       }
 
-  pub puts-fit : (items : List (Entry Name)) (count : ℕ) (pairs : List Pair) → AllByRecursion (λ (pair : Pair). length pair.value ≤ 12) pairs → puts_fault seen section items count pairs ≡ None
+  pub puts-fit : (items : List (Entry Name)) (count : ℕ) (pairs : List Pair) → AllByRecursion (λ (pair : Pair). length pair.value ≤ 12) pairs
+      → puts_fault seen section items count pairs ≡ None
       → AllByRecursion (Fits seen section) (map entry_of pairs)
   puts-fit items count [] short fine = tt
   puts-fit items count (pair ∷ pairs) short fine =
       let pass = puts-pass items count pair pairs fine in (
-        record { there = pass.first.there; unfree = pass.first.unfree; plain = pass.first.plain; value = text_is_decimal pair.value short.0 (no_value_fault pair.column pair.value pass.first.fine) },
+        record {
+          there = pass.first.there;
+          unfree = pass.first.unfree;
+          plain = pass.first.plain;
+          value = text_is_decimal pair.value short.0
+              (no_value_fault pair.column pair.value pass.first.fine);
+        },
         puts-fit (put_entry items (entry_of pair)) (count + (length (put_entry items (entry_of pair)) - length items)) pairs short.1 pass.others,
       )
 
   -- the entries of all columns are no more than the limit allows
-  pub puts-few : (items : List (Entry Name)) (count : ℕ) (pairs : List Pair) → is_section Columns section ≡ true → count ≤ MAX_ENTRIES → puts_fault seen section items count pairs ≡ None
+  pub puts-few : (items : List (Entry Name)) (count : ℕ) (pairs : List Pair) → is_section Columns section ≡ true → count ≤ MAX_ENTRIES
+      → puts_fault seen section items count pairs ≡ None
       → count + (length (put_entries (map entry_of pairs) items) - length items) ≤ MAX_ENTRIES
   puts-few items count [] columns few fine = omega (arith, few)
   puts-few items count (pair ∷ pairs) columns few fine =
       let pass = puts-pass items count pair pairs fine in
       let next = put_entry items (entry_of pair) in
       let grown : length next - length items ≡ cond (has_entry items pair.row) 0 1 = omega (arith, put-grows items (entry_of pair)) in
-      let open_test : (not (has_entry items pair.row) && nat_le MAX_ENTRIES count) ≡ false = subst (λ b. (b && not (has_entry items pair.row) && nat_le MAX_ENTRIES count) ≡ false) columns pass.first.few in
+      let open_test : (not (has_entry items pair.row) && nat_le MAX_ENTRIES count) ≡ false =
+      subst (λ b. (b && not (has_entry items pair.row) && nat_le MAX_ENTRIES count) ≡ false) columns pass.first.few in
       let room : count + cond (has_entry items pair.row) 0 1 ≤ MAX_ENTRIES = by (has_entry items pair.row) open_test in
       let below : count + (length next - length items) ≤ MAX_ENTRIES = omega (arith, grown, room) in
-      let rest : count + (length next - length items) + (length (put_entries (map entry_of pairs) next) - length next) ≤ MAX_ENTRIES = puts-few next (count + (length next - length items)) pairs columns below pass.others in
+      let rest : count + (length next - length items) + (length (put_entries (map entry_of pairs) next) - length next) ≤ MAX_ENTRIES =
+      puts-few next (count + (length next - length items)) pairs columns below pass.others in
       omega (arith, rest, put_entry-length items (entry_of pair), put_entries-length (map entry_of pairs) next)
     where
       by : (b : Bool) → (not b && nat_le MAX_ENTRIES count) ≡ false → count + cond b 0 1 ≤ MAX_ENTRIES

@@ -46,17 +46,22 @@ module _ (p : Problem Name) (lawful : IsLawful p) where
       by false = entry-deleted p lawful card.name1 card.name2
 
   -- An edit whose tests find no fault keeps a problem lawful.
-  pub edit-step : (section : Section) (action : Action) (anchor : Name) (under : List Reading) (card : Reading) → IsReading card → edit_fault p section action anchor under card ≡ None
+  pub edit-step : (section : Section) (action : Action) (anchor : Name) (under : List Reading) (card : Reading) → IsReading card
+      → edit_fault p section action anchor under card ≡ None
       → IsLawful (edited p (record { section = section; action = action; anchor = anchor; under = under; card = card }))
   edit-step Header action anchor under card reads fine = lawful
   edit-step Rows Modify anchor under card reads fine = row-modified card p lawful reads fine
   edit-step Rows Delete anchor under card reads fine = row-deleted card.name1 p lawful
-  edit-step Rows Before anchor under card reads fine = row-inserted p lawful (record { section = Rows; action = Before; anchor = anchor; under = under; card = card }) reads fine
-  edit-step Rows After anchor under card reads fine = row-inserted p lawful (record { section = Rows; action = After; anchor = anchor; under = under; card = card }) reads fine
+  edit-step Rows Before anchor under card reads fine =
+      row-inserted p lawful (record { section = Rows; action = Before; anchor = anchor; under = under; card = card }) reads fine
+  edit-step Rows After anchor under card reads fine =
+      row-inserted p lawful (record { section = Rows; action = After; anchor = anchor; under = under; card = card }) reads fine
   edit-step Columns Modify anchor under card reads fine = column-modified p lawful card reads fine
   edit-step Columns Delete anchor under card reads fine = columns-deleted card
-  edit-step Columns Before anchor under card reads fine = column-inserted p lawful (record { section = Columns; action = Before; anchor = anchor; under = under; card = card }) reads fine
-  edit-step Columns After anchor under card reads fine = column-inserted p lawful (record { section = Columns; action = After; anchor = anchor; under = under; card = card }) reads fine
+  edit-step Columns Before anchor under card reads fine =
+      column-inserted p lawful (record { section = Columns; action = Before; anchor = anchor; under = under; card = card }) reads fine
+  edit-step Columns After anchor under card reads fine =
+      column-inserted p lawful (record { section = Columns; action = After; anchor = anchor; under = under; card = card }) reads fine
   edit-step Rhs Modify anchor under card reads fine = rhs-modified p lawful card reads fine
   edit-step Rhs Delete anchor under card reads fine = rhs-deleted p lawful card
   edit-step Rhs Before anchor under card reads fine = rhs-modified p lawful card reads fine
@@ -78,7 +83,8 @@ record InnerPasses (seen : Problem Name) (before : List Card) (section : Option 
   fine : cond (is_action_card (style_of before) card) (action_fault seen place (action_on (style_of before) card) (anchor_on (style_of before) card))
       (action_data_fault seen (style_of before) place (action_after before) (anchor_after before) (under_after before) card) ≡ None
 
-inner-passes : (seen : Problem Name) (before : List Card) (section : Option Section) (card : List ℕ) → inner_card_fault seen before section card ≡ None → InnerPasses seen before section card
+inner-passes : (seen : Problem Name) (before : List Card) (section : Option Section) (card : List ℕ) → inner_card_fault seen before section card ≡ None →
+    InnerPasses seen before section card
 inner-passes seen before None card h = absurd (cc h)
 inner-passes seen before (Some Header) card h = absurd (cc h)
 inner-passes seen before (Some Rows) card h = record { place = Rows; stands = refl; fine = h }
@@ -89,17 +95,21 @@ inner-passes seen before (Some Bounds) card h = record { place = Bounds; stands 
 inner-passes seen before (Some Endata) card h = record { place = Endata; stands = refl; fine = h }
 
 -- what the tests of a data card say: an action holds for it, it has its form, and it passes that action's tests
-record DataPasses (seen : Problem Name) (style : Style) (place : Section) (action : Option Action) (anchor : Name) (under : List Reading) (card : List ℕ) : Type 0 where
+record DataPasses (seen : Problem Name) (style : Style) (place : Section) (action : Option Action) (anchor : Name) (under : List Reading)
+    (card : List ℕ) : Type 0 where
   by_action : Action
   holds : action ≡ Some by_action
   formed : form_fault style place (deletes by_action) card ≡ None
   fine : edit_fault seen place by_action anchor under (reading_of (form_on style place (deletes by_action) card) card) ≡ None
 
-data-passes : (seen : Problem Name) (style : Style) (place : Section) (action : Option Action) (anchor : Name) (under : List Reading) (card : List ℕ) → action_data_fault seen style place action anchor under card ≡ None
+data-passes : (seen : Problem Name) (style : Style) (place : Section) (action : Option Action) (anchor : Name) (under : List Reading) (card : List ℕ)
+    → action_data_fault seen style place action anchor under card ≡ None
     → DataPasses seen style place action anchor under card
 data-passes seen style place None anchor under card h = absurd (cc h)
 data-passes seen style place (Some action) anchor under card h =
-    let both = passes (form_fault style place (deletes action) card ∷ edit_fault seen place action anchor under (reading_of (form_on style place (deletes action) card) card) ∷ []) h in
+    let both =
+    passes (form_fault style place (deletes action) card ∷ edit_fault seen place action anchor under
+    (reading_of (form_on style place (deletes action) card) card) ∷ []) h in
     record { by_action = action; holds = refl; formed = both.0; fine = both.1.0 }
 
 -- a section card or an action card edits nothing
@@ -107,8 +117,17 @@ no-edit : (before : List Card) (card : Card) → is_heading (style_of before) ca
 no-edit before card heading = rw heading refl
 
 -- a data card stands for an edit
-one-edit : (before : List Card) (card : Card) (section : Section) (action : Action) → is_heading (style_of before) card.bytes ≡ false → section_after before ≡ Some section → action_after before ≡ Some action
-    → edit_of before card ≡ Some (record { section = section; action = action; anchor = anchor_after before; under = under_after before; card = reading_of (form_on (style_of before) section (deletes action) card.bytes) card.bytes })
+one-edit : (before : List Card) (card : Card) (section : Section) (action : Action) → is_heading (style_of before) card.bytes ≡ false
+    → section_after before ≡ Some section → action_after before ≡ Some action
+    → edit_of before card ≡ Some
+    (record {
+      section = section;
+      action = action;
+      anchor = anchor_after before;
+      under = under_after before;
+      card = reading_of
+          (form_on (style_of before) section (deletes action) card.bytes) card.bytes;
+    })
 one-edit before card section action heading stands holds =
     (λ i. cond (heading i) None (edit_in before card (stands i) (holds i)))
     ∙ (λ i. Some (record {
@@ -121,24 +140,31 @@ one-edit before card section action heading stands holds =
 
 module _ (old : Problem Name) where
   -- an accepted card keeps the revised problem lawful
-  accepted-card : (before : List Card) (card : Card) → list_all is_printable card.bytes ≡ true → IsLawful (revised old before) → revise_card_fault old before card.bytes ≡ None → IsLawful (revised old (before ++ card ∷ []))
+  accepted-card : (before : List Card) (card : Card) → list_all is_printable card.bytes ≡ true → IsLawful (revised old before) →
+      revise_card_fault old before card.bytes ≡ None → IsLawful (revised old (before ++ card ∷ []))
   unfolding revise_card_fault
   accepted-card before card printable lawful fine = subst IsLawful (sym (revised-push old before card)) (by (is_section_card card.bytes) refl fine)
     where
       unedited : is_heading (style_of before) card.bytes ≡ true → IsLawful (with_edit (edit_of before card) (revised old before))
       unedited heading = subst (λ edit. IsLawful (with_edit edit (revised old before))) (sym (no-edit before card heading)) lawful
 
-      inner : is_section_card card.bytes ≡ false → (place : Section) → section_after before ≡ Some place → (b : Bool) → is_action_card (style_of before) card.bytes ≡ b
-          → cond b (action_fault (revised old before) place (action_on (style_of before) card.bytes) (anchor_on (style_of before) card.bytes)) (action_data_fault (revised old before) (style_of before) place (action_after before) (anchor_after before) (under_after before) card.bytes) ≡ None
+      inner : is_section_card card.bytes ≡ false → (place : Section) → section_after before ≡ Some place → (b : Bool)
+          → is_action_card (style_of before) card.bytes ≡ b
+          → cond b (action_fault (revised old before) place (action_on (style_of before) card.bytes) (anchor_on (style_of before) card.bytes))
+          (action_data_fault (revised old before) (style_of before) place (action_after before) (anchor_after before)
+          (under_after before) card.bytes) ≡ None
           → IsLawful (with_edit (edit_of before card) (revised old before))
       inner e place stands true a h = unedited (rw (e, a) refl)
       inner e place stands false a h =
           let pass = data-passes (revised old before) (style_of before) place (action_after before) (anchor_after before) (under_after before) card.bytes h in
           let form = form_on (style_of before) place (deletes pass.by_action) card.bytes in
           subst (λ edit. IsLawful (with_edit edit (revised old before))) (sym (one-edit before card place pass.by_action (rw (e, a) refl) stands pass.holds))
-          (edit-step (revised old before) lawful place pass.by_action (anchor_after before) (under_after before) (reading_of form card.bytes) (reading-lawful place (deletes pass.by_action) card.bytes (style_of before) printable pass.formed) pass.fine)
+          (edit-step (revised old before) lawful place pass.by_action (anchor_after before) (under_after before) (reading_of form card.bytes)
+          (reading-lawful place (deletes pass.by_action) card.bytes (style_of before) printable pass.formed) pass.fine)
 
-      by : (b : Bool) → is_section_card card.bytes ≡ b → cond b (section_card_fault may_come_after (section_after before) card.bytes) (inner_card_fault (revised old before) before (section_after before) card.bytes) ≡ None
+      by : (b : Bool) → is_section_card card.bytes ≡ b
+          → cond b (section_card_fault may_come_after (section_after before) card.bytes)
+          (inner_card_fault (revised old before) before (section_after before) card.bytes) ≡ None
           → IsLawful (with_edit (edit_of before card) (revised old before))
       by true e h = unedited (rw e refl)
       by false e h =
@@ -149,16 +175,24 @@ module _ (old : Problem Name) where
   no_kind f None h = refl
   no_kind f (Some x) h = absurd (cc h)
 
-  accepted-cards : (before after : List Card) → ArePrintableCards after → IsLawful (revised old before) → first_faulty (revise_card_fault old) before after ≡ None → IsLawful (revised old (before ++ after))
+  accepted-cards : (before after : List Card) → ArePrintableCards after → IsLawful (revised old before) →
+      first_faulty (revise_card_fault old) before after ≡ None → IsLawful (revised old (before ++ after))
   accepted-cards before [] printable lawful fine = subst (λ cards. IsLawful (revised old cards)) (sym (append-nil before)) lawful
   accepted-cards before (card ∷ after) printable lawful fine =
-      let kind = no_first (option_map (λ kind. record { card = card.number; kind = kind }) (revise_card_fault old before card.bytes)) (first_faulty (revise_card_fault old) (before ++ card ∷ []) after) fine in
-      let rest = no_second (option_map (λ kind. record { card = card.number; kind = kind }) (revise_card_fault old before card.bytes)) (first_faulty (revise_card_fault old) (before ++ card ∷ []) after) fine in
-      let step = accepted-card before card printable.0 lawful (no_kind (λ kind. record { card = card.number; kind = kind }) (revise_card_fault old before card.bytes) kind) in
+      let kind =
+      no_first (option_map (λ kind. record { card = card.number; kind = kind }) (revise_card_fault old before card.bytes))
+      (first_faulty (revise_card_fault old) (before ++ card ∷ []) after) fine in
+      let rest =
+      no_second (option_map (λ kind. record { card = card.number; kind = kind }) (revise_card_fault old before card.bytes))
+      (first_faulty (revise_card_fault old) (before ++ card ∷ []) after) fine in
+      let step =
+      accepted-card before card printable.0 lawful
+      (no_kind (λ kind. record { card = card.number; kind = kind }) (revise_card_fault old before card.bytes) kind) in
       subst (λ cards. IsLawful (revised old cards)) (append_assoc before (card ∷ []) after) (accepted-cards (before ++ card ∷ []) after printable.1 step rest)
 
   -- the cards in which no fault was found make a lawful problem of a lawful one
-  pub revised-lawful : (cards : List Card) → IsLawful old → ArePrintableCards cards → first_faulty (revise_card_fault old) [] cards ≡ None → IsLawful (revised old cards)
+  pub revised-lawful : (cards : List Card) → IsLawful old → ArePrintableCards cards → first_faulty (revise_card_fault old) [] cards ≡ None →
+      IsLawful (revised old cards)
   unfolding revised
   revised-lawful cards lawful printable fine = accepted-cards [] cards printable lawful fine
 
@@ -178,7 +212,8 @@ renamed name p lawful = record {
 }
 
 -- What a REVISE deck of printable cards makes of a lawful problem, under a name or its own, is a lawful problem.
-pub revision-problem : (old : Problem ℕ) (deck : List Card) (name : Option Name) (new : Problem ℕ) → IsProblem old → ArePrintableCards deck → IfSome name IsName → revision old deck name ≡ Ok new → IsProblem new
+pub revision-problem : (old : Problem ℕ) (deck : List Card) (name : Option Name) (new : Problem ℕ) → IsProblem old → ArePrintableCards deck →
+    IfSome name IsName → revision old deck name ≡ Ok new → IsProblem new
 unfolding revision revise_fault
 revision-problem old deck name new is printable named_by revised_to = by (first_faulty (revise_card_fault (by_names old)) [] (live deck)) refl revised_to
   where
@@ -208,4 +243,5 @@ revision-problem old deck name new is printable named_by revised_to = by (first_
         last true h = absurd (cc h)
         last false h = subst IsProblem (ap value_or h)
             (lawful-numbered (record (revised (by_names old) (live deck)) { name = unwrap_or name (deck_name (live deck)) }) given
-            (renamed (unwrap_or name (deck_name (live deck))) (revised (by_names old) (live deck)) (revised-lawful (by_names old) (live deck) (named-lawful old is) (printable_live deck printable) e)))
+            (renamed (unwrap_or name (deck_name (live deck))) (revised (by_names old) (live deck))
+            (revised-lawful (by_names old) (live deck) (named-lawful old is) (printable_live deck printable) e)))

@@ -55,7 +55,9 @@ title_compiled = refl
 
 title_run : IsRun silent title_program (job_decks title_program title_bytes) (Titled (codes "A B") ∷ []) [] (Ended 0)
 unfolding title_program verb_move
-title_run = is_over (stepped (Prints (Titled (codes "A B"))) _ begun (record { statement = _; is_at_position = refl; is_within_limit = lit< tt; gives = refl })) (at_end (lit< tt))
+title_run =
+    is_over (stepped (Prints (Titled (codes "A B"))) _ begun (record { statement = _; is_at_position = refl; is_within_limit = lit< tt; gives = refl }))
+    (at_end (lit< tt))
 
 title_job : IsJobRun silent title_bytes (Titled (codes "A B") ∷ []) [] (Ended 0)
 title_job = run title_program (record { is_read = title_read; is_compiled = title_compiled }) title_run
@@ -81,7 +83,9 @@ title_so_far = record { is_program = record { is_read = title_read; is_compiled 
 
 title_cut : IsAnswer silent (Made title_bytes) print_fault (record { status = 25; printed = codes "TITLE"; punched = [] })
 unfolding print_fault title_outcome
-title_cut = print_fails tt refl (in_report title_bytes title_program title_start title_outcome (codes "TITLE") refl title_so_far title_step (codes " A B\n", refl) refl refl)
+title_cut =
+    print_fails tt refl
+    (in_report title_bytes title_program title_start title_outcome (codes "TITLE") refl title_so_far title_step (codes " A B\n", refl) refl refl)
 
 -- the print fails in the middle of the last line
 title_end_cut : IsAnswer silent (Made title_bytes) print_fault (record { status = 25; printed = codes "TITLE A B\nEN"; punched = [] })

@@ -114,18 +114,26 @@ module _ (program : Program) (decks : List (List Card)) where
       rw (sym (append_assoc reports (printed_by gain) (course after).reports), sym (append_assoc cards (punched_by gain) (course after).cards))
       (rest after (reports ++ printed_by gain) (cards ++ punched_by gain) ending (stepped gain after reach (step (Goes gain after) refl)) e)
   completes-goes_on course rest state (Some (Ends gain found)) step reports cards ending reach e =
-      subst (λ x. IsRun silent program decks (reports ++ printed_by gain) (cards ++ punched_by gain) x) (from_some e) (is_ended gain reach (step (Ends gain found) refl))
+      subst (λ x. IsRun silent program decks (reports ++ printed_by gain) (cards ++ punched_by gain) x) (from_some e)
+      (is_ended gain reach (step (Ends gain found) refl))
 
   completes-by_statement : (course : State → Course) → ((state : State) → Completes state (course state)) → (state : State) → state.executed < max_executed →
       (statement : Option (Statement ℕ)) → slice_get program.statements (state.position - 1) ≡ statement → Completes state (by_statement course state statement)
   completes-by_statement course rest state within None at = λ reports cards ending reach e. absurd (some_apart e)
   completes-by_statement course rest state within (Some statement) at =
       completes-goes_on course rest state (settled (verb_move statement.verb statement.card (counted state)))
-      (λ outcome found. record { statement = statement; is_at_position = at; is_within_limit = within; gives = settled_gives statement.card (verb_move statement.verb statement.card (counted state)) outcome found })
+      (λ outcome found. record {
+        statement = statement;
+        is_at_position = at;
+        is_within_limit = within;
+        gives = settled_gives statement.card
+            (verb_move statement.verb statement.card (counted state)) outcome found;
+      })
 
   completes-by_limit : (course : State → Course) → ((state : State) → Completes state (course state)) → (state : State) (within : Bool) →
       nat_lt state.executed max_executed ≡ within → Completes state (by_limit course program state within)
-  completes-by_limit course rest state true within = completes-by_statement course rest state (ltb-true state.executed max_executed within) (slice_get program.statements (state.position - 1)) refl
+  completes-by_limit course rest state true within =
+      completes-by_statement course rest state (ltb-true state.executed max_executed within) (slice_get program.statements (state.position - 1)) refl
   completes-by_limit course rest state false within = λ reports cards ending reach e. absurd (some_apart e)
 
   completes-by_position : (course : State → Course) → ((state : State) → Completes state (course state)) → (state : State) (over : Bool) →
@@ -137,12 +145,14 @@ module _ (program : Program) (decks : List (List Card)) where
 
   completes-course_of : (n : ℕ) (state : State) → Completes state (course_of n program state)
   completes-course_of zero state = λ reports cards ending reach e. absurd (some_apart e)
-  completes-course_of (suc n) state = completes-by_position (course_of n program) (completes-course_of n) state (nat_lt (length program.statements) state.position) refl
+  completes-course_of (suc n) state =
+      completes-by_position (course_of n program) (completes-course_of n) state (nat_lt (length program.statements) state.position) refl
 
 -- What the program finds of a job is what the job comes to.
 module _ (bytes : List ℕ) (ending : Ending) where
   compiled_course_is_run : job_fault bytes ≡ None → (result : Result Program ControlFault) → compiled (cards_of bytes) ≡ result →
-      (compiled_course bytes result).ending ≡ Some ending → IsJobRun silent bytes (compiled_course bytes result).reports (compiled_course bytes result).cards ending
+      (compiled_course bytes result).ending ≡ Some ending →
+      IsJobRun silent bytes (compiled_course bytes result).reports (compiled_course bytes result).cards ending
   compiled_course_is_run read (Err fault) is e = subst (λ x. IsJobRun silent bytes [] [] x) (from_some e) (control_fault fault read is)
   compiled_course_is_run read (Ok program) is e =
       run program (record { is_read = read; is_compiled = is })

@@ -38,7 +38,8 @@ program_alone : answer "         PROGRAM\n         CONVERT\n         SETUP('BOUN
 unfolding answer job_fault cards_of compiled control_fault control_card_fault verb_of label_of statement_of decks_of deck_taken conversion deck_fault card_fault described reading_of number_of number_fault value_of numbered by_names written data_card revision revised revise_fault revise_card_fault selected selection_fault verb_move fraction gcd whole compare_ℚ digits
 program_alone = refl
 
-title_and_label : answer "         PROGRAM\n         TITLE('FIRST RUN')\n         GOTO(LAST)\n         SETUP\nLAST     EXIT\n         PEND\n" ≡ Some (codes "TITLE FIRST RUN\nEND 0\n", [])
+title_and_label : answer "         PROGRAM\n         TITLE('FIRST RUN')\n         GOTO(LAST)\n         SETUP\nLAST     EXIT\n         PEND\n" ≡ Some
+    (codes "TITLE FIRST RUN\nEND 0\n", [])
 unfolding answer job_fault cards_of compiled control_fault control_card_fault verb_of label_of statement_of decks_of deck_taken conversion deck_fault card_fault described reading_of number_of number_fault value_of numbered by_names written data_card revision revised revise_fault revise_card_fault selected selection_fault verb_move fraction gcd whole compare_ℚ digits
 title_and_label = refl
 

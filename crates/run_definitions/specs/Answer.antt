@@ -104,18 +104,21 @@ module _ (S : Solving) where
     memory_at_punch : (bytes : List ℕ) (program : Program) (state : State) {reports : List Report} {cards : List (List ℕ)} (deck : List (List ℕ)) →
         bytes_of job ≡ Some bytes → IsSoFar bytes reports cards program state → IsPunching program state deck → MayEnd job failures reports cards deck Memory
     punch_fails : (bytes : List ℕ) (program : Program) (state : State) {reports : List Report} {cards : List (List ℕ)} (deck : List (List ℕ)) →
-        failures.punch → bytes_of job ≡ Some bytes → IsSoFar bytes reports cards program state → IsPunching program state deck → MayEnd job failures reports cards deck PunchFault
+        failures.punch → bytes_of job ≡ Some bytes → IsSoFar bytes reports cards program state → IsPunching program state deck →
+        MayEnd job failures reports cards deck PunchFault
 
   -- The print has stopped in a report, or in the lines of an end. The reports before stand whole, and of the text in which it stopped a
   -- prefix stands. Where that is the report of a statement to which the run has come, the cards of the reports before and those of this
   -- statement are punched; where it is the end, what the punch has gained by this end.
   pub data IsCutShort (job : Job) (failures : Failures) (answer : Answer) : Type 0 where
-    in_report : (bytes : List ℕ) (program : Program) (state : State) {reports : List Report} {cards : List (List ℕ)} (outcome : StatementOutcome) (part : List ℕ) →
+    in_report : (bytes : List ℕ) (program : Program) (state : State) {reports : List Report} {cards : List (List ℕ)} (outcome : StatementOutcome)
+        (part : List ℕ) →
         bytes_of job ≡ Some bytes → IsSoFar bytes reports cards program state → Step S program state outcome →
         IsPrefix part (reports_text (printed_by (gain_of outcome))) → answer.printed ≡ reports_text reports ++ part →
         answer.punched ≡ card_text (cards ++ punched_by (gain_of outcome)) → IsCutShort job failures answer
     in_end : {reports : List Report} {cards deck : List (List ℕ)} (ending : Ending) (part : List ℕ) → MayEnd job failures reports cards deck ending →
-        IsPrefix part (ending_text ending) → answer.printed ≡ reports_text reports ++ part → Gains ending cards deck answer.punched → IsCutShort job failures answer
+        IsPrefix part (ending_text ending) → answer.printed ≡ reports_text reports ++ part → Gains ending cards deck answer.punched →
+        IsCutShort job failures answer
 
   -- What a job may be answered: the status of an end, with the whole listing, and with what the punch has gained by this end: all cards
   -- of the reports that stand, and a prefix of the deck in hand where that may be broken off. Or the print has failed, or run out of
@@ -130,4 +133,5 @@ module _ (S : Solving) where
   -- in view of what has failed.
   abbrev pub IsAnswered : Job → Failures → ℕ → (List ℕ → Type 0) → (List ℕ → Type 0) → Type 0
   IsAnswered job failures status PrintGains PunchGains =
-      (printed : List ℕ) × (punched : List ℕ) × PrintGains printed × PunchGains punched × IsAnswer job failures (record { status = status; printed = printed; punched = punched })
+      (printed : List ℕ) × (punched : List ℕ) × PrintGains printed × PunchGains punched × IsAnswer job failures
+      (record { status = status; printed = printed; punched = punched })

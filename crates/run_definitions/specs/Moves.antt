@@ -86,7 +86,8 @@ Shows S (InAnswer question sheet bases) = S.Overflows question sheet bases
 
 abbrev pub StopsBy : ℕ → (Evidence → Option Place → Type 0) → StatementOutcome → Type 0
 StopsBy card Holds outcome =
-    (evidence : Evidence) × (place : Option Place) × Holds evidence place × (outcome ≡ stops (OverflowStop (record { evidence = evidence; place = place; card = card })))
+    (evidence : Evidence) × (place : Option Place) × Holds evidence place ×
+    (outcome ≡ stops (OverflowStop (record { evidence = evidence; place = place; card = card })))
 
 -- The outcomes of a move, by what is right of linear programming. Whether to stop for an overflow is the one free choice.
 abbrev pub Gives : Solving → ℕ → StatementMove → StatementOutcome → Type 0

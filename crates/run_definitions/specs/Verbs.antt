@@ -85,7 +85,8 @@ column_of (Number (BadCharacter place) column) = Some column
 column_of _ = None
 
 abbrev pub deck_stop : DeckFault → Ending
-deck_stop fault = DeckStop (record { fault = deck_fault_number fault.kind; card = fault.card; number = number_fault_of fault.kind; column = column_of fault.kind })
+deck_stop fault =
+    DeckStop (record { fault = deck_fault_number fault.kind; card = fault.card; number = number_fault_of fault.kind; column = column_of fault.kind })
 
 -- a fault of a deck ends the run, or else it is done what is done with what the deck gives
 abbrev pub or_deck_fault : {X : Type 0} → Result X DeckFault → (X → StatementMove) → StatementMove
@@ -253,9 +254,12 @@ ranges card state =
 -- PRIMAL does. The basis reached last becomes the present one, and neither leaves a mark.
 abbrev pub after_parametric_run : ℕ → ParametricRun → Present → State → ParametricRunEnd → StatementOutcome
 after_parametric_run card parametric_run present state (Opening bases verdict check) =
-    by_verdict (mark_of verdict) (Solved (parametric_solver parametric_run.changing) verdict check) (record state { setup = Some (gone_through bases present); mark = None })
+    by_verdict (mark_of verdict) (Solved (parametric_solver parametric_run.changing) verdict check)
+    (record state { setup = Some (gone_through bases present); mark = None })
 after_parametric_run card parametric_run present state (Chained bases intervals end) =
-    next (Prints (Parametric (parametric_solver parametric_run.changing) (record { from = parametric_run.from; change = changing_name parametric_run.changing; intervals = intervals; end = end })))
+    next (Prints
+    (Parametric (parametric_solver parametric_run.changing)
+    (record { from = parametric_run.from; change = changing_name parametric_run.changing; intervals = intervals; end = end })))
     (record state { setup = Some (gone_through bases present); mark = None; cells = record (state.cells) { xparam = last_value end } })
 after_parametric_run card parametric_run present state ParametricRunLimit = limit_stop card state
 

@@ -23,35 +23,46 @@ use Rattle.run_machine.specs.Standing.{filed, Represents}
 use Rattle.run_machine.specs.Statements.{LeadsTo, Executes}
 
 -- the problem that a cell names, or the one filed last, is the same in the state
-pub problem_view : {K : Type 0} {Shows : Filed → K → Present → Type 0} {cards : List (List ℕ)} {machine : Machine K} {position executed : ℕ} {state : State} → Represents Shows cards machine position executed state →
-    (cell : Cells → Option Name) (found : Option (Problem ℕ)) → filed (cell machine.cells) machine.file ≡ found → problem_of (cell state.cells) state.file ≡ found
+pub problem_view : {K : Type 0} {Shows : Filed → K → Present → Type 0} {cards : List (List ℕ)} {machine : Machine K} {position executed : ℕ} {state : State} →
+    Represents Shows cards machine position executed state →
+    (cell : Cells → Option Name) (found : Option (Problem ℕ)) → filed (cell machine.cells) machine.file ≡ found →
+    problem_of (cell state.cells) state.file ≡ found
 problem_view {machine = machine} {state = state} s cell found e = s.file (cell state.cells) ∙ ap (λ (c : Cells). filed (cell c) machine.file) s.cells ∙ e
 
 -- a verb fault
-pub settles_fault : {X : Type 0} (card : ℕ) (fault : VerbFault) (found : Option X) (go : X → StatementMove) → found ≡ None → DecidesAlone card (or_fault card fault found go) (stops (VerbStop (record { fault = fault; card = card })))
-settles_fault card fault found go none = subst (λ o. DecidesAlone card (or_fault card fault o go) (stops (VerbStop (record { fault = fault; card = card })))) (sym none) refl
+pub settles_fault : {X : Type 0} (card : ℕ) (fault : VerbFault) (found : Option X) (go : X → StatementMove) → found ≡ None →
+    DecidesAlone card (or_fault card fault found go) (stops (VerbStop (record { fault = fault; card = card })))
+settles_fault card fault found go none =
+    subst (λ o. DecidesAlone card (or_fault card fault o go) (stops (VerbStop (record { fault = fault; card = card })))) (sym none) refl
 
 -- no verb fault
-pub settles_found : {X : Type 0} (card : ℕ) (fault : VerbFault) (found : Option X) (go : X → StatementMove) (x : X) (outcome : StatementOutcome) → found ≡ Some x → DecidesAlone card (go x) outcome → DecidesAlone card (or_fault card fault found go) outcome
+pub settles_found : {X : Type 0} (card : ℕ) (fault : VerbFault) (found : Option X) (go : X → StatementMove) (x : X) (outcome : StatementOutcome) →
+    found ≡ Some x → DecidesAlone card (go x) outcome → DecidesAlone card (or_fault card fault found go) outcome
 settles_found card fault found go x outcome some given = subst (λ o. DecidesAlone card (or_fault card fault o go) outcome) (sym some) given
 
 -- ---- with what is printed
 
-module _ {K : Type 0} (Shows : Filed → K → Present → Type 0) (Given : ℕ → StatementMove → StatementOutcome → Type 0) (verb : Verb ℕ) (card : ℕ) (cards : List (List ℕ)) (old : Machine K) where
+module _ {K : Type 0} (Shows : Filed → K → Present → Type 0) (Given : ℕ → StatementMove → StatementOutcome → Type 0) (verb : Verb ℕ) (card : ℕ)
+    (cards : List (List ℕ)) (old : Machine K) where
   pub quietly : (print : SinkState) {new : Machine K} {act : Act} →
-      ((position executed : ℕ) (state : State) → Represents Shows cards old position executed state → LeadsTo Shows Given verb card cards position executed state new Nothing act) →
+      ((position executed : ℕ) (state : State) → Represents Shows cards old position executed state →
+      LeadsTo Shows Given verb card cards position executed state new Nothing act) →
       Executes Shows Given verb card print print cards old new (Ok act)
-  quietly print comes = λ position executed state s. record { gain = Nothing; no_cards = refl; comes = comes position executed state s; writes = writes_nothing print tt }
+  quietly print comes =
+      λ position executed state s. record { gain = Nothing; no_cards = refl; comes = comes position executed state s; writes = writes_nothing print tt }
 
   pub loudly : {print_old print_new : SinkState} {new : Machine K} {act : Act} (report : Report) →
-      ((position executed : ℕ) (state : State) → Represents Shows cards old position executed state → LeadsTo Shows Given verb card cards position executed state new (Prints report) act) →
+      ((position executed : ℕ) (state : State) → Represents Shows cards old position executed state →
+      LeadsTo Shows Given verb card cards position executed state new (Prints report) act) →
       Writes {T = Unit {0}} print_old print_new (Ok tt) (report_text report) →
       Executes Shows Given verb card print_old print_new cards old new (Ok act)
-  loudly report comes writes = λ position executed state s. record { gain = Prints report; no_cards = refl; comes = comes position executed state s; writes = writes }
+  loudly report comes writes =
+      λ position executed state s. record { gain = Prints report; no_cards = refl; comes = comes position executed state s; writes = writes }
 
   -- the report is broken off
   pub cut_off : {print_old print_new : SinkState} (new : Machine K) (stop : WriteStop) (report : Report) →
-      ((position executed : ℕ) (state : State) → Represents Shows cards old position executed state → (outcome : StatementOutcome) × Given card (verb_move verb card state) outcome × (gain_of outcome ≡ Prints report)) →
+      ((position executed : ℕ) (state : State) → Represents Shows cards old position executed state →
+      (outcome : StatementOutcome) × Given card (verb_move verb card state) outcome × (gain_of outcome ≡ Prints report)) →
       Writes {T = Unit {0}} print_old print_new (Err stop) (report_text report) →
       Executes Shows Given verb card print_old print_new cards old new (Err (halt.Print stop))
   cut_off {print_old = print_old} {print_new = print_new} new stop report comes writes = λ position executed state s.

@@ -36,7 +36,8 @@ module _ (punch : SinkState) where
   no_cards_written gain none = writes_same (sym (ap card_text none)) (writes_nothing punch tt)
 
   -- a statement that punches nothing leaves the punch as it is
-  pub punches_nothing : {K : Type 0} (Shows : Filed → K → Present → Type 0) (Given : ℕ → StatementMove → StatementOutcome → Type 0) (verb : Verb ℕ) (card : ℕ) (print_old print_new : SinkState) (cards : List (List ℕ)) (old new : Machine K) (result : Result Act Halt) →
+  pub punches_nothing : {K : Type 0} (Shows : Filed → K → Present → Type 0) (Given : ℕ → StatementMove → StatementOutcome → Type 0) (verb : Verb ℕ) (card : ℕ)
+      (print_old print_new : SinkState) (cards : List (List ℕ)) (old new : Machine K) (result : Result Act Halt) →
       Executes Shows Given verb card print_old print_new cards old new result →
       Performs Shows Given verb card print_old print_new punch punch cards old new result
   punches_nothing Shows Given verb card print_old print_new cards old new (Ok act) executes = λ position executed state s.
@@ -55,7 +56,18 @@ pub wrote : {T : Type 0} {old new : SinkState} (value : T) (text : List ℕ) →
     Writes {T = Unit {0}} old new (Ok tt) text
 wrote value text w = record {
   bytes = w.bytes;
-  cause = record { later = w.cause.later; later_refusals = w.cause.later_refusals; failed = λ h. absurd (cc h); no_memory = λ h. absurd (cc h); no_fault = w.cause.no_fault; no_refusal = w.cause.no_refusal; failed_alone = λ h. absurd (cc h); wanted_alone = λ h. absurd (cc h) };
+  cause =
+      record {
+        later = w.cause.later;
+        later_refusals = w.cause.later_refusals;
+        failed = λ h. absurd (cc h);
+        no_memory = λ h. absurd
+            (cc h);
+        no_fault = w.cause.no_fault;
+        no_refusal = w.cause.no_refusal;
+        failed_alone = λ h. absurd (cc h);
+        wanted_alone = λ h. absurd (cc h);
+      };
   stopped = w.stopped;
 }
 
@@ -86,9 +98,12 @@ cards_of problem = deck_fields (by_names problem)
 abbrev punches_it : State → Problem ℕ → StatementOutcome
 punches_it state problem = next (Punches (BcdOut problem.name (min (length (cards_of problem)) max_counted)) (cards_of problem)) state
 
-punch_gives : (card : ℕ) (state : State) (problem : Problem ℕ) → problem_of state.cells.xpbname state.file ≡ Some problem → DecidesAlone card (verb_move Bcdout card state) (punches_it state problem)
+punch_gives : (card : ℕ) (state : State) (problem : Problem ℕ) → problem_of state.cells.xpbname state.file ≡ Some problem →
+    DecidesAlone card (verb_move Bcdout card state) (punches_it state problem)
 unfolding verb_move
-punch_gives card state problem is = settles_found card NoProblem (problem_of state.cells.xpbname state.file) (λ (p : Problem ℕ). Does (punches_it state p)) problem (punches_it state problem) is refl
+punch_gives card state problem is =
+    settles_found card NoProblem (problem_of state.cells.xpbname state.file) (λ (p : Problem ℕ). Does (punches_it state p)) problem
+    (punches_it state problem) is refl
 
 module _ {K : Type 0} (Shows : Filed → K → Present → Type 0) (card : ℕ) (cards : List (List ℕ)) (machine : Machine K) where
   pub no_problem_punched : (print punch : SinkState) → filed machine.cells.xpbname machine.file ≡ None →
@@ -97,14 +112,17 @@ module _ {K : Type 0} (Shows : Filed → K → Present → Type 0) (card : ℕ) 
   no_problem_punched print punch none =
       punches_nothing punch Shows DecidesAlone Bcdout card print print cards machine machine (Ok (Ends (ends.Verb NoProblem card)))
       (quietly Shows DecidesAlone Bcdout card cards machine print
-      (λ position executed state s. settles_fault card NoProblem (problem_of state.cells.xpbname state.file) _ (problem_view s (λ (c : Cells). c.xpbname) None none)))
+      (λ position executed state s. settles_fault card NoProblem (problem_of state.cells.xpbname state.file) _
+      (problem_view s (λ (c : Cells). c.xpbname) None none)))
 
   module _ (problem : Problem ℕ) (on_file : filed machine.cells.xpbname machine.file ≡ Some problem) where
-    gives_at : {position executed : ℕ} {state : State} → Represents Shows cards machine position executed state → DecidesAlone card (verb_move Bcdout card state) (punches_it state problem)
+    gives_at : {position executed : ℕ} {state : State} → Represents Shows cards machine position executed state →
+        DecidesAlone card (verb_move Bcdout card state) (punches_it state problem)
     gives_at {state = state} s = punch_gives card state problem (problem_view s (λ (c : Cells). c.xpbname) (Some problem) on_file)
 
     -- the punch stops in the deck
-    pub deck_cut : (print : SinkState) {punch_old punch_new : SinkState} {T : Type 0} (stop : WriteStop) → Writes {T = T} punch_old punch_new (Err stop) (card_text (cards_of problem)) →
+    pub deck_cut : (print : SinkState) {punch_old punch_new : SinkState} {T : Type 0} (stop : WriteStop) →
+        Writes {T = T} punch_old punch_new (Err stop) (card_text (cards_of problem)) →
         Performs Shows DecidesAlone Bcdout card print print punch_old punch_new cards machine machine (Err (halt.Punch stop))
     deck_cut print stop punches = λ position executed state s. record {
       report = BcdOut problem.name (min (length (cards_of problem)) max_counted);
@@ -115,12 +133,14 @@ module _ {K : Type 0} (Shows : Filed → K → Present → Type 0) (card : ℕ) 
       is_quiet = refl;
     }
 
-    module _ {print_old print_new punch_old punch_new : SinkState} (name : Name) (is_name : name ≡ problem.name) (count : ℕ) (is_count : count ≡ min (length (cards_of problem)) max_counted)
+    module _ {print_old print_new punch_old punch_new : SinkState} (name : Name) (is_name : name ≡ problem.name) (count : ℕ)
+        (is_count : count ≡ min (length (cards_of problem)) max_counted)
         (punches : Writes {T = ℕ} punch_old punch_new (Ok count) (card_text (cards_of problem))) where
       -- the line is that of the report
       own_line : (result : Result (Unit {0}) WriteStop) → Writes {T = Unit {0}} print_old print_new result (report_text (BcdOut name count)) →
           Writes {T = Unit {0}} print_old print_new result (report_text (BcdOut problem.name (min (length (cards_of problem)) max_counted)))
-      own_line result prints = writes_same (ap (λ (n : Name). report_text (BcdOut n count)) is_name ∙ ap (λ (k : ℕ). report_text (BcdOut problem.name k)) is_count) prints
+      own_line result prints =
+          writes_same (ap (λ (n : Name). report_text (BcdOut n count)) is_name ∙ ap (λ (k : ℕ). report_text (BcdOut problem.name k)) is_count) prints
 
       pub deck_punched : Writes {T = Unit {0}} print_old print_new (Ok tt) (report_text (BcdOut name count)) →
           Performs Shows DecidesAlone Bcdout card print_old print_new punch_old punch_new cards machine machine (Ok Next)

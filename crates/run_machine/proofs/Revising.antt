@@ -27,19 +27,26 @@ use Rattle.run_machine.proofs.Giving.{problem_view, settles_fault, settles_found
 use Rattle.run_machine.proofs.Filing.{takes, takes_nothing, takes_refused, takes_problem, filed_after}
 
 module _ {K : Type 0} (Shows : Filed → K → Present → Type 0) (card : ℕ) (cards : List (List ℕ)) (machine : Machine K) where
-  pub finds_no_problem : filed machine.cells.xoldname machine.file ≡ None → Describes Shows Revise card cards machine (Ok (described.Ends (Verb NoProblem card)))
+  pub finds_no_problem : filed machine.cells.xoldname machine.file ≡ None →
+      Describes Shows Revise card cards machine (Ok (described.Ends (Verb NoProblem card)))
   unfolding verb_move
-  finds_no_problem none = λ position executed state s. settles_fault card NoProblem (problem_of state.cells.xoldname state.file) _ (problem_view s (λ (c : Cells). c.xoldname) None none)
+  finds_no_problem none =
+      λ position executed state s. settles_fault card NoProblem (problem_of state.cells.xoldname state.file) _
+      (problem_view s (λ (c : Cells). c.xoldname) None none)
 
-  module _ (old : Problem ℕ) (on_file : filed machine.cells.xoldname machine.file ≡ Some old) (wanted : Option Name) (same_name : wanted ≡ machine.cells.xdata) where
+  module _ (old : Problem ℕ) (on_file : filed machine.cells.xoldname machine.file ≡ Some old) (wanted : Option Name)
+      (same_name : wanted ≡ machine.cells.xdata) where
     -- what follows where the old problem is on file
     gives_revised : {position executed : ℕ} {state : State} → Represents Shows cards machine position executed state → (outcome : StatementOutcome) →
-        DecidesAlone card (takes card (λ deck. revision old deck state.cells.xpbname) reports.Revised state) outcome → DecidesAlone card (revises card state) outcome
+        DecidesAlone card (takes card (λ deck. revision old deck state.cells.xpbname) reports.Revised state) outcome →
+        DecidesAlone card (revises card state) outcome
     gives_revised {state = state} s outcome given =
-        settles_found card NoProblem (problem_of state.cells.xoldname state.file) (λ old. takes card (λ deck. revision old deck state.cells.xpbname) reports.Revised state) old outcome
+        settles_found card NoProblem (problem_of state.cells.xoldname state.file)
+        (λ old. takes card (λ deck. revision old deck state.cells.xpbname) reports.Revised state) old outcome
         (problem_view s (λ (c : Cells). c.xoldname) (Some old) on_file) given
 
-    pub finds_no_revision : deck_taken wanted (decks_from machine.decks_from cards) ≡ None → Describes Shows Revise card cards machine (Ok (described.Ends (Verb DeckNotFound card)))
+    pub finds_no_revision : deck_taken wanted (decks_from machine.decks_from cards) ≡ None →
+        Describes Shows Revise card cards machine (Ok (described.Ends (Verb DeckNotFound card)))
     unfolding verb_move
     finds_no_revision none = λ position executed state s.
         gives_revised s _ (takes_nothing Shows card cards machine wanted same_name s (λ deck. revision old deck state.cells.xpbname) reports.Revised none)
@@ -53,10 +60,12 @@ module _ {K : Type 0} (Shows : Filed → K → Present → Type 0) (card : ℕ) 
         filed_after Shows Revise card cards machine problem last from_card within is
         (λ position executed state s.
         gives_revised s _
-        (takes_problem Shows card cards machine wanted same_name s (λ deck. revision old deck state.cells.xpbname) reports.Revised deck (decks_of (drop last (numbered_cards cards))) problem taken
+        (takes_problem Shows card cards machine wanted same_name s (λ deck. revision old deck state.cells.xpbname) reports.Revised deck
+        (decks_of (drop last (numbered_cards cards))) problem taken
         (ap (λ (c : Cells). revision old deck c.xpbname) s.cells ∙ ok)))
     finds_a_revision (Err (Fault fault)) deck last from_card taken ok err within is = λ position executed state s.
         gives_revised s _
-        (takes_refused Shows card cards machine wanted same_name s (λ deck. revision old deck state.cells.xpbname) reports.Revised deck (decks_of (drop last (numbered_cards cards))) fault taken
+        (takes_refused Shows card cards machine wanted same_name s (λ deck. revision old deck state.cells.xpbname) reports.Revised deck
+        (decks_of (drop last (numbered_cards cards))) fault taken
         (ap (λ (c : Cells). revision old deck c.xpbname) s.cells ∙ err))
     finds_a_revision (Err NoMemory) deck last from_card taken ok err within is = refl

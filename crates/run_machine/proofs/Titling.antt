@@ -20,7 +20,8 @@ titles : (text : List ℕ) (card : ℕ) (state : State) → DecidesAlone card (v
 unfolding verb_move
 titles text card state = refl
 
-module _ {K : Type 0} (Shows : Filed → K → Present → Type 0) {print_old print_new : SinkState} (text : List ℕ) (card : ℕ) (cards : List (List ℕ)) (machine : Machine K) where
+module _ {K : Type 0} (Shows : Filed → K → Present → Type 0) {print_old print_new : SinkState} (text : List ℕ) (card : ℕ) (cards : List (List ℕ))
+    (machine : Machine K) where
   pub title_done : (printed : List ℕ) → printed ≡ text → Writes {T = Unit {0}} print_old print_new (Ok tt) (report_text (Titled printed)) →
       Executes Shows DecidesAlone (Title text) card print_old print_new cards machine machine (Ok Next)
   title_done printed same writes =
@@ -30,5 +31,6 @@ module _ {K : Type 0} (Shows : Filed → K → Present → Type 0) {print_old pr
   pub title_cut : (stop : WriteStop) (printed : List ℕ) → printed ≡ text → Writes {T = Unit {0}} print_old print_new (Err stop) (report_text (Titled printed)) →
       Executes Shows DecidesAlone (Title text) card print_old print_new cards machine machine (Err (halt.Print stop))
   title_cut stop printed same writes =
-      cut_off Shows DecidesAlone (Title text) card cards machine machine stop (Titled text) (λ position executed state s. (next (Prints (Titled text)) state, titles text card state, refl))
+      cut_off Shows DecidesAlone (Title text) card cards machine machine stop (Titled text)
+      (λ position executed state s. (next (Prints (Titled text)) state, titles text card state, refl))
       (subst (λ (t : List ℕ). Writes {T = Unit {0}} print_old print_new (Err stop) (report_text (Titled t))) same writes)

@@ -53,7 +53,8 @@ module _ {K : Type 0} (Shows : Problems → K → Present → Type 0) (verb : De
   -- next card on.
   pub record IsDescribed (problem : Problem ℕ) (from_card : ℕ) : Type 0 where
     pub files : (position executed : ℕ) (state : State) → Represents Shows cards machine position executed state →
-        DecidesAlone card (verb_move (verb_of verb) card state) (next (Prints (report_of verb (size_of problem))) (with_problem problem (decks_from from_card cards) state))
+        DecidesAlone card (verb_move (verb_of verb) card state)
+        (next (Prints (report_of verb (size_of problem))) (with_problem problem (decks_from from_card cards) state))
     pub first : 1 ≤ from_card
     pub last : from_card ≤ length cards + 1
 

@@ -22,7 +22,8 @@ use Rattle.run_machine.specs.Statements.{LeadsTo}
 abbrev pub gain_cards : Gain → List ℕ
 gain_cards gain = card_text (punched_by gain)
 
-module _ {K : Type 0} (Shows : Filed → K → Present → Type 0) (Given : ℕ → StatementMove → StatementOutcome → Type 0) (verb : Verb ℕ) (card : ℕ) (print_old print_new punch_old punch_new : SinkState) where
+module _ {K : Type 0} (Shows : Filed → K → Present → Type 0) (Given : ℕ → StatementMove → StatementOutcome → Type 0) (verb : Verb ℕ) (card : ℕ)
+    (print_old print_new punch_old punch_new : SinkState) where
   -- with some gain, which is printed and punched, the statement comes to this act
   pub record ActsWith (cards : List (List ℕ)) (position executed : ℕ) (state : State) (new : Machine K) (act : Act) : Type 0 where
     pub gain : Gain
@@ -49,7 +50,10 @@ module _ {K : Type 0} (Shows : Filed → K → Present → Type 0) (Given : ℕ 
   -- What a statement does from each state that the machine showed. Where it finds no memory, nothing is printed and nothing is
   -- punched.
   abbrev pub Performs : List (List ℕ) → Machine K → Machine K → Result Act Halt → Type 0
-  Performs cards old new (Ok act) = (position executed : ℕ) (state : State) → Represents Shows cards old position executed state → ActsWith cards position executed state new act
-  Performs cards old new (Err (halt.Print stop)) = (position executed : ℕ) (state : State) → Represents Shows cards old position executed state → IsPrintCut state stop
-  Performs cards old new (Err (halt.Punch stop)) = (position executed : ℕ) (state : State) → Represents Shows cards old position executed state → IsPunchCut state stop
+  Performs cards old new (Ok act) =
+      (position executed : ℕ) (state : State) → Represents Shows cards old position executed state → ActsWith cards position executed state new act
+  Performs cards old new (Err (halt.Print stop)) =
+      (position executed : ℕ) (state : State) → Represents Shows cards old position executed state → IsPrintCut state stop
+  Performs cards old new (Err (halt.Punch stop)) =
+      (position executed : ℕ) (state : State) → Represents Shows cards old position executed state → IsPunchCut state stop
   Performs cards old new (Err halt.NoMemory) = (print_new ≡ print_old) × (punch_new ≡ punch_old)

@@ -25,7 +25,8 @@ pub record AreDemands (cells : Cells) : Type 0 where
   pub unbounded : IfSome cells.xdounb (λ position. 1 ≤ position)
 
 -- The next deck begins with a card of the job, or after the last; the setup is ready; and while the mark stands, it is what was solved.
-pub record IsSound {K : Type 0} (Ready : Filed → K → Type 0) (Solved : Mark → Option Name → Option Name → Filed → K → Type 0) (cards : List (List ℕ)) (machine : Machine K) : Type 0 where
+pub record IsSound {K : Type 0} (Ready : Filed → K → Type 0) (Solved : Mark → Option Name → Option Name → Filed → K → Type 0) (cards : List (List ℕ))
+    (machine : Machine K) : Type 0 where
   pub first : 1 ≤ machine.decks_from
   pub last : machine.decks_from ≤ length cards + 1
   pub demands : AreDemands machine.cells

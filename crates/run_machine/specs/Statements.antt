@@ -31,8 +31,10 @@ IsSoundVerb _ = Unit {0}
 module _ {K : Type 0} (Shows : Filed → K → Present → Type 0) (Given : ℕ → StatementMove → StatementOutcome → Type 0) where
   -- the run goes on with a state that the machine shows, or it ends
   abbrev pub Follows : ℕ → StatementMove → List (List ℕ) → Machine K → ℕ → ℕ → Gain → Act → Type 0
-  Follows card move cards new position executed gain act.Next = (after : State) × Given card move (next gain after) × Represents Shows cards new position executed after
-  Follows card move cards new position executed gain (act.Jump to) = (after : State) × Given card move (jump gain to after) × Represents Shows cards new position executed after × (1 ≤ to)
+  Follows card move cards new position executed gain act.Next =
+      (after : State) × Given card move (next gain after) × Represents Shows cards new position executed after
+  Follows card move cards new position executed gain (act.Jump to) =
+      (after : State) × Given card move (jump gain to after) × Represents Shows cards new position executed after × (1 ≤ to)
   Follows card move cards new position executed gain (act.Ends end) = Given card move (Ends gain (end_view end))
 
   module _ (verb : Verb ℕ) (card : ℕ) where
@@ -42,7 +44,8 @@ module _ {K : Type 0} (Shows : Filed → K → Present → Type 0) (Given : ℕ 
     -- from each state that the machine showed, the statement comes to this act, and prints nothing
     abbrev pub Decides : Machine K → Machine K → Act → Type 0
     Decides old new act =
-        (cards : List (List ℕ)) (position executed : ℕ) (state : State) → Represents Shows cards old position executed state → LeadsTo cards position executed state new Nothing act
+        (cards : List (List ℕ)) (position executed : ℕ) (state : State) → Represents Shows cards old position executed state →
+        LeadsTo cards position executed state new Nothing act
 
     module _ (print_old print_new : SinkState) where
       -- with some gain, which is printed, the statement comes to this act
@@ -62,7 +65,9 @@ module _ {K : Type 0} (Shows : Filed → K → Present → Type 0) (Given : ℕ 
       -- What a statement that punches nothing does from each state that the machine showed. Where it finds no memory, nothing is
       -- printed.
       abbrev pub Executes : List (List ℕ) → Machine K → Machine K → Result Act Halt → Type 0
-      Executes cards old new (Ok act) = (position executed : ℕ) (state : State) → Represents Shows cards old position executed state → Acts cards position executed state new act
-      Executes cards old new (Err (halt.Print stop)) = (position executed : ℕ) (state : State) → Represents Shows cards old position executed state → IsCutOff state stop
+      Executes cards old new (Ok act) =
+          (position executed : ℕ) (state : State) → Represents Shows cards old position executed state → Acts cards position executed state new act
+      Executes cards old new (Err (halt.Print stop)) =
+          (position executed : ℕ) (state : State) → Represents Shows cards old position executed state → IsCutOff state stop
       Executes cards old new (Err (halt.Punch stop)) = ⊥
       Executes cards old new (Err halt.NoMemory) = print_new ≡ print_old

@@ -24,7 +24,8 @@ impl<S: Kept> Machine<S> {
         card: u32,
     ) -> Result<Act, Halt>
         ensures { (cards : List (List ℕ)) →
-            Performs S.shows DecidesAlone program.Bcdout card (P.taken print.old) (P.taken print.new)
+            Performs S.shows DecidesAlone program.Bcdout card
+            (P.taken print.old) (P.taken print.new)
             (U.taken punch.old) (U.taken punch.new) cards self.now self.now result }
     {
         let Some(problem) = self.problem_in(NameCell::Xpbname) else {

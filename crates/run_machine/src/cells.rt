@@ -58,7 +58,8 @@ impl<S: Kept> Machine<S> {
 
     /// MOVE of a number.
     pub fn move_number(&mut self, cell: NumberCell, value: Frac) -> Act
-        ensures acts { (card : ℕ) → Decides S.shows DecidesAlone (program.MoveNumber cell value) card
+        ensures acts { (card : ℕ) →
+            Decides S.shows DecidesAlone (program.MoveNumber cell value) card
             self.old self.new result }
         ensures sound { (cards : List (List ℕ)) → IsSound S.ready S.solved cards self.old →
             IsSound S.ready S.solved cards self.new }
@@ -82,7 +83,8 @@ impl<S: Kept> Machine<S> {
     /// MVADR: sets a demand to a position.
     pub fn set_demand(&mut self, demand: Demand, position: u32) -> Act
         requires { 1 ≤ position }
-        ensures acts { (card : ℕ) → Decides S.shows DecidesAlone (program.Mvadr demand position) card
+        ensures acts { (card : ℕ) →
+            Decides S.shows DecidesAlone (program.Mvadr demand position) card
             self.old self.new result }
         ensures sound { (cards : List (List ℕ)) → IsSound S.ready S.solved cards self.old →
             IsSound S.ready S.solved cards self.new }

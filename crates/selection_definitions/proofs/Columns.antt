@@ -21,7 +21,8 @@ rows = plain_row N [] ∷ plain_row G [] ∷ combination (item 1 (pos 2) ∷ ite
 
 -- each number of a column with its row, by its terms
 numbers : List (Entry ℕ) → List (ℕ × ℤ × ℕ)
-numbers entries = map (λ (number : Coefficient). (number.row, number.value.numerator, number.value.denominator)) (coefficients rows (record { name = []; items = entries }))
+numbers entries =
+    map (λ (number : Coefficient). (number.row, number.value.numerator, number.value.denominator)) (coefficients rows (record { name = []; items = entries }))
 
 -- a column with 5 on the limit and 7 on the objective: -1 on the first combination, 1 on the second, 5 on the third, and 0 on the last
 on_both : numbers (item 2 (pos 5) ∷ item 1 (pos 7) ∷ [])

@@ -48,9 +48,11 @@ module _ {X : Type 0} where
   numbered first (y ∷ xs) zero x is = λ i. Some (sym (add-zero first) i, same_Some y x is i)
   numbered first (y ∷ xs) (suc place) x is = numbered (first + 1) xs place x is ∙ ap (λ n. Some (n, x)) (omega arith)
 
-  of_numbered : (first : ℕ) (xs : List X) (place : ℕ) (entry : ℕ × X) → slice_get (enumerate_from first xs) place ≡ Some entry → (entry.0 ≡ first + place) × (slice_get xs place ≡ Some entry.1)
+  of_numbered : (first : ℕ) (xs : List X) (place : ℕ) (entry : ℕ × X) → slice_get (enumerate_from first xs) place ≡ Some entry →
+      (entry.0 ≡ first + place) × (slice_get xs place ≡ Some entry.1)
   of_numbered first [] place entry is = cc
-  of_numbered first (y ∷ xs) zero entry is = let same = same_Some (first, y) entry is in (ap (λ (e : ℕ × X). e.0) (sym same) ∙ sym (add-zero first), ap (λ (e : ℕ × X). Some e.1) same)
+  of_numbered first (y ∷ xs) zero entry is =
+      let same = same_Some (first, y) entry is in (ap (λ (e : ℕ × X). e.0) (sym same) ∙ sym (add-zero first), ap (λ (e : ℕ × X). Some e.1) same)
   of_numbered first (y ∷ xs) (suc place) entry is = let later = of_numbered (first + 1) xs place entry is in (omega (arith, later.0), later.1)
 
 -- ---- one operation
@@ -59,7 +61,8 @@ module _ {X : Type 0} where
 made_first : (op : Op) (x y : ℚ) (steps : List Step) → verdict_of (operation op x y ∷ steps) ≡ Checked → (refuses op x y ≡ false) × (verdict_of steps ≡ Checked)
 made_first op x y steps e = by (refuses op x y) e
   where
-    by : (b : Bool) → (if b then Unchecked (record { op = op; left = x; right = y }) else verdict_of steps) ≡ Checked → (b ≡ false) × (verdict_of steps ≡ Checked)
+    by : (b : Bool) → (if b then Unchecked (record { op = op; left = x; right = y }) else verdict_of steps) ≡ Checked →
+        (b ≡ false) × (verdict_of steps ≡ Checked)
     by true e = cc
     by false e = (refl, e)
 
@@ -94,7 +97,8 @@ sum_made start (t ∷ ts) e (suc term) product is =
     sum_made (start +ℚ product_of t) ts added.1 term product is
 
 make_sum : (start : ℚ) (ts : List Product) →
-    ((term : ℕ) (product : Product) → slice_get ts term ≡ Some product → (refuses Mul product.left product.right ≡ false) × (refuses Add (sum_of start (take term ts)) (product_of product) ≡ false)) →
+    ((term : ℕ) (product : Product) → slice_get ts term ≡ Some product →
+    (refuses Mul product.left product.right ≡ false) × (refuses Add (sum_of start (take term ts)) (product_of product) ≡ false)) →
     verdict_of (sum_steps start ts) ≡ Checked
 make_sum start [] each = refl
 make_sum start (t ∷ ts) each =
@@ -116,24 +120,32 @@ module _ (problem : Problem ℕ) (choice : Choice) where
   column_part column row = combination_steps (take row.0 problem.rows) column.items row.1.parts
 
   -- it is made where what each row makes is checked, and what each row makes in each column
-  pub made_by_parts : ((place : ℕ) (row : Row ℕ) → slice_get problem.rows place ≡ Some row → verdict_of (range_steps row.kind (rhs_of problem choice (place + 1)) (range_of problem choice (place + 1))) ≡ Checked) →
-      ((column_place : ℕ) (column : Group (Entry ℕ)) → slice_get problem.columns column_place ≡ Some column → (place : ℕ) (row : Row ℕ) → slice_get problem.rows place ≡ Some row →
+  pub made_by_parts :
+      ((place : ℕ) (row : Row ℕ) → slice_get problem.rows place ≡ Some row →
+      verdict_of (range_steps row.kind (rhs_of problem choice (place + 1)) (range_of problem choice (place + 1))) ≡ Checked) →
+      ((column_place : ℕ) (column : Group (Entry ℕ)) → slice_get problem.columns column_place ≡ Some column → (place : ℕ) (row : Row ℕ) →
+      slice_get problem.rows place ≡ Some row →
       verdict_of (combination_steps (take place problem.rows) column.items row.parts) ≡ Checked) →
       is_made problem choice ≡ true
   unfolding is_made
-  made_by_parts each_row each_column = ap is_checked (append-checked (row_steps problem choice) (flat_map (column_steps problem) problem.columns) rows_made columns_made)
+  made_by_parts each_row each_column =
+      ap is_checked (append-checked (row_steps problem choice) (flat_map (column_steps problem) problem.columns) rows_made columns_made)
     where
       rows_made : verdict_of (row_steps problem choice) ≡ Checked
       rows_made = all_of row_part (enumerate_from 1 problem.rows) (λ place entry is.
           let at = of_numbered 1 problem.rows place entry is in
           let number : place + 1 ≡ entry.0 = omega (arith, at.0) in
-          subst (λ n. verdict_of (range_steps entry.1.kind (rhs_of problem choice n) (range_of problem choice n)) ≡ Checked) number (each_row place entry.1 at.1))
+          subst (λ n. verdict_of (range_steps entry.1.kind (rhs_of problem choice n) (range_of problem choice n)) ≡ Checked) number
+          (each_row place entry.1 at.1))
 
       columns_made : verdict_of (flat_map (column_steps problem) problem.columns) ≡ Checked
-      columns_made = all_of (column_steps problem) problem.columns (λ column_place column is_column. all_of (column_part column) (enumerate_from 0 problem.rows) (λ place entry is.
+      columns_made =
+          all_of (column_steps problem) problem.columns
+          (λ column_place column is_column. all_of (column_part column) (enumerate_from 0 problem.rows) (λ place entry is.
           let at = of_numbered 0 problem.rows place entry is in
           let number : place ≡ entry.0 = omega (arith, at.0) in
-          subst (λ n. verdict_of (combination_steps (take n problem.rows) column.items entry.1.parts) ≡ Checked) number (each_column column_place column is_column place entry.1 at.1)))
+          subst (λ n. verdict_of (combination_steps (take n problem.rows) column.items entry.1.parts) ≡ Checked) number
+          (each_column column_place column is_column place entry.1 at.1)))
 
   -- ---- where it is made, nothing is shown to be refused
 
@@ -143,7 +155,9 @@ module _ (problem : Problem ℕ) (choice : Choice) where
       (made_first viewed.op (rhs_of problem choice (viewed.place + 1)) (magnitude viewed.range) [] one).0 viewed.refuses
     where
       at_row : verdict_of (range_steps viewed.row.kind (rhs_of problem choice (1 + viewed.place)) (range_of problem choice (1 + viewed.place))) ≡ Checked
-      at_row = each_of row_part (enumerate_from 1 problem.rows) made viewed.place (1 + viewed.place, viewed.row) (numbered 1 problem.rows viewed.place viewed.row viewed.is_row)
+      at_row =
+          each_of row_part (enumerate_from 1 problem.rows) made viewed.place (1 + viewed.place, viewed.row)
+          (numbered 1 problem.rows viewed.place viewed.row viewed.is_row)
 
       swap : 1 + viewed.place ≡ viewed.place + 1
       swap = omega arith
@@ -161,7 +175,9 @@ module _ (problem : Problem ℕ) (choice : Choice) where
       at_column = each_of (column_steps problem) problem.columns made viewed.column_place viewed.column viewed.is_column
 
       at_row : verdict_of (column_part viewed.column (0 + viewed.place, viewed.row)) ≡ Checked
-      at_row = each_of (column_part viewed.column) (enumerate_from 0 problem.rows) at_column viewed.place (0 + viewed.place, viewed.row) (numbered 0 problem.rows viewed.place viewed.row viewed.is_row)
+      at_row =
+          each_of (column_part viewed.column) (enumerate_from 0 problem.rows) at_column viewed.place (0 + viewed.place, viewed.row)
+          (numbered 0 problem.rows viewed.place viewed.row viewed.is_row)
 
       zero_first : 0 + viewed.place ≡ viewed.place
       zero_first = omega arith
@@ -172,17 +188,22 @@ module _ (problem : Problem ℕ) (choice : Choice) where
           (subst (λ o. verdict_of (combination_steps (take viewed.place problem.rows) viewed.column.items o) ≡ Checked) viewed.is_combination
           (subst (λ n. verdict_of (combination_steps (take n problem.rows) viewed.column.items viewed.row.parts) ≡ Checked) zero_first at_row))
 
-      by : Refuses e Mul viewed.product.left viewed.product.right ⊎ Refuses e Add (sum_of zero_ℚ (take viewed.term viewed.products)) (product_of viewed.product) → ⊥
-      by (inl refused) = not_both e Mul viewed.product.left viewed.product.right (sum_made zero_ℚ viewed.products sum viewed.term viewed.product viewed.is_product).0 refused
+      by : Refuses e Mul viewed.product.left viewed.product.right ⊎ Refuses e Add (sum_of zero_ℚ (take viewed.term viewed.products))
+          (product_of viewed.product) → ⊥
+      by (inl refused) =
+          not_both e Mul viewed.product.left viewed.product.right (sum_made zero_ℚ viewed.products sum viewed.term viewed.product viewed.is_product).0 refused
       by (inr refused) =
-          not_both e Add (sum_of zero_ℚ (take viewed.term viewed.products)) (product_of viewed.product) (sum_made zero_ℚ viewed.products sum viewed.term viewed.product viewed.is_product).1 refused
+          not_both e Add (sum_of zero_ℚ (take viewed.term viewed.products)) (product_of viewed.product)
+          (sum_made zero_ℚ viewed.products sum viewed.term viewed.product viewed.is_product).1 refused
 
   to : is_made problem choice ≡ true → (e : Evidence) → IsSelectionRefusal problem choice e → ⊥
   unfolding is_made
   to made e viewed = by viewed
     where
       both : (verdict_of (row_steps problem choice) ≡ Checked) × (verdict_of (flat_map (column_steps problem) problem.columns) ≡ Checked)
-      both = checked-append (row_steps problem choice) (flat_map (column_steps problem) problem.columns) (checked_if (verdict_of (selection_steps problem choice)) made)
+      both =
+          checked-append (row_steps problem choice) (flat_map (column_steps problem) problem.columns)
+          (checked_if (verdict_of (selection_steps problem choice)) made)
 
       by : IsSelectionRefusal problem choice e → ⊥
       by (inl refused) = no_range both.0 e refused
@@ -192,12 +213,15 @@ module _ (problem : Problem ℕ) (choice : Choice) where
 
   module _ (unshown : (e : Evidence) → IsSelectionRefusal problem choice e → ⊥) where
     abbrev evidence : ℕ → ℕ → ℕ → ℕ → Op → ℚ → ℚ → Evidence
-    evidence formula i j term op x y = record { formula = formula; way = 0; p = 0; q = 0; i = i; j = j; term = term; theta = zero_ℚ; refused = record { op = op; left = x; right = y } }
+    evidence formula i j term op x y =
+        record { formula = formula; way = 0; p = 0; q = 0; i = i; j = j; term = term; theta = zero_ℚ; refused = record { op = op; left = x; right = y } }
 
-    range_made : (place : ℕ) (row : Row ℕ) → slice_get problem.rows place ≡ Some row → verdict_of (range_steps row.kind (rhs_of problem choice (place + 1)) (range_of problem choice (place + 1))) ≡ Checked
+    range_made : (place : ℕ) (row : Row ℕ) → slice_get problem.rows place ≡ Some row →
+        verdict_of (range_steps row.kind (rhs_of problem choice (place + 1)) (range_of problem choice (place + 1))) ≡ Checked
     range_made place row is_row = by (range_of problem choice (place + 1)) refl
       where
-        with_op : (range : ℚ) → range_of problem choice (place + 1) ≡ Some range → (o : Option Op) → range_operation row.kind range ≡ o → verdict_of (sum_with o (rhs_of problem choice (place + 1)) range) ≡ Checked
+        with_op : (range : ℚ) → range_of problem choice (place + 1) ≡ Some range → (o : Option Op) → range_operation row.kind range ≡ o →
+            verdict_of (sum_with o (rhs_of problem choice (place + 1)) range) ≡ Checked
         with_op range has None is_op = refl
         with_op range has (Some op) is_op = make_first op (rhs_of problem choice (place + 1)) (magnitude range) []
             (made_if_unshown op (rhs_of problem choice (place + 1)) (magnitude range) (λ refused.
@@ -219,16 +243,20 @@ module _ (problem : Problem ℕ) (choice : Choice) where
         by None has = refl
         by (Some range) has = with_op range has (range_operation row.kind range) refl
 
-    module _ (column_place : ℕ) (column : Group (Entry ℕ)) (is_column : slice_get problem.columns column_place ≡ Some column) (place : ℕ) (row : Row ℕ) (is_row : slice_get problem.rows place ≡ Some row) where
+    module _ (column_place : ℕ) (column : Group (Entry ℕ)) (is_column : slice_get problem.columns column_place ≡ Some column) (place : ℕ) (row : Row ℕ)
+        (is_row : slice_get problem.rows place ≡ Some row) where
       combination_made : (o : Option (List (Entry ℕ))) → row.parts ≡ o → verdict_of (combination_steps (take place problem.rows) column.items o) ≡ Checked
       combination_made None is = refl
       combination_made (Some parts) is = make_sum zero_ℚ products (λ term product is_product. (
         made_if_unshown Mul product.left product.right (λ refused.
-            shows term product is_product (evidence combination_formula (place + 1) (length problem.rows + (column_place + 1)) term Mul product.left product.right)
+            shows term product is_product
+            (evidence combination_formula (place + 1) (length problem.rows + (column_place + 1)) term Mul product.left product.right)
             (record { is_formula = refl; is_p = refl; is_q = refl; is_i = refl; is_j = refl; is_term = refl }) refl refl
             (inl (record { is_op = refl; is_left = refl; is_right = refl; refused = refused }))),
         made_if_unshown Add (sum_of zero_ℚ (take term products)) (product_of product) (λ refused.
-            shows term product is_product (evidence combination_formula (place + 1) (length problem.rows + (column_place + 1)) term Add (sum_of zero_ℚ (take term products)) (product_of product))
+            shows term product is_product
+            (evidence combination_formula (place + 1) (length problem.rows + (column_place + 1)) term Add (sum_of zero_ℚ (take term products))
+            (product_of product))
             (record { is_formula = refl; is_p = refl; is_q = refl; is_i = refl; is_j = refl; is_term = refl }) refl refl
             (inr (record { is_op = refl; is_left = refl; is_right = refl; refused = refused }))),
       ))
@@ -236,8 +264,10 @@ module _ (problem : Problem ℕ) (choice : Choice) where
           products : List Product
           products = part_products parts (column_values (take place problem.rows) column.items)
 
-          shows : (term : ℕ) (product : Product) → slice_get products term ≡ Some product → (e : Evidence) → Names e combination_formula 0 0 (place + 1) (length problem.rows + (column_place + 1)) term →
-              e.way ≡ 0 → e.theta ≡ zero_ℚ → Refuses e Mul product.left product.right ⊎ Refuses e Add (sum_of zero_ℚ (take term products)) (product_of product) → ⊥
+          shows : (term : ℕ) (product : Product) → slice_get products term ≡ Some product → (e : Evidence) →
+              Names e combination_formula 0 0 (place + 1) (length problem.rows + (column_place + 1)) term →
+              e.way ≡ 0 → e.theta ≡ zero_ℚ →
+              Refuses e Mul product.left product.right ⊎ Refuses e Add (sum_of zero_ℚ (take term products)) (product_of product) → ⊥
           shows term product is_product e names no_way no_theta refuses = unshown e (inr (record {
             place = place;
             row = row;
@@ -259,7 +289,9 @@ module _ (problem : Problem ℕ) (choice : Choice) where
           }))
 
     pub made_if_none : is_made problem choice ≡ true
-    made_if_none = made_by_parts range_made (λ column_place column is_column place row is_row. combination_made column_place column is_column place row is_row row.parts refl)
+    made_if_none =
+        made_by_parts range_made
+        (λ column_place column is_column place row is_row. combination_made column_place column is_column place row is_row row.parts refl)
 
 pub made_iff : (problem : Problem ℕ) (choice : Choice) → (is_made problem choice ≡ true) ↔ ((e : Evidence) → IsSelectionRefusal problem choice e → ⊥)
 made_iff problem choice = (to problem choice, made_if_none problem choice)

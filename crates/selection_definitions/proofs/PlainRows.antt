@@ -21,7 +21,8 @@ none_from : (values : List (Option ℚ)) (first : ℕ) (rows : List (Row ℕ)) �
     → filter_map (λ (row : ℕ × Row ℕ). on_combination row.0 (value_in values row.0) row.1.parts) (enumerate_from first rows) ≡ []
 none_from values first [] plain = refl
 none_from values first (row ∷ rows) plain =
-    rw (none_on first (value_in values first) row.parts (left (is_some row.parts) (combines rows) plain)) (none_from values (first + 1) rows (right (is_some row.parts) (combines rows) plain))
+    rw (none_on first (value_in values first) row.parts (left (is_some row.parts) (combines rows) plain))
+    (none_from values (first + 1) rows (right (is_some row.parts) (combines rows) plain))
   where
     left : (a b : Bool) → (a || b) ≡ false → a ≡ false
     left true b none = none
@@ -33,8 +34,10 @@ none_from values first (row ∷ rows) plain =
     right false b none = none
 
 pub plain_coefficients : (rows : List (Row ℕ)) (column : Group (Entry ℕ)) → combines rows ≡ false → coefficients rows column ≡ entered column.items
-plain_coefficients rows column plain = ap (λ more. entered column.items ++ more) (none_from (column_values rows column.items) 1 rows plain) ∙ append-nil (entered column.items)
+plain_coefficients rows column plain =
+    ap (λ more. entered column.items ++ more) (none_from (column_values rows column.items) 1 rows plain) ∙ append-nil (entered column.items)
 
-pub plain_columns : (rows : List (Row ℕ)) (columns : List (Group (Entry ℕ))) → combines rows ≡ false → map (coefficients rows) columns ≡ map (λ (column : Group (Entry ℕ)). entered column.items) columns
+pub plain_columns : (rows : List (Row ℕ)) (columns : List (Group (Entry ℕ))) → combines rows ≡ false →
+    map (coefficients rows) columns ≡ map (λ (column : Group (Entry ℕ)). entered column.items) columns
 plain_columns rows [] plain = refl
 plain_columns rows (column ∷ columns) plain = λ i. plain_coefficients rows column plain i ∷ plain_columns rows columns plain i

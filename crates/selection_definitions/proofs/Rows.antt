@@ -38,7 +38,8 @@ without_ranges : (limits (row_limits N five None) ≡ (None, None)) × (limits (
 unfolding limits terms int five whole
 without_ranges = (refl, refl, refl, refl)
 
-at_least : (ranged G (pos 3) ≡ (int (pos 5), int (pos 8))) × (ranged G (negsuc 2) ≡ (int (pos 5), int (pos 8))) × (ranged G (pos 0) ≡ (int (pos 5), int (pos 5)))
+at_least : (ranged G (pos 3) ≡ (int (pos 5), int (pos 8))) × (ranged G (negsuc 2) ≡ (int (pos 5), int (pos 8))) ×
+    (ranged G (pos 0) ≡ (int (pos 5), int (pos 5)))
 unfolding ranged limits terms int five whole fraction gcd neg_ℚ ◌+ℚ◌ compare_ℚ
 at_least = (refl, refl, refl)
 
@@ -63,11 +64,13 @@ negative_upper : limits (column_limits (bound 1 Lo (pos 7) ∷ bound 2 Up (negsu
 unfolding limits terms int bound whole
 negative_upper = refl
 
-both_ends : (limits (column_limits (bound 1 Lo (negsuc 0) ∷ bound 1 Up (pos 1) ∷ []) 1) ≡ (int (negsuc 0), int (pos 1))) × (limits (column_limits (bound 1 Fx (pos 4) ∷ []) 1) ≡ (int (pos 4), int (pos 4)))
+both_ends : (limits (column_limits (bound 1 Lo (negsuc 0) ∷ bound 1 Up (pos 1) ∷ []) 1) ≡ (int (negsuc 0), int (pos 1))) ×
+    (limits (column_limits (bound 1 Fx (pos 4) ∷ []) 1) ≡ (int (pos 4), int (pos 4)))
 unfolding limits terms int bound whole
 both_ends = (refl, refl)
 
-removed_ends : (limits (column_limits (valueless 1 Fr ∷ []) 1) ≡ (None, None)) × (limits (column_limits (bound 1 Up (pos 2) ∷ valueless 1 Mi ∷ []) 1) ≡ (None, int (pos 2)))
+removed_ends : (limits (column_limits (valueless 1 Fr ∷ []) 1) ≡ (None, None)) ×
+    (limits (column_limits (bound 1 Up (pos 2) ∷ valueless 1 Mi ∷ []) 1) ≡ (None, int (pos 2)))
     × (limits (column_limits (valueless 1 Pl ∷ []) 1) ≡ (int (pos 0), None)) × (limits (column_limits [] 1) ≡ (int (pos 0), None))
 unfolding limits terms int bound valueless whole
 removed_ends = (refl, refl, refl, refl)
@@ -101,11 +104,13 @@ choice objective rhs range bound = record {
   options = record { bound = option_map codes bound; range = option_map codes range; sense = Min };
 }
 
-objectives : (objective_of problem.rows None ≡ Some 2) × (objective_of problem.rows (Some (codes "CHG")) ≡ Some 3) × (objective_of problem.rows (Some (codes "Z")) ≡ None)
+objectives : (objective_of problem.rows None ≡ Some 2) × (objective_of problem.rows (Some (codes "CHG")) ≡ Some 3) ×
+    (objective_of problem.rows (Some (codes "Z")) ≡ None)
 unfolding problem row
 objectives = (refl, refl, refl)
 
-no_fault : (selection_fault problem (choice None None None None) ≡ None) × (selection_fault problem (choice (Some "CHG") (Some "C") (Some "R") (Some "BND")) ≡ None)
+no_fault : (selection_fault problem (choice None None None None) ≡ None) ×
+    (selection_fault problem (choice (Some "CHG") (Some "C") (Some "R") (Some "BND")) ≡ None)
 unfolding problem choice selection_fault row set item bound whole
 no_fault = (refl, refl)
 
@@ -120,11 +125,14 @@ unfolding problem choice selection_fault row set item bound whole
 faults = (refl, refl, refl, refl, refl, refl)
 
 -- the first right-hand side set applies where none is chosen, and a row without an item has 0; no range applies unless it is chosen
-right_hand_sides : (terms (Some (rhs_of problem (choice None None None None) 1)) ≡ int (pos 3)) × (terms (Some (rhs_of problem (choice None (Some "C") None None) 1)) ≡ int (pos 0))
-    × (terms (Some (rhs_of problem (choice None (Some "C") None None) 2)) ≡ int (pos 4)) × (terms (Some (rhs_of (record problem { rhs = [] }) (choice None None None None) 1)) ≡ int (pos 0))
+right_hand_sides : (terms (Some (rhs_of problem (choice None None None None) 1)) ≡ int (pos 3)) ×
+    (terms (Some (rhs_of problem (choice None (Some "C") None None) 1)) ≡ int (pos 0))
+    × (terms (Some (rhs_of problem (choice None (Some "C") None None) 2)) ≡ int (pos 4)) ×
+    (terms (Some (rhs_of (record problem { rhs = [] }) (choice None None None None) 1)) ≡ int (pos 0))
 unfolding problem choice terms int row set item bound whole
 right_hand_sides = (refl, refl, refl, refl)
 
-chosen_ranges : (terms (range_of problem (choice None None None None) 1) ≡ None) × (terms (range_of problem (choice None None (Some "R") None) 1) ≡ int (pos 2)) × (terms (range_of problem (choice None None (Some "R") None) 2) ≡ None)
+chosen_ranges : (terms (range_of problem (choice None None None None) 1) ≡ None) ×
+    (terms (range_of problem (choice None None (Some "R") None) 1) ≡ int (pos 2)) × (terms (range_of problem (choice None None (Some "R") None) 2) ≡ None)
 unfolding problem choice terms int row set item bound whole
 chosen_ranges = (refl, refl, refl)

@@ -68,4 +68,5 @@ unbounded = record { lower = Some zero_ℚ; upper = None }
 -- the bounds of a column are applied in order
 abbrev pub column_limits : List (Bound ℕ) → ℕ → Limits
 column_limits bounds column =
-    fold (λ limits bound. bounded bound.kind (option_map (λ value. value.value) bound.value) limits) unbounded (filter (λ bound. nat_eq bound.column column) bounds)
+    fold (λ limits bound. bounded bound.kind (option_map (λ value. value.value) bound.value) limits) unbounded
+    (filter (λ bound. nat_eq bound.column column) bounds)

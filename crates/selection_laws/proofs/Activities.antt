@@ -19,7 +19,8 @@ no-sum (part ∷ parts) = ap₂ ◌+ℚ◌ (mul-zero part.value.value) (no-sum p
 -- the sums of a list of columns, whichever is taken; a column that isn't there has nothing
 in-columns : (rows : List (Row ℕ)) (columns : List (Group (Entry ℕ))) → AllByRecursion (λ (column : Group (Entry ℕ)). IsColumnOf rows column.items) columns
     → (place : ℕ) (row : Row ℕ) (parts : List (Entry ℕ)) → slice_get rows place ≡ Some row → row.parts ≡ Some parts → (k : ℕ)
-    → on_row (slice_index_or (map (coefficients rows) columns) k []) (place + 1) ≡ sum_of_parts parts (λ i. on_row (slice_index_or (map (coefficients rows) columns) k []) i)
+    → on_row (slice_index_or (map (coefficients rows) columns) k []) (place + 1) ≡ sum_of_parts parts
+    (λ i. on_row (slice_index_or (map (coefficients rows) columns) k []) i)
 in-columns rows [] are place row parts is combines k = sym (no-sum parts)
 in-columns rows (column ∷ columns) are place row parts is combines zero = adds rows column are.0 place row parts is combines
 in-columns rows (column ∷ columns) are place row parts is combines (suc k) = in-columns rows columns are.1 place row parts is combines k
@@ -34,8 +35,10 @@ exchanged : (n : ℕ) (parts : List (Entry ℕ)) (a : ℕ → ℕ → ℚ) (w : 
     → sum_to n (λ j. sum_of_parts parts (λ i. a i j) *ℚ w j) ≡ sum_of_parts parts (λ i. sum_to n (λ j. a i j *ℚ w j))
 exchanged n [] a w = sum_to-zero n (λ j. zero_ℚ *ℚ w j) (λ j below. zero-mul (w j))
 exchanged n (part ∷ parts) a w =
-    sum_to-same n (λ j. sum_of_parts (part ∷ parts) (λ i. a i j) *ℚ w j) (λ j. part.value.value *ℚ (a part.row j *ℚ w j) +ℚ sum_of_parts parts (λ i. a i j) *ℚ w j)
-    (λ j below. add-mul (part.value.value *ℚ a part.row j) (sum_of_parts parts (λ i. a i j)) (w j) ∙ ap (λ x. x +ℚ sum_of_parts parts (λ i. a i j) *ℚ w j) (mul_assoc part.value.value (a part.row j) (w j)))
+    sum_to-same n (λ j. sum_of_parts (part ∷ parts) (λ i. a i j) *ℚ w j)
+    (λ j. part.value.value *ℚ (a part.row j *ℚ w j) +ℚ sum_of_parts parts (λ i. a i j) *ℚ w j)
+    (λ j below. add-mul (part.value.value *ℚ a part.row j) (sum_of_parts parts (λ i. a i j)) (w j)
+    ∙ ap (λ x. x +ℚ sum_of_parts parts (λ i. a i j) *ℚ w j) (mul_assoc part.value.value (a part.row j) (w j)))
     ∙ sum_to-add n (λ j. part.value.value *ℚ (a part.row j *ℚ w j)) (λ j. sum_of_parts parts (λ i. a i j) *ℚ w j)
     ∙ ap₂ ◌+ℚ◌ (sum_to-mul_left n part.value.value (λ j. a part.row j *ℚ w j)) (exchanged n parts a w)
 
@@ -45,7 +48,8 @@ pub adds-activities : (problem : Problem ℕ) → AllByRecursion (λ (column : G
     → z (place + 1) ≡ sum_of_parts parts z
 adds-activities problem are place row parts z is combines earlier keeps =
     keeps (place + 1) (omega arith, omega (arith, within))
-    ∙ sum_to-same columns (λ j. entry (matrix_of problem) (place + 1) (suc j) *ℚ w j) (λ j. sum_of_parts parts (λ i. entry (matrix_of problem) i (suc j)) *ℚ w j)
+    ∙ sum_to-same columns (λ j. entry (matrix_of problem) (place + 1) (suc j) *ℚ w j)
+    (λ j. sum_of_parts parts (λ i. entry (matrix_of problem) i (suc j)) *ℚ w j)
     (λ j below. ap (λ x. x *ℚ w j) (adds-numbers problem are place (suc j) row parts is combines))
     ∙ exchanged columns parts (λ i j. entry (matrix_of problem) i (suc j)) w
     ∙ same-sums parts (λ i. sum_to columns (λ j. entry (matrix_of problem) i (suc j) *ℚ w j)) z (each parts earlier)

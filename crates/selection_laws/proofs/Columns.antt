@@ -50,12 +50,14 @@ module _ (values : List (Option ℚ)) where
       let place : first + 0 ≡ first = omega arith in
       rw place (here (value_in values first) other_row.parts ∙ ap (λ (r : Row ℕ). number_for r.parts (value_in values first)) same)
     where
-      here : (has : Option ℚ) (parts : Option (List (Entry ℕ))) → on_row (cons_option (on_combination first has parts) (combined (first + 1) rows)) first ≡ number_for parts has
+      here : (has : Option ℚ) (parts : Option (List (Entry ℕ))) →
+          on_row (cons_option (on_combination first has parts) (combined (first + 1) rows)) first ≡ number_for parts has
       here has None = later (first + 1) first rows (omega arith)
       here None (Some parts) = later (first + 1) first rows (omega arith)
       here (Some v) (Some parts) = found (eqb_tells first first)
         where
-          found : ((nat_eq first first ≡ true) × (first ≡ first)) ⊎ ((nat_eq first first ≡ false) × (first ≢ first)) → (if nat_eq first first then v else on_row (combined (first + 1) rows) first) ≡ v
+          found : ((nat_eq first first ≡ true) × (first ≡ first)) ⊎ ((nat_eq first first ≡ false) × (first ≢ first)) →
+              (if nat_eq first first then v else on_row (combined (first + 1) rows) first) ≡ v
           found (inl same) = rw same.0 refl
           found (inr differ) = absurd (differ.1 refl)
   on-combined first (suc k) (other_row ∷ rows) row is =
@@ -65,7 +67,8 @@ module _ (values : List (Option ℚ)) where
       ∙ on-combined (first + 1) k rows row is
       ∙ ap (λ i. number_for row.parts (value_in values i)) (sym place)
     where
-      apart : ((nat_eq first (first + suc k) ≡ true) × (first ≡ first + suc k)) ⊎ ((nat_eq first (first + suc k) ≡ false) × (first ≢ first + suc k)) → nat_eq first (first + suc k) ≡ false
+      apart : ((nat_eq first (first + suc k) ≡ true) × (first ≡ first + suc k)) ⊎ ((nat_eq first (first + suc k) ≡ false) × (first ≢ first + suc k)) →
+          nat_eq first (first + suc k) ≡ false
       apart (inl same) = absurd (omega (arith, same.1))
       apart (inr differ) = differ.0
 
@@ -75,7 +78,8 @@ entered-on : (es : List (Entry ℕ)) (i : ℕ) → on_row (entered es) i ≡ unw
 entered-on [] i = refl
 entered-on (e ∷ es) i = by (entered-on es i) (nat_eq e.row i) refl
   where
-    by : on_row (entered es) i ≡ unwrap_or (value_on es i) zero_ℚ → (b : Bool) → nat_eq e.row i ≡ b → (if nat_eq e.row i then e.value.value else on_row (entered es) i) ≡ unwrap_or (value_on (e ∷ es) i) zero_ℚ
+    by : on_row (entered es) i ≡ unwrap_or (value_on es i) zero_ℚ → (b : Bool) → nat_eq e.row i ≡ b →
+        (if nat_eq e.row i then e.value.value else on_row (entered es) i) ≡ unwrap_or (value_on (e ∷ es) i) zero_ℚ
     by later true is = rw is refl
     by later false is = rw is later
 
@@ -89,7 +93,8 @@ back-only : (es : List (Entry ℕ)) (ys : List Coefficient) (i : ℕ) → value_
 back-only [] ys i none = refl
 back-only (e ∷ es) ys i none = by (λ none. back-only es ys i none) (nat_eq e.row i) refl
   where
-    by : (value_on es i ≡ None → on_row (entered es ++ ys) i ≡ on_row ys i) → (b : Bool) → nat_eq e.row i ≡ b → (if nat_eq e.row i then e.value.value else on_row (entered es ++ ys) i) ≡ on_row ys i
+    by : (value_on es i ≡ None → on_row (entered es ++ ys) i ≡ on_row ys i) → (b : Bool) → nat_eq e.row i ≡ b →
+        (if nat_eq e.row i then e.value.value else on_row (entered es ++ ys) i) ≡ on_row ys i
     by later true is = absurd (cc (none, is))
     by later false is = rw is (later (rest is none))
       where
@@ -109,9 +114,14 @@ sum-of-products : (parts : List (Entry ℕ)) (before : List (Option ℚ))
 sum-of-products [] before = refl
 sum-of-products (part ∷ parts) before = by (sum-of-products parts before) (value_in before part.row) refl
   where
-    by : sum_of zero_ℚ (part_products parts before) ≡ sum_of_parts parts (λ row. unwrap_or (value_in before row) zero_ℚ) → (v : Option ℚ) → value_in before part.row ≡ v
-        → sum_of zero_ℚ (part_products (part ∷ parts) before) ≡ part.value.value *ℚ unwrap_or (value_in before part.row) zero_ℚ +ℚ sum_of_parts parts (λ row. unwrap_or (value_in before row) zero_ℚ)
-    by more None is = rw is (more ∙ sym (ap (λ s. s +ℚ sum_of_parts parts (λ row. unwrap_or (value_in before row) zero_ℚ)) (mul-zero part.value.value) ∙ zero-add (sum_of_parts parts (λ row. unwrap_or (value_in before row) zero_ℚ))))
+    by : sum_of zero_ℚ (part_products parts before) ≡ sum_of_parts parts (λ row. unwrap_or (value_in before row) zero_ℚ) → (v : Option ℚ)
+        → value_in before part.row ≡ v
+        → sum_of zero_ℚ (part_products (part ∷ parts) before) ≡ part.value.value *ℚ unwrap_or (value_in before part.row) zero_ℚ +ℚ sum_of_parts parts
+        (λ row. unwrap_or (value_in before row) zero_ℚ)
+    by more None is =
+        rw is (more ∙ sym
+        (ap (λ s. s +ℚ sum_of_parts parts (λ row. unwrap_or (value_in before row) zero_ℚ)) (mul-zero part.value.value)
+        ∙ zero-add (sum_of_parts parts (λ row. unwrap_or (value_in before row) zero_ℚ))))
     by more (Some v) is = rw is (
         ap (λ s. sum_of s (part_products parts before)) (zero-add (part.value.value *ℚ v))
         ∙ sum_from-start (part.value.value *ℚ v) (map product_of (part_products parts before))
@@ -125,7 +135,8 @@ sum-if-any (product ∷ products) = refl
 
 -- the parts of combinations stand on rows before them, and a column has no entries on combinations
 pub record IsColumnOf (rows : List (Row ℕ)) (es : List (Entry ℕ)) : Type 0 where
-  pub earlier : (place : ℕ) (row : Row ℕ) (parts : List (Entry ℕ)) → slice_get rows place ≡ Some row → row.parts ≡ Some parts → AllByRecursion (λ (part : Entry ℕ). (1 ≤ part.row) × (part.row ≤ place)) parts
+  pub earlier : (place : ℕ) (row : Row ℕ) (parts : List (Entry ℕ)) → slice_get rows place ≡ Some row → row.parts ≡ Some parts →
+      AllByRecursion (λ (part : Entry ℕ). (1 ≤ part.row) × (part.row ≤ place)) parts
   pub bare : (place : ℕ) (row : Row ℕ) (parts : List (Entry ℕ)) → slice_get rows place ≡ Some row → row.parts ≡ Some parts → value_on es (place + 1) ≡ None
 
 on-coefficients : (rows : List (Row ℕ)) (column : Group (Entry ℕ)) → IsColumnOf rows column.items → (k : ℕ) (row : Row ℕ) → slice_get rows k ≡ Some row
@@ -135,9 +146,11 @@ on-coefficients rows column is_column k row is = by row.parts refl
     combined_there : on_row (on_combinations rows column.items) (k + 1) ≡ number_for row.parts (value_in (column_values rows column.items) (k + 1))
     combined_there = let place : k + 1 ≡ 1 + k = omega arith in rw place (on-combined (column_values rows column.items) 1 k rows row is)
 
-    by : (parts : Option (List (Entry ℕ))) → row.parts ≡ parts → on_row (coefficients rows column) (k + 1) ≡ unwrap_or (value_in (column_values rows column.items) (k + 1)) zero_ℚ
+    by : (parts : Option (List (Entry ℕ))) → row.parts ≡ parts →
+        on_row (coefficients rows column) (k + 1) ≡ unwrap_or (value_in (column_values rows column.items) (k + 1)) zero_ℚ
     by None plain =
-        front-only (entered column.items) (on_combinations rows column.items) (k + 1) (combined_there ∙ ap (λ parts. number_for parts (value_in (column_values rows column.items) (k + 1))) plain)
+        front-only (entered column.items) (on_combinations rows column.items) (k + 1)
+        (combined_there ∙ ap (λ parts. number_for parts (value_in (column_values rows column.items) (k + 1))) plain)
         ∙ entered-on column.items (k + 1)
         ∙ ap (λ n. unwrap_or (value_on column.items (n + 1)) zero_ℚ) (sym (length-before column.items rows k (slice_get_within rows k row is)))
         ∙ ap (λ parts. unwrap_or (row_value column.items (column_values (take k rows) column.items) parts) zero_ℚ) (sym plain)
@@ -147,18 +160,22 @@ on-coefficients rows column is_column k row is = by row.parts refl
         ∙ combined_there
         ∙ ap (λ parts. number_for parts (value_in (column_values rows column.items) (k + 1))) combines
 
-pub same-sums : (parts : List (Entry ℕ)) (f g : ℕ → ℚ) → AllByRecursion (λ (part : Entry ℕ). f part.row ≡ g part.row) parts → sum_of_parts parts f ≡ sum_of_parts parts g
+pub same-sums : (parts : List (Entry ℕ)) (f g : ℕ → ℚ) → AllByRecursion (λ (part : Entry ℕ). f part.row ≡ g part.row) parts →
+    sum_of_parts parts f ≡ sum_of_parts parts g
 same-sums [] f g same = refl
 same-sums (part ∷ parts) f g same = ap₂ (λ x s. part.value.value *ℚ x +ℚ s) same.0 (same-sums parts f g same.1)
 
-pub adds : (rows : List (Row ℕ)) (column : Group (Entry ℕ)) → IsColumnOf rows column.items → (place : ℕ) (row : Row ℕ) (parts : List (Entry ℕ)) → slice_get rows place ≡ Some row → row.parts ≡ Some parts
+pub adds : (rows : List (Row ℕ)) (column : Group (Entry ℕ)) → IsColumnOf rows column.items → (place : ℕ) (row : Row ℕ) (parts : List (Entry ℕ))
+    → slice_get rows place ≡ Some row → row.parts ≡ Some parts
     → on_row (coefficients rows column) (place + 1) ≡ sum_of_parts parts (λ i. on_row (coefficients rows column) i)
 adds rows column is_column place row parts is combines =
     on-coefficients rows column is_column place row is
-    ∙ ap (λ v. unwrap_or v zero_ℚ) (values-there column.items rows place row is ∙ ap (row_value column.items (column_values (take place rows) column.items)) combines)
+    ∙ ap (λ v. unwrap_or v zero_ℚ)
+    (values-there column.items rows place row is ∙ ap (row_value column.items (column_values (take place rows) column.items)) combines)
     ∙ sum-if-any (part_products parts (column_values (take place rows) column.items))
     ∙ sum-of-products parts (column_values (take place rows) column.items)
-    ∙ same-sums parts (λ i. unwrap_or (value_in (column_values (take place rows) column.items) i) zero_ℚ) (λ i. on_row (coefficients rows column) i) (each parts (is_column.earlier place row parts is combines))
+    ∙ same-sums parts (λ i. unwrap_or (value_in (column_values (take place rows) column.items) i) zero_ℚ) (λ i. on_row (coefficients rows column) i)
+    (each parts (is_column.earlier place row parts is combines))
   where
     within : place < length rows
     within = slice_get_within rows place row is
@@ -173,6 +190,8 @@ adds rows column is_column place row parts is combines =
         ∙ ap (on_row (coefficients rows column)) number
 
     each : (parts : List (Entry ℕ)) → AllByRecursion (λ (part : Entry ℕ). (1 ≤ part.row) × (part.row ≤ place)) parts
-        → AllByRecursion (λ (part : Entry ℕ). unwrap_or (value_in (column_values (take place rows) column.items) part.row) zero_ℚ ≡ on_row (coefficients rows column) part.row) parts
+        → AllByRecursion
+        (λ (part : Entry ℕ). unwrap_or (value_in (column_values (take place rows) column.items) part.row) zero_ℚ ≡ on_row
+        (coefficients rows column) part.row) parts
     each [] bounds = tt
     each (part ∷ parts) bounds = (at part.row bounds.0, each parts bounds.1)

@@ -12,7 +12,8 @@ first_of a b c d e = first_fault ((a ⟹ NoObjective) ∷ (b ⟹ ObjectiveNotFre
 
 module _ (problem : Problem ℕ) (choice : Choice) where
   -- the tests of a choice
-  tested : selection_fault problem choice ≡ first_of (is_none (objective_of problem.rows choice.objective)) (is_not_free problem.rows choice.objective) (misses_set problem.rhs choice.rhs)
+  tested : selection_fault problem choice ≡ first_of (is_none (objective_of problem.rows choice.objective)) (is_not_free problem.rows choice.objective)
+      (misses_set problem.rhs choice.rhs)
       (misses_set problem.ranges choice.options.range) (misses_set problem.bounds choice.options.bound)
   unfolding selection_fault first_of
   tested = refl
@@ -60,14 +61,18 @@ module _ (problem : Problem ℕ) (choice : Choice) where
       pub missing-rhs : misses_set problem.rhs choice.rhs ≡ true → selection_fault problem choice ≡ Some NoRhsSet
       missing-rhs c = tested problem choice ∙ fault_3 _ _ _ _ _ (ap is_none there) free c
 
-      pub missing-range : misses_set problem.rhs choice.rhs ≡ false → misses_set problem.ranges choice.options.range ≡ true → selection_fault problem choice ≡ Some NoRangeSet
+      pub missing-range : misses_set problem.rhs choice.rhs ≡ false → misses_set problem.ranges choice.options.range ≡ true →
+          selection_fault problem choice ≡ Some NoRangeSet
       missing-range c d = tested problem choice ∙ fault_4 _ _ _ _ _ (ap is_none there) free c d
 
-      pub missing-bound : misses_set problem.rhs choice.rhs ≡ false → misses_set problem.ranges choice.options.range ≡ false → misses_set problem.bounds choice.options.bound ≡ true → selection_fault problem choice ≡ Some NoBoundSet
+      pub missing-bound : misses_set problem.rhs choice.rhs ≡ false → misses_set problem.ranges choice.options.range ≡ false →
+          misses_set problem.bounds choice.options.bound ≡ true → selection_fault problem choice ≡ Some NoBoundSet
       missing-bound c d e = tested problem choice ∙ fault_5 _ _ _ _ _ (ap is_none there) free c d e
 
-      pub faultless : misses_set problem.rhs choice.rhs ≡ false → misses_set problem.ranges choice.options.range ≡ false → misses_set problem.bounds choice.options.bound ≡ false → selection_fault problem choice ≡ None
+      pub faultless : misses_set problem.rhs choice.rhs ≡ false → misses_set problem.ranges choice.options.range ≡ false →
+          misses_set problem.bounds choice.options.bound ≡ false → selection_fault problem choice ≡ None
       faultless c d e = tested problem choice ∙ no_fault _ _ _ _ _ (ap is_none there) free c d e
 
-  pub objective-passes : selection_fault problem choice ≡ None → (is_none (objective_of problem.rows choice.objective) ≡ false) × (is_not_free problem.rows choice.objective ≡ false)
+  pub objective-passes : selection_fault problem choice ≡ None →
+      (is_none (objective_of problem.rows choice.objective) ≡ false) × (is_not_free problem.rows choice.objective ≡ false)
   objective-passes none = both_pass _ _ _ _ _ (sym (tested problem choice) ∙ none)

@@ -43,12 +43,14 @@ free_kind L e = absurd (cc e)
 free_kind E e = absurd (cc e)
 
 -- a fact of the names of rows, at a row
-name_of_row : (P : Name → Type 0) (rows : List (Row ℕ)) (i : ℕ) (row : Row ℕ) → AllByRecursion P (map (λ (r : Row ℕ). r.name) rows) → slice_get rows i ≡ Some row → P row.name
+name_of_row : (P : Name → Type 0) (rows : List (Row ℕ)) (i : ℕ) (row : Row ℕ) → AllByRecursion P (map (λ (r : Row ℕ). r.name) rows) →
+    slice_get rows i ≡ Some row → P row.name
 name_of_row P [] i row each is = absurd (cc is)
 name_of_row P (x ∷ rows) zero row each is = subst (λ (r : Row ℕ). P r.name) (same_Some x row is) each.0
 name_of_row P (x ∷ rows) (suc i) row each is = name_of_row P rows i row each.1 is
 
-no_free_row : (name : Name) (rows : List (Row ℕ)) → AllByRecursion (λ other. same name other ≡ false) (map (λ (r : Row ℕ). r.name) rows) → has_free_row rows name ≡ false
+no_free_row : (name : Name) (rows : List (Row ℕ)) → AllByRecursion (λ other. same name other ≡ false) (map (λ (r : Row ℕ). r.name) rows) →
+    has_free_row rows name ≡ false
 no_free_row name [] each = refl
 no_free_row name (x ∷ rows) each = rw each.0 (no_free_row name rows each.1)
 
@@ -67,11 +69,13 @@ named_free name [] distinct free i row is there = absurd (cc is)
 named_free name (x ∷ rows) distinct free zero row is there =
     let is_x : x ≡ row = same_Some x row is in
     let alike : name ≡ x.name = same_eq name row.name there ∙ ap (λ (r : Row ℕ). r.name) (sym is_x) in
-    let others : has_free_row rows name ≡ false = no_free_row name rows (subst (λ n. AllByRecursion (λ other. same n other ≡ false) (map (λ (r : Row ℕ). r.name) rows)) (sym alike) distinct.0) in
+    let others : has_free_row rows name ≡ false =
+    no_free_row name rows (subst (λ n. AllByRecursion (λ other. same n other ≡ false) (map (λ (r : Row ℕ). r.name) rows)) (sym alike) distinct.0) in
     ap (λ (r : Row ℕ). is_free_kind r.kind) (sym is_x) ∙ first_passes (same name x.name) (is_free_kind x.kind) (has_free_row rows name) free others
 named_free name (x ∷ rows) distinct free (suc i) row is there = by (same name x.name) refl free (λ rest. named_free name rows distinct.1 rest i row is there)
   where
-    by : (b : Bool) → same name x.name ≡ b → (b && is_free_kind x.kind || has_free_row rows name) ≡ true → (has_free_row rows name ≡ true → is_free_kind row.kind ≡ true) → is_free_kind row.kind ≡ true
+    by : (b : Bool) → same name x.name ≡ b → (b && is_free_kind x.kind || has_free_row rows name) ≡ true →
+        (has_free_row rows name ≡ true → is_free_kind row.kind ≡ true) → is_free_kind row.kind ≡ true
     by true e h rest =
         let apart : same x.name row.name ≡ false = name_of_row (λ other. same x.name other ≡ false) rows i row distinct.0 is in
         let unlike : same name row.name ≡ false = ap (λ n. same n row.name) (same_eq name x.name e) ∙ apart in
@@ -83,14 +87,16 @@ numbered None number e = absurd (cc e)
 numbered (Some place) number e = (place, sym (same_Some (place + 1) number e), refl)
 
 -- the row of a number that is found by a test
-row_found : (p : Row ℕ → Bool) (rows : List (Row ℕ)) (number : ℕ) → row_number p rows ≡ Some number → (place : ℕ) × (row : Row ℕ) × (number ≡ place + 1) × (slice_get rows place ≡ Some row) × (p row ≡ true)
+row_found : (p : Row ℕ → Bool) (rows : List (Row ℕ)) (number : ℕ) → row_number p rows ≡ Some number →
+    (place : ℕ) × (row : Row ℕ) × (number ≡ place + 1) × (slice_get rows place ≡ Some row) × (p row ≡ true)
 row_found p rows number e =
     let some : Row ℕ = plain_row N [] in
     let at = numbered (position p rows) number e in
     let found = position-Some p rows at.0 some at.2 in
     (at.0, get_or rows at.0 some, at.1, slice_get-get_or rows at.0 some found.0, found.1)
 
-pub free_objective : (rows : List (Row ℕ)) → IsDistinct same (map (λ (r : Row ℕ). r.name) rows) → (chosen : Option Name) (number : ℕ) → objective_of rows chosen ≡ Some number → is_not_free rows chosen ≡ false → IsFreeRow rows number
+pub free_objective : (rows : List (Row ℕ)) → IsDistinct same (map (λ (r : Row ℕ). r.name) rows) → (chosen : Option Name) (number : ℕ) →
+    objective_of rows chosen ≡ Some number → is_not_free rows chosen ≡ false → IsFreeRow rows number
 free_objective rows distinct (Some name) number e free =
     let at = row_found (λ row. same name row.name) rows number e in
     record {
@@ -112,12 +118,14 @@ module _ (problem : Problem ℕ) (is : IsProblem problem) where
 
   -- what is asked of a column
   abbrev IsLawfulColumn : Group (Entry ℕ) → Type 0
-  IsLawfulColumn column = AreEntries (length problem.rows) column.items × All (λ (entry : Entry ℕ). IsFalse (is_combination problem.rows entry.row)) column.items
+  IsLawfulColumn column =
+      AreEntries (length problem.rows) column.items × All (λ (entry : Entry ℕ). IsFalse (is_combination problem.rows entry.row)) column.items
 
   on_rows : (column : Group (Entry ℕ)) → IsLawfulColumn column → All IsOnRow (coefficients problem.rows column)
   unfolding IsOnRow
   on_rows column lawful =
-      each-all IsOnRow (coefficients problem.rows column) (each-coefficient problem.rows column lawful.0 IsOnRow (λ e number. (omega (arith, number.positive), number.at_most))
+      each-all IsOnRow (coefficients problem.rows column)
+      (each-coefficient problem.rows column lawful.0 IsOnRow (λ e number. (omega (arith, number.positive), number.at_most))
       (all-each (λ (entry : Entry ℕ). IsNumberOf (length problem.rows) entry.row) column.items lawful.0.on_rows))
 
   distinct_rows : (column : Group (Entry ℕ)) → IsLawfulColumn column → IsDistinct nat_eq (map (λ (e : Coefficient). e.row) (coefficients problem.rows column))
@@ -125,18 +133,21 @@ module _ (problem : Problem ℕ) (is : IsProblem problem) where
       distinct-coefficients problem.rows column lawful.0 (all-each (λ (entry : Entry ℕ). IsFalse (is_combination problem.rows entry.row)) column.items lawful.1)
 
   lawful_columns : (columns : List (Group (Entry ℕ))) → AllByRecursion (λ (column : Group (Entry ℕ)). AreEntries (length problem.rows) column.items) columns
-      → AllByRecursion (λ (column : Group (Entry ℕ)). All (λ (entry : Entry ℕ). IsFalse (is_combination problem.rows entry.row)) column.items) columns → AllByRecursion IsLawfulColumn columns
+      → AllByRecursion (λ (column : Group (Entry ℕ)). All (λ (entry : Entry ℕ). IsFalse (is_combination problem.rows entry.row)) column.items) columns
+      → AllByRecursion IsLawfulColumn columns
   lawful_columns [] entries plain = tt
   lawful_columns (column ∷ columns) entries plain = ((entries.0, plain.0), lawful_columns columns entries.1 plain.1)
 
   -- what holds of the numbers of each column
-  each_column : (P : List Coefficient → Type 0) → ((column : Group (Entry ℕ)) → IsLawfulColumn column → P (coefficients problem.rows column)) → All P (map (coefficients problem.rows) problem.columns)
+  each_column : (P : List Coefficient → Type 0) → ((column : Group (Entry ℕ)) → IsLawfulColumn column → P (coefficients problem.rows column)) →
+      All P (map (coefficients problem.rows) problem.columns)
   each_column P holds =
       each-all P (map (coefficients problem.rows) problem.columns) (each-mapped P (coefficients problem.rows) problem.columns
       (each-change IsLawfulColumn (λ column. P (coefficients problem.rows column)) holds problem.columns
       (lawful_columns problem.columns
       (all-each (λ (column : Group (Entry ℕ)). AreEntries (length problem.rows) column.items) problem.columns is.entries)
-      (all-each (λ (column : Group (Entry ℕ)). All (λ (entry : Entry ℕ). IsFalse (is_combination problem.rows entry.row)) column.items) problem.columns is.plain_entries))))
+      (all-each (λ (column : Group (Entry ℕ)). All
+      (λ (entry : Entry ℕ). IsFalse (is_combination problem.rows entry.row)) column.items) problem.columns is.plain_entries))))
 
   pub lawful_matrix : IsMatrix (matrix_of problem)
   unfolding IsOnRow
@@ -173,7 +184,8 @@ module _ (problem : Problem ℕ) (is : IsProblem problem) where
     free_row row side None e = rw e refl
     free_row row side (Some value) e = rw e refl
 
-    limits_free : (place : ℕ) (row : Row ℕ) → slice_get problem.rows place ≡ Some row → row.kind ≡ N → get_or (limits_with problem objective rhs ranges bounds sense) place no_limits ≡ no_limits
+    limits_free : (place : ℕ) (row : Row ℕ) → slice_get problem.rows place ≡ Some row → row.kind ≡ N →
+        get_or (limits_with problem objective rhs ranges bounds sense) place no_limits ≡ no_limits
     unfolding of_row of_column
     limits_free place row is_row is_n =
         let below : place < length problem.rows = slice_get_within problem.rows place row is_row in
@@ -191,8 +203,10 @@ module _ (problem : Problem ℕ) (is : IsProblem problem) where
         let below : free.place < length all = omega (arith, limits_counted, slice_get_within problem.rows free.place free.row free.is_row) in
         let at : objective - 1 ≡ free.place = omega (arith, free.is_number) in
         let none = limits_free free.place free.row free.is_row free.is_free in (
-          ap (λ k. get_or (map (λ (pair : Limits). pair.lower) all) k None) at ∙ get_or-map (λ (pair : Limits). pair.lower) all free.place no_limits None below ∙ ap (λ (pair : Limits). pair.lower) none,
-          ap (λ k. get_or (map (λ (pair : Limits). pair.upper) all) k None) at ∙ get_or-map (λ (pair : Limits). pair.upper) all free.place no_limits None below ∙ ap (λ (pair : Limits). pair.upper) none,
+          ap (λ k. get_or (map (λ (pair : Limits). pair.lower) all) k None) at ∙ get_or-map (λ (pair : Limits). pair.lower) all free.place no_limits None below
+              ∙ ap (λ (pair : Limits). pair.lower) none,
+          ap (λ k. get_or (map (λ (pair : Limits). pair.upper) all) k None) at ∙ get_or-map (λ (pair : Limits). pair.upper) all free.place no_limits None below
+              ∙ ap (λ (pair : Limits). pair.upper) none,
         )
 
     -- ---- the program
@@ -219,10 +233,12 @@ number_there None e = absurd (cc e)
 number_there (Some number) e = refl
 
 -- What a choice without faults selects of a problem is a linear program.
-pub program_is_lawful : (problem : Problem ℕ) (choice : Choice) → IsProblem problem → selection_fault problem choice ≡ None → IsLinearProgram (program_of_choice problem choice)
+pub program_is_lawful : (problem : Problem ℕ) (choice : Choice) → IsProblem problem → selection_fault problem choice ≡ None →
+    IsLinearProgram (program_of_choice problem choice)
 program_is_lawful problem choice is faultless =
     let passes = objective-passes problem choice faultless in
     let number : ℕ = unwrap_or (objective_of problem.rows choice.objective) 0 in
     let there : objective_of problem.rows choice.objective ≡ Some number = number_there (objective_of problem.rows choice.objective) passes.0 in
-    lawful_program problem is number (rhs_items problem.rhs choice.rhs) (set_items problem.ranges choice.options.range) (set_items problem.bounds choice.options.bound) choice.options.sense
+    lawful_program problem is number (rhs_items problem.rhs choice.rhs) (set_items problem.ranges choice.options.range)
+    (set_items problem.bounds choice.options.bound) choice.options.sense
     (free_objective problem.rows is.rows.distinct choice.objective number there passes.1)

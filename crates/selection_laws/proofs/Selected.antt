@@ -14,7 +14,8 @@ faultless : {A F : Type 0} (fault : Option F) (value lp : A) → unless fault va
 faultless None value lp e = (refl, cc e)
 faultless (Some fault) value lp e = absurd (cc e)
 
-pub is_chosen : (problem : Problem ℕ) (choice : Choice) (lp : LinearProgram) → selected problem choice ≡ Ok lp → (selection_fault problem choice ≡ None) × (program_of_choice problem choice ≡ lp)
+pub is_chosen : (problem : Problem ℕ) (choice : Choice) (lp : LinearProgram) → selected problem choice ≡ Ok lp →
+    (selection_fault problem choice ≡ None) × (program_of_choice problem choice ≡ lp)
 unfolding selected
 is_chosen problem choice lp e = faultless (selection_fault problem choice) (program_of_choice problem choice) lp e
 

@@ -28,7 +28,8 @@ module _ (es : List (Entry ℕ)) where
   values-length before (row ∷ rows) =
       omega (arith, values-length (before ++ row_value es before row.parts ∷ []) rows, length-append before (row_value es before row.parts ∷ []))
 
-  pub values-kept : (before : List (Option ℚ)) (rows : List (Row ℕ)) (k : ℕ) → k < length before → slice_index_or (values_after before rows) k None ≡ slice_index_or before k None
+  pub values-kept : (before : List (Option ℚ)) (rows : List (Row ℕ)) (k : ℕ) → k < length before →
+      slice_index_or (values_after before rows) k None ≡ slice_index_or before k None
   values-kept before [] k below = refl
   values-kept before (row ∷ rows) k below =
       values-kept (before ++ row_value es before row.parts ∷ []) rows k (omega (arith, below, length-append before (row_value es before row.parts ∷ [])))
@@ -42,17 +43,20 @@ module _ (es : List (Entry ℕ)) where
       let same : first ≡ row = cc is in
       let place : length before + 0 ≡ length before = omega arith in
       ap (λ k. slice_index_or (values_after (before ++ row_value es before first.parts ∷ []) rows) k None) place
-      ∙ values-kept (before ++ row_value es before first.parts ∷ []) rows (length before) (omega (arith, length-append before (row_value es before first.parts ∷ [])))
+      ∙ values-kept (before ++ row_value es before first.parts ∷ []) rows (length before)
+      (omega (arith, length-append before (row_value es before first.parts ∷ [])))
       ∙ at-next before [] (row_value es before first.parts) None
       ∙ ap (λ (r : Row ℕ). row_value es before r.parts) same
   values-at before (first ∷ rows) (suc k) row is =
-      let place : length before + suc k ≡ length (before ++ row_value es before first.parts ∷ []) + k = omega (arith, length-append before (row_value es before first.parts ∷ [])) in
+      let place : length before + suc k ≡ length (before ++ row_value es before first.parts ∷ []) + k =
+      omega (arith, length-append before (row_value es before first.parts ∷ [])) in
       ap (λ n. slice_index_or (values_after (before ++ row_value es before first.parts ∷ []) rows) n None) place
       ∙ values-at (before ++ row_value es before first.parts ∷ []) rows k row is
 
 pub values-there : (es : List (Entry ℕ)) (rows : List (Row ℕ)) (k : ℕ) (row : Row ℕ) → slice_get rows k ≡ Some row
     → value_in (column_values rows es) (k + 1) ≡ row_value es (column_values (take k rows) es) row.parts
-values-there es rows k row is = let place : k + 1 - 1 ≡ 0 + k = omega arith in ap (λ n. slice_index_or (column_values rows es) n None) place ∙ values-at es [] rows k row is
+values-there es rows k row is =
+    let place : k + 1 - 1 ≡ 0 + k = omega arith in ap (λ n. slice_index_or (column_values rows es) n None) place ∙ values-at es [] rows k row is
 
 pub length-before : (es : List (Entry ℕ)) (rows : List (Row ℕ)) (k : ℕ) → k < length rows → length (column_values (take k rows) es) ≡ k
 length-before es rows k below = omega (arith, values-length es [] (take k rows), length-take k rows, below)
@@ -61,5 +65,7 @@ pub values-front : (es : List (Entry ℕ)) (rows : List (Row ℕ)) (place k : �
     → slice_index_or (column_values rows es) k None ≡ slice_index_or (column_values (take place rows) es) k None
 values-front es rows place k within below =
     ap (λ all. slice_index_or (column_values all es) k None) (sym (take-append-drop place rows))
-    ∙ ap (λ values. slice_index_or values k None) (fold-append (λ before (row : Row ℕ). before ++ row_value es before row.parts ∷ []) [] (take place rows) (drop place rows))
-    ∙ values-kept es (column_values (take place rows) es) (drop place rows) k (omega (arith, below, within, values-length es [] (take place rows), length-take place rows))
+    ∙ ap (λ values. slice_index_or values k None)
+    (fold-append (λ before (row : Row ℕ). before ++ row_value es before row.parts ∷ []) [] (take place rows) (drop place rows))
+    ∙ values-kept es (column_values (take place rows) es) (drop place rows) k
+    (omega (arith, below, within, values-length es [] (take place rows), length-take place rows))

@@ -34,7 +34,8 @@ off_row o i (e ∷ es) other = at (nat_eq e.row o) refl (off_row o i es other)
     elsewhere h = grind (arith, h, other)
 
     at : (drop : Bool) → nat_eq e.row o ≡ drop → on_row (filter (λ (e : Entry). not (nat_eq e.row o)) es) i ≡ on_row es i
-        → on_row (cond (not drop) (e ∷ filter (λ (e : Entry). not (nat_eq e.row o)) es) (filter (λ (e : Entry). not (nat_eq e.row o)) es)) i ≡ cond (nat_eq e.row i) e.value (on_row es i)
+        → on_row (cond (not drop) (e ∷ filter (λ (e : Entry). not (nat_eq e.row o)) es) (filter (λ (e : Entry). not (nat_eq e.row o)) es)) i ≡ cond
+        (nat_eq e.row i) e.value (on_row es i)
     at true h rest = rest ∙ sym (ap (λ b. cond b e.value (on_row es i)) (elsewhere h))
     at false h rest = ap (λ v. cond (nat_eq e.row i) e.value v) rest
 
@@ -99,7 +100,8 @@ module _ (p : LinearProgram) (s : List Status) (t : Tableau) (present : IsPresen
   sheared = record { point = shear p.objective (p.rows + suc c) x t.point; rate = λ i j. shear p.objective (p.rows + suc c) x (λ i. t.rate i j) i }
 
   one_there : IsNonsingular (costing p (suc c) v).matrix (basics_of s)
-  one_there = shear_nonsingular p.rows p.cols p.objective c is_o is_c p.columns (columns_with p (suc c) v) x more (basics_of s) among_o present.optimal.nonsingular
+  one_there =
+      shear_nonsingular p.rows p.cols p.objective c is_o is_c p.columns (columns_with p (suc c) v) x more (basics_of s) among_o present.optimal.nonsingular
 
   basis_there : IsBasis (costing p (suc c) v) s
   basis_there = let b = present.optimal.is_basis in record { counted = b.counted; m_basics = b.m_basics; free_rows = b.free_rows; allowed = b.allowed }
@@ -112,10 +114,12 @@ module _ (p : LinearProgram) (s : List Status) (t : Tableau) (present : IsPresen
       at (Some d) h = h
 
   -- what holds of the objective row, and of the value of each other variable
-  each_value : (P : ℕ → ℚ → Type 0) → P p.objective (shear p.objective (p.rows + suc c) x t.point p.objective) → (i : ℕ) → P i (t.point i) → P i (shear p.objective (p.rows + suc c) x t.point i)
+  each_value : (P : ℕ → ℚ → Type 0) → P p.objective (shear p.objective (p.rows + suc c) x t.point p.objective) → (i : ℕ) → P i (t.point i) →
+      P i (shear p.objective (p.rows + suc c) x t.point i)
   each_value P own i rest = at (eqb_tells i p.objective)
     where
-      at : (((eqb i p.objective ≡ true) × (i ≡ p.objective)) ⊎ ((eqb i p.objective ≡ false) × (i ≢ p.objective))) → P i (shear p.objective (p.rows + suc c) x t.point i)
+      at : (((eqb i p.objective ≡ true) × (i ≡ p.objective)) ⊎ ((eqb i p.objective ≡ false) × (i ≢ p.objective))) →
+          P i (shear p.objective (p.rows + suc c) x t.point i)
       at (inl same) = subst (λ i. P i (shear p.objective (p.rows + suc c) x t.point i)) (sym same.1) own
       at (inr apart) = subst (P i) (sym (shear_other p.objective (p.rows + suc c) x t.point i apart.1)) rest
 
@@ -124,20 +128,26 @@ module _ (p : LinearProgram) (s : List Status) (t : Tableau) (present : IsPresen
     is_point = record {
       keeps = shear_keeps p.rows p.cols p.objective c is_o is_c p.columns (columns_with p (suc c) v) x more t.point present.is_tableau.is_point.keeps;
       placed = λ i is. each_value (λ i y. StandsAt (status_of s i) (lower_of p i) (upper_of p i) y)
-          (subst (λ st. StandsAt st (lower_of p p.objective) (upper_of p p.objective) (shear p.objective (p.rows + suc c) x t.point p.objective)) (sym basic_o) tt)
+          (subst (λ st. StandsAt st (lower_of p p.objective) (upper_of p p.objective) (shear p.objective (p.rows + suc c) x t.point p.objective))
+          (sym basic_o) tt)
           i (present.is_tableau.is_point.placed i is);
     };
-    are_rates = shear_rates p.rows p.cols p.objective c is_o is_c p.columns (columns_with p (suc c) v) x more (basics_of s) among_o t.rate present.is_tableau.are_rates;
+    are_rates =
+        shear_rates p.rows p.cols p.objective c is_o is_c p.columns (columns_with p (suc c) v) x more (basics_of s) among_o t.rate present.is_tableau.are_rates;
   }
 
   worth_is : (i : ℕ) → worth_rate (costing p (suc c) v) s sheared i ≡ worths p t i +ℚ x *ℚ slopes p t (p.rows + suc c) i
   worth_is i =
-      ap (for_min p.sense) (no_more p.change (λ r. sheared.rate r i) (sheared.rate p.objective i) present.no_change ∙ shear_own p.objective (p.rows + suc c) x (λ r. t.rate r i))
+      ap (for_min p.sense)
+      (no_more p.change (λ r. sheared.rate r i) (sheared.rate p.objective i) present.no_change ∙ shear_own p.objective (p.rows + suc c) x (λ r. t.rate r i))
       ∙ for_min-add p.sense (t.rate p.objective i) x (t.rate (p.rows + suc c) i)
 
-  sides : (i : ℕ) → (lowers (costing p (suc c) v) s (worth_rate (costing p (suc c) v) s sheared) i ≡ false) ↔ SidesHold (rate_sides p s (worths p t) (slopes p t (p.rows + suc c)) i) x
+  sides : (i : ℕ) →
+      (lowers (costing p (suc c) v) s (worth_rate (costing p (suc c) v) s sheared) i ≡ false) ↔ SidesHold
+      (rate_sides p s (worths p t) (slopes p t (p.rows + suc c)) i) x
   sides i =
-      sides_of_rate (worth_rate (costing p (suc c) v) s sheared i) (worths p t i) (slopes p t (p.rows + suc c) i) x (may_rise p s i) (may_fall p s i) (worth_is i)
+      sides_of_rate (worth_rate (costing p (suc c) v) s sheared i) (worths p t i) (slopes p t (p.rows + suc c) i) x (may_rise p s i) (may_fall p s i)
+      (worth_is i)
 
   costs : IsOptimalBasis (costing p (suc c) v) s ↔ RatesStay p s (worths p t) (slopes p t (p.rows + suc c)) x
   costs = (to, back)
@@ -156,7 +166,9 @@ module _ (p : LinearProgram) (s : List Status) (t : Tableau) (present : IsPresen
       back hold = (by_tableau (costing p (suc c) v) s basis_there one_there rows_there sheared tableau_there).1 (record {
         feasible = record {
           keeps = tableau_there.is_point.keeps;
-          within = λ i is. each_value (λ i y. IfSome (lower_of p i) (λ l. l ≤ℚ y) × IfSome (upper_of p i) (λ u. y ≤ℚ u)) free i ((feasible_now p s t present).within i is);
+          within =
+              λ i is. each_value (λ i y. IfSome (lower_of p i) (λ l. l ≤ℚ y) × IfSome (upper_of p i) (λ u. y ≤ℚ u)) free i
+              ((feasible_now p s t present).within i is);
         };
         right = λ i is. (sides i).1 (hold i is);
       })

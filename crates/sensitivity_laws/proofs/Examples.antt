@@ -51,7 +51,8 @@ unfolding tableau_for table_for fraction whole ◌+ℚ◌ ◌*ℚ◌ neg_ℚ inv
 testprob-cost = refl
 
 -- of two columns under one limit the cost of the second up to -1, and the multiple of the limited row up to 1
-two-costs : parts ((cost two 2 +ℚ highest_multiple two two_basis (tableau_for two two_basis) 5) ∷ highest_multiple two two_basis (tableau_for two two_basis) 2 ∷ [])
+two-costs : parts
+    ((cost two 2 +ℚ highest_multiple two two_basis (tableau_for two two_basis) 5) ∷ highest_multiple two two_basis (tableau_for two two_basis) 2 ∷ [])
     ≡ (negsuc 0, 1) ∷ (pos 1, 1) ∷ []
 unfolding tableau_for table_for fraction whole ◌+ℚ◌ ◌*ℚ◌ neg_ℚ inverse_ℚ reciprocal compare_ℚ sum_to gcd
 two-costs = refl

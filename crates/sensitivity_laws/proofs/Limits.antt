@@ -48,7 +48,8 @@ sides_of_value low high y z v x is = (λ h. (to_low low h.0, to_high high h.1), 
 
     from_high : (high : Option ℚ) → IfSome ((value_sides low high z v).second) (λ e. Holds e x) → IfSome high (λ u. y ≤ℚ u)
     from_high None h = tt
-    from_high (Some u) h = subst (λ y. y ≤ℚ u) (sym is) (le_by_one h (by_ring4 u z v x (λ u z v x. u ≐ z ⊕ x ⊗ v ⊕ ((u ⊖ z) ⊕ x ⊗ opposite v ⊖ number (pos 0))) refl))
+    from_high (Some u) h =
+        subst (λ y. y ≤ℚ u) (sym is) (le_by_one h (by_ring4 u z v x (λ u z v x. u ≐ z ⊕ x ⊗ v ⊕ ((u ⊖ z) ⊕ x ⊗ opposite v ⊖ number (pos 0))) refl))
 
 -- a nonbasic that has not moved stands where it stood
 stands_same : (st : Status) (low high : Option ℚ) (y z : ℚ) → (is_basic st ≡ false → y ≡ z) → StandsAt st low high z → StandsAt st low high y
@@ -70,7 +71,8 @@ out_of_basis Ll e = refl
 out_of_basis Ul e = refl
 out_of_basis Fr e = refl
 
-module _ (p : LinearProgram) (s : List Status) (t : Tableau) (present : IsPresent p s t) (k : ℕ) (is_k : IsVariable p.matrix k) (stands_k : stands_at_limit (status_of s k) ≡ true) (x : ℚ) where
+module _ (p : LinearProgram) (s : List Status) (t : Tableau) (present : IsPresent p s t) (k : ℕ) (is_k : IsVariable p.matrix k)
+    (stands_k : stands_at_limit (status_of s k) ≡ true) (x : ℚ) where
   abbrev v : ℚ
   v = t.point k +ℚ x
 
@@ -96,7 +98,8 @@ module _ (p : LinearProgram) (s : List Status) (t : Tableau) (present : IsPresen
 
   -- k stands at v in a program with these limits, which are p's but at k
   record IsMovedTo (low high : List (Option ℚ)) : Type 0 where
-    others : (i : ℕ) → IsVariable p.matrix i → i ≢ k → (lower_of (with_limits p low high) i ≡ lower_of p i) × (upper_of (with_limits p low high) i ≡ upper_of p i)
+    others : (i : ℕ) → IsVariable p.matrix i → i ≢ k →
+        (lower_of (with_limits p low high) i ≡ lower_of p i) × (upper_of (with_limits p low high) i ≡ upper_of p i)
     stands : StandsAt (status_of s k) (lower_of (with_limits p low high) k) (upper_of (with_limits p low high) k) (t.point k +ℚ x)
     allowed : IsAllowed (status_of s k) (lower_of (with_limits p low high) k) (upper_of (with_limits p low high) k)
     fixed : is_fixed p k ≡ true → is_fixed (with_limits p low high) k ≡ true
@@ -120,7 +123,8 @@ module _ (p : LinearProgram) (s : List Status) (t : Tableau) (present : IsPresen
       m_basics = present.optimal.is_basis.m_basics;
       free_rows = λ i is free. free_row i is (eqb_tells i k) free;
       allowed = each (λ i. IsAllowed (status_of s i) (lower_of (with_limits p low high) i) (upper_of (with_limits p low high) i)) to.allowed
-          (λ i is other. subst₂ (IsAllowed (status_of s i)) (sym (to.others i is other).0) (sym (to.others i is other).1) (present.optimal.is_basis.allowed i is));
+          (λ i is other. subst₂ (IsAllowed (status_of s i)) (sym (to.others i is other).0) (sym (to.others i is other).1)
+          (present.optimal.is_basis.allowed i is));
     }
       where
         none : (st : Status) (lower upper : Option ℚ) → stands_at_limit st ≡ true → IsAllowed st lower upper → lower ≡ None → upper ≡ None → ⊥
@@ -129,7 +133,8 @@ module _ (p : LinearProgram) (s : List Status) (t : Tableau) (present : IsPresen
         none Ul lower upper e allowed a b = clash (sym (subst (λ o. IsSome o) b allowed))
         none Fr lower upper e allowed a b = clash (sym e)
 
-        free_row : (i : ℕ) → IsRow p.matrix i → (((eqb i k ≡ true) × (i ≡ k)) ⊎ ((eqb i k ≡ false) × (i ≢ k))) → HasNoLimits (with_limits p low high) i → status_of s i ≡ Bs
+        free_row : (i : ℕ) → IsRow p.matrix i → (((eqb i k ≡ true) × (i ≡ k)) ⊎ ((eqb i k ≡ false) × (i ≢ k))) → HasNoLimits (with_limits p low high) i →
+            status_of s i ≡ Bs
         free_row i is (inl same) free =
             let here : HasNoLimits (with_limits p low high) k = subst (HasNoLimits (with_limits p low high)) same.1 free in
             absurd (none (status_of s k) _ _ stands_k to.allowed here.0 here.1)
@@ -141,9 +146,12 @@ module _ (p : LinearProgram) (s : List Status) (t : Tableau) (present : IsPresen
     tableau_there = record {
       is_point = record {
         keeps = KeepsEquations-along p.matrix t.point x (λ i. t.rate i k) present.is_tableau.is_point.keeps direction.keeps;
-        placed = each (λ i. StandsAt (status_of s i) (lower_of (with_limits p low high) i) (upper_of (with_limits p low high) i) (along t.point x (λ i. t.rate i k) i))
+        placed =
+            each (λ i. StandsAt (status_of s i) (lower_of (with_limits p low high) i) (upper_of (with_limits p low high) i)
+            (along t.point x (λ i. t.rate i k) i))
             (subst (StandsAt (status_of s k) (lower_of (with_limits p low high) k) (upper_of (with_limits p low high) k)) (sym moved_own) to.stands)
-            (λ i is other. subst₂ (λ a b. StandsAt (status_of s i) a b (along t.point x (λ i. t.rate i k) i)) (sym (to.others i is other).0) (sym (to.others i is other).1)
+            (λ i is other. subst₂ (λ a b. StandsAt (status_of s i) a b (along t.point x (λ i. t.rate i k) i)) (sym (to.others i is other).0)
+            (sym (to.others i is other).1)
             (stands_same (status_of s i) (lower_of p i) (upper_of p i) _ (t.point i) (moved_other i is other) (present.is_tableau.is_point.placed i is)));
       };
       are_rates = present.is_tableau.are_rates;
@@ -175,12 +183,14 @@ module _ (p : LinearProgram) (s : List Status) (t : Tableau) (present : IsPresen
             within : IsWithinLimits (with_limits p low high) (along t.point x (λ i. t.rate i k))
             within = (optimal_there.0 optimal).feasible.within
 
-            at : (i : ℕ) → IsVariable p.matrix i × (is_in (basics_of s) i ≡ true) → (((eqb i k ≡ true) × (i ≡ k)) ⊎ ((eqb i k ≡ false) × (i ≢ k))) → SidesHold (limit_sides p t.point (λ j. t.rate j k) i) x
+            at : (i : ℕ) → IsVariable p.matrix i × (is_in (basics_of s) i ≡ true) → (((eqb i k ≡ true) × (i ≡ k)) ⊎ ((eqb i k ≡ false) × (i ≢ k))) →
+                SidesHold (limit_sides p t.point (λ j. t.rate j k) i) x
             at i basic (inl same) =
                 absurd (clash (sym basic.1 ∙ ap (is_in (basics_of s)) same.1 ∙ among k is_k ∙ out_of_basis (status_of s k) stands_k))
             at i basic (inr apart) =
                 (sides_of_value (lower_of p i) (upper_of p i) (along t.point x (λ i. t.rate i k) i) (t.point i) (t.rate i k) x refl).0
-                (subst₂ (λ a b. IsWithin a b (along t.point x (λ i. t.rate i k) i)) (to.others i basic.0 apart.1).0 (to.others i basic.0 apart.1).1 (within i basic.0))
+                (subst₂ (λ a b. IsWithin a b (along t.point x (λ i. t.rate i k) i)) (to.others i basic.0 apart.1).0 (to.others i basic.0 apart.1).1
+                (within i basic.0))
 
         back : LimitStays p s t k x → IsOptimalBasis (with_limits p low high) s
         back stay = optimal_there.1 (record {
@@ -188,16 +198,19 @@ module _ (p : LinearProgram) (s : List Status) (t : Tableau) (present : IsPresen
             keeps = tableau_there.is_point.keeps;
             within = each (λ i. IsWithin (lower_of (with_limits p low high) i) (upper_of (with_limits p low high) i) (along t.point x (λ i. t.rate i k) i))
                 (subst (IsWithin _ _) (sym moved_own) (to.own.1 stay.own))
-                (λ i is other. subst₂ (λ a b. IsWithin a b (along t.point x (λ i. t.rate i k) i)) (sym (to.others i is other).0) (sym (to.others i is other).1) (at i is other (is_basic (status_of s i)) refl));
+                (λ i is other. subst₂ (λ a b. IsWithin a b (along t.point x (λ i. t.rate i k) i)) (sym (to.others i is other).0) (sym (to.others i is other).1)
+                (at i is other (is_basic (status_of s i)) refl));
           };
           right = right_there;
         })
           where
-            at : (i : ℕ) → IsVariable p.matrix i → i ≢ k → (mark : Bool) → is_basic (status_of s i) ≡ mark → IsWithin (lower_of p i) (upper_of p i) (along t.point x (λ i. t.rate i k) i)
+            at : (i : ℕ) → IsVariable p.matrix i → i ≢ k → (mark : Bool) → is_basic (status_of s i) ≡ mark →
+                IsWithin (lower_of p i) (upper_of p i) (along t.point x (λ i. t.rate i k) i)
             at i is other true basic =
                 (sides_of_value (lower_of p i) (upper_of p i) (along t.point x (λ i. t.rate i k) i) (t.point i) (t.rate i k) x refl).1
                 (stay.basics i (is, among i is ∙ basic))
-            at i is other false out = subst (IsWithin (lower_of p i) (upper_of p i)) (sym (moved_other i is other out)) ((feasible_now p s t present).within i is)
+            at i is other false out =
+                subst (IsWithin (lower_of p i) (upper_of p i)) (sym (moved_other i is other out)) ((feasible_now p s t present).within i is)
 
   -- ---- the three ways in which the limit may be moved
 
@@ -223,7 +236,8 @@ module _ (p : LinearProgram) (s : List Status) (t : Tableau) (present : IsPresen
     allowed = subst₂ (IsAllowed (status_of s k)) (sym lower_own) (sym upper_own) (stands_at_both (status_of s k) v stands_k).1;
     fixed = λ _. fixed_is _ _ v lower_own upper_own;
     own = (
-      λ _. subst (λ (f : Bool). SidesHold (cond f (record { first = None; second = None }) (sides_at (status_of s k) (lower_of p k) (upper_of p k) (t.point k))) x) (sym e) (tt, tt),
+      λ _. subst (λ (f : Bool). SidesHold
+          (cond f (record { first = None; second = None }) (sides_at (status_of s k) (lower_of p k) (upper_of p k) (t.point k))) x) (sym e) (tt, tt),
       λ _. subst₂ (λ a b. IsWithin a b v) (sym lower_own) (sym upper_own) (le_refl v, le_refl v),
     );
   }

@@ -116,7 +116,8 @@ fixed_moves (Some l) (Some u) theta x shift fixed =
     let same : l ≡ u = same_limit l u theta shift fixed.0 (same_Some _ _ fixed.1) (same_Some _ _ fixed.2) in
     (l +ℚ x *ℚ shift, refl, ap (λ l. Some (l +ℚ x *ℚ shift)) (sym same))
 
-pub fixed_at : (p : LinearProgram) (shift : List ℚ) (theta x : ℚ) (k : ℕ) → IsVariable p.matrix k → IsFixed (rhs_family p shift theta) k → IsFixed (rhs_family p shift x) k
+pub fixed_at : (p : LinearProgram) (shift : List ℚ) (theta x : ℚ) (k : ℕ) → IsVariable p.matrix k → IsFixed (rhs_family p shift theta) k →
+    IsFixed (rhs_family p shift x) k
 fixed_at p shift theta x k is fixed =
     let there = fixed_moves (lower_of p k) (upper_of p k) theta x (shift_of p.matrix shift k)
     (fixed.0, sym (lower_is p shift theta k is) ∙ fixed.1, sym (upper_is p shift theta k is) ∙ fixed.2) in
@@ -142,7 +143,8 @@ fixed_same p shift theta k is =
 apart_statuses : Bs ≡ Fr → ⊥
 apart_statuses e = cc
 
-pub free_unshifted : (p : LinearProgram) (shift : List ℚ) (s : List Status) (k : ℕ) → IsNonsingularBasis p s → IsVariable p.matrix k → status_of s k ≡ Fr → shift_of p.matrix shift k ≡ zero_ℚ
+pub free_unshifted : (p : LinearProgram) (shift : List ℚ) (s : List Status) (k : ℕ) → IsNonsingularBasis p s → IsVariable p.matrix k → status_of s k ≡ Fr →
+    shift_of p.matrix shift k ≡ zero_ℚ
 free_unshifted p shift s k at is free = by_row (nat_le k p.rows) refl
   where
     none : HasNoLimits p k

@@ -43,23 +43,29 @@ module _ (z v s x : ℚ) where
 some_moves : (low : Option ℚ) (z v s x : ℚ) → low ≡ Some z → v ≡ s → moved x s low ≡ Some (z +ℚ x *ℚ v)
 some_moves low z v s x is same = ap (moved x s) is ∙ ap (λ y. Some (z +ℚ x *ℚ y)) (sym same)
 
-module _ (p : LinearProgram) (shift : List ℚ) (s : List Status) (at : IsNonsingularBasis p s) (z v : Vector) (point : IsPointOf p s z) (slope : IsSlope p s shift v) (x : ℚ) where
+module _ (p : LinearProgram) (shift : List ℚ) (s : List Status) (at : IsNonsingularBasis p s) (z v : Vector) (point : IsPointOf p s z)
+    (slope : IsSlope p s shift v) (x : ℚ) where
   stands : (k : ℕ) → IsVariable p.matrix k → (st : Status) → status_of s k ≡ st → StandsAt st (lower_of p k) (upper_of p k) (z k) →
       StandsAt st (moved x (shift_of p.matrix shift k) (lower_of p k)) (moved x (shift_of p.matrix shift k) (upper_of p k)) (along z x v k)
   stands k is Bs e h = tt
   stands k is Ll e h =
-      some_moves (lower_of p k) (z k) (v k) (shift_of p.matrix shift k) x h (slope.placed k (nonbasic_by_status p s at.is_basis k is (λ f. let g : Ll ≡ Bs = sym e ∙ f in cc)))
+      some_moves (lower_of p k) (z k) (v k) (shift_of p.matrix shift k) x h
+      (slope.placed k (nonbasic_by_status p s at.is_basis k is (λ f. let g : Ll ≡ Bs = sym e ∙ f in cc)))
   stands k is Ul e h =
-      some_moves (upper_of p k) (z k) (v k) (shift_of p.matrix shift k) x h (slope.placed k (nonbasic_by_status p s at.is_basis k is (λ f. let g : Ul ≡ Bs = sym e ∙ f in cc)))
+      some_moves (upper_of p k) (z k) (v k) (shift_of p.matrix shift k) x h
+      (slope.placed k (nonbasic_by_status p s at.is_basis k is (λ f. let g : Ul ≡ Bs = sym e ∙ f in cc)))
   stands k is Fr e h =
-      let none : v k ≡ zero_ℚ = slope.placed k (nonbasic_by_status p s at.is_basis k is (λ f. let g : Fr ≡ Bs = sym e ∙ f in cc)) ∙ free_unshifted p shift s k at is e in
+      let none : v k ≡ zero_ℚ =
+      slope.placed k (nonbasic_by_status p s at.is_basis k is (λ f. let g : Fr ≡ Bs = sym e ∙ f in cc)) ∙ free_unshifted p shift s k at is e in
       ap₂ (λ a b. a +ℚ x *ℚ b) h none ∙ by_ring1 x (λ x. number (pos 0) ⊕ x ⊗ number (pos 0) ≐ number (pos 0)) refl
 
   -- the point of the basis at x
   pub points : IsPointOf (rhs_family p shift x) s (along z x v)
   points = record {
     keeps = KeepsEquations-along p.matrix z x v point.keeps slope.keeps;
-    placed = λ k is. subst₂ (λ (low high : Option ℚ). StandsAt (status_of s k) low high (along z x v k)) (sym (lower_is p shift x k is)) (sym (upper_is p shift x k is))
+    placed =
+        λ k is. subst₂ (λ (low high : Option ℚ). StandsAt (status_of s k) low high (along z x v k)) (sym (lower_is p shift x k is))
+        (sym (upper_is p shift x k is))
         (stands k is (status_of s k) refl (point.placed k is));
   }
 
@@ -67,8 +73,12 @@ module _ (p : LinearProgram) (shift : List ℚ) (s : List Status) (at : IsNonsin
 within_is : (p : LinearProgram) (shift : List ℚ) (z v : Vector) (x : ℚ) (k : ℕ) → IsVariable p.matrix k →
     IsWithin (lower_of (rhs_family p shift x) k) (upper_of (rhs_family p shift x) k) (along z x v k) ↔ SidesHold (shift_sides p shift z v k) x
 within_is p shift z v x k is = (
-  λ h. let own = moved_within h in sides.0 (low_still (z k) (v k) (shift_of p.matrix shift k) x (lower_of p k) own.0, high_still (z k) (v k) (shift_of p.matrix shift k) x (upper_of p k) own.1),
-  λ h. let own = sides.1 h in family_within (low_moved (z k) (v k) (shift_of p.matrix shift k) x (lower_of p k) own.0, high_moved (z k) (v k) (shift_of p.matrix shift k) x (upper_of p k) own.1),
+  λ h. let own =
+      moved_within h in sides.0
+      (low_still (z k) (v k) (shift_of p.matrix shift k) x (lower_of p k) own.0, high_still (z k) (v k) (shift_of p.matrix shift k) x (upper_of p k) own.1),
+  λ h. let own =
+      sides.1 h in family_within
+      (low_moved (z k) (v k) (shift_of p.matrix shift k) x (lower_of p k) own.0, high_moved (z k) (v k) (shift_of p.matrix shift k) x (upper_of p k) own.1),
 )
   where
     sides : IsWithin (lower_of p k) (upper_of p k) (z k +ℚ x *ℚ (v k -ℚ shift_of p.matrix shift k)) ↔ SidesHold (shift_sides p shift z v k) x
@@ -90,9 +100,11 @@ module _ (p : LinearProgram) (shift : List ℚ) (x : ℚ) (s : List Status) (row
 
   -- what improves the objective at one value does so at every other
   lowers_same : (f : Vector) (k : ℕ) → IsVariable p.matrix k → lowers (rhs_family p shift x) s f k ≡ lowers p s f k
-  lowers_same f k is = ap (λ (fixed : _). improves (f k) (rises_from (status_of s k) && not fixed) (falls_from (status_of s k) && not fixed)) (fixed_same p shift x k is)
+  lowers_same f k is =
+      ap (λ (fixed : _). improves (f k) (rises_from (status_of s k) && not fixed) (falls_from (status_of s k) && not fixed)) (fixed_same p shift x k is)
 
-  pub dual_feasible : (t : Tableau) → IsBasis p s → IsNonsingular p.matrix (basics_of s) → IsTableau p s t → IsOptimalBasis (rhs_family p shift x) s → IsDualFeasibleBasis p s t
+  pub dual_feasible : (t : Tableau) → IsBasis p s → IsNonsingular p.matrix (basics_of s) → IsTableau p s t → IsOptimalBasis (rhs_family p shift x) s →
+      IsDualFeasibleBasis p s t
   dual_feasible t basis one tab optimal = record {
     is_basis = basis;
     nonsingular = one;
@@ -104,7 +116,8 @@ module _ (p : LinearProgram) (shift : List ℚ) (x : ℚ) (s : List Status) (row
   }
 
 -- a dual feasible basis is optimal just where its point lies within its limits
-module _ (p : LinearProgram) (s : List Status) (t : Tableau) (h : IsDualFeasibleBasis p s t) (shift : List ℚ) (v : Vector) (slope : IsSlope p s shift v) (x : ℚ) where
+module _ (p : LinearProgram) (s : List Status) (t : Tableau) (h : IsDualFeasibleBasis p s t) (shift : List ℚ) (v : Vector) (slope : IsSlope p s shift v)
+    (x : ℚ) where
   abbrev there : Tableau
   there = record { point = along t.point x v; rate = t.rate }
 

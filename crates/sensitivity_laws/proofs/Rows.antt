@@ -59,7 +59,8 @@ module _ (p : LinearProgram) (s : List Status) (t : Tableau) (h : IsFeasibleBasi
           (by_tableau (with_row p i x) s basis h.nonsingular rows t tab).1
           (record { feasible = record { keeps = h.feasible.keeps; within = h.feasible.within }; right = λ k is_k. (sides k).1 (hold k is_k) })
 
-pub row : (p : LinearProgram) (s : List Status) (t : Tableau) → IsPresent p s t → (i : ℕ) → IsRow p.matrix i → (x : ℚ) → IsOptimalBasis (with_row p i x) s ↔ RatesStay p s (worths p t) (slopes p t i) x
+pub row : (p : LinearProgram) (s : List Status) (t : Tableau) → IsPresent p s t → (i : ℕ) → IsRow p.matrix i → (x : ℚ) →
+    IsOptimalBasis (with_row p i x) s ↔ RatesStay p s (worths p t) (slopes p t i) x
 row p s t present = objective p s t (record {
   is_basis = present.optimal.is_basis;
   nonsingular = present.optimal.nonsingular;

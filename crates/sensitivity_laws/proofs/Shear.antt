@@ -70,8 +70,10 @@ module _ (m n : ℕ) (o c : ℕ) (is_o : (1 ≤ o) × (o ≤ m)) (is_c : c < n) 
           ∙ sym (sum_to-with_at n c ((entry (matrix columns) o (suc c) +ℚ x) *ℚ z (m + suc c)) f is_c)
           ∙ sum_to-same n _ _ (λ e _. sym (term e (eqb_tells e c)))
 
-      at : (((eqb i o ≡ true) × (i ≡ o)) ⊎ ((eqb i o ≡ false) × (i ≢ o))) → shear o (m + suc c) x z i ≡ sum_to n (λ e. entry (matrix others) i (suc e) *ℚ shear o (m + suc c) x z (m + suc e))
-      at (inl same) = subst (λ i. shear o (m + suc c) x z i ≡ sum_to n (λ e. entry (matrix others) i (suc e) *ℚ shear o (m + suc c) x z (m + suc e))) (sym same.1) own
+      at : (((eqb i o ≡ true) × (i ≡ o)) ⊎ ((eqb i o ≡ false) × (i ≢ o))) →
+          shear o (m + suc c) x z i ≡ sum_to n (λ e. entry (matrix others) i (suc e) *ℚ shear o (m + suc c) x z (m + suc e))
+      at (inl same) =
+          subst (λ i. shear o (m + suc c) x z i ≡ sum_to n (λ e. entry (matrix others) i (suc e) *ℚ shear o (m + suc c) x z (m + suc e))) (sym same.1) own
       at (inr apart) =
           shear_other o (m + suc c) x z i apart.1
           ∙ keeps i row
@@ -85,7 +87,8 @@ module _ (m n : ℕ) (o c : ℕ) (is_o : (1 ≤ o) × (o ≤ m)) (is_c : c < n) 
     pub shear_nonsingular : IsNonsingular (matrix columns) b → IsNonsingular (matrix others) b
     shear_nonsingular one = record { counted = one.counted; m_basics = one.m_basics; only_zero = only_zero }
       where
-        only_zero : (z : Vector) → KeepsEquations (matrix others) z → ((i : ℕ) → IsNonbasic (matrix others) b i → z i ≡ zero_ℚ) → (i : ℕ) → IsVariable (matrix others) i → z i ≡ zero_ℚ
+        only_zero : (z : Vector) → KeepsEquations (matrix others) z → ((i : ℕ) → IsNonbasic (matrix others) b i → z i ≡ zero_ℚ) → (i : ℕ) →
+            IsVariable (matrix others) i → z i ≡ zero_ℚ
         only_zero z keeps zeros i is = at i is (eqb_tells i o)
           where
             back : (i : ℕ) → IsVariable (matrix columns) i → shear o (m + suc c) (neg_ℚ x) z i ≡ zero_ℚ

@@ -20,19 +20,22 @@ row_variable a i is = (is.0, omega (arith, is.1))
 
 module _ (p : LinearProgram) (s : List Status) (basis : IsBasis p s) (one : IsNonsingular p.matrix (basics_of s)) (rows : HasRows p) where
   -- the objective's rates of two tableaus are the same
-  same_rates : (t u : Tableau) → IsTableau p s t → IsTableau p s u → (k : ℕ) → IsNonbasic p.matrix (basics_of s) k → objective_rate p t.rate k ≡ objective_rate p u.rate k
+  same_rates : (t u : Tableau) → IsTableau p s t → IsTableau p s u → (k : ℕ) → IsNonbasic p.matrix (basics_of s) k →
+      objective_rate p t.rate k ≡ objective_rate p u.rate k
   same_rates t u first second k out = at p.change rows.change
     where
       same : (i : ℕ) → IsRow p.matrix i → t.rate i k ≡ u.rate i k
       same i is = one_table p.matrix (basics_of s) t.rate u.rate one first.are_rates second.are_rates i k (row_variable p.matrix i is) out
 
-      at : (c : Option Change) → ChangeIsRow p.matrix c → with_change_row c (λ i. t.rate i k) (t.rate p.objective k) ≡ with_change_row c (λ i. u.rate i k) (u.rate p.objective k)
+      at : (c : Option Change) → ChangeIsRow p.matrix c →
+          with_change_row c (λ i. t.rate i k) (t.rate p.objective k) ≡ with_change_row c (λ i. u.rate i k) (u.rate p.objective k)
       at None is = same p.objective rows.objective
       at (Some c) is = ap₂ (λ a b. a +ℚ c.theta *ℚ b) (same p.objective rows.objective) (same c.row is)
 
   -- what is right by one tableau is right by the other
   right_same : (t u : Tableau) → IsTableau p s t → IsTableau p s u → (k : ℕ) → IsVariable p.matrix k
-      → IsFixed p k ⊎ IsRightAt (status_of s k) (for_min p.sense (objective_rate p t.rate k)) → IsFixed p k ⊎ IsRightAt (status_of s k) (for_min p.sense (objective_rate p u.rate k))
+      → IsFixed p k ⊎ IsRightAt (status_of s k) (for_min p.sense (objective_rate p t.rate k))
+      → IsFixed p k ⊎ IsRightAt (status_of s k) (for_min p.sense (objective_rate p u.rate k))
   right_same t u first second k is (inl fixed) = inl fixed
   right_same t u first second k is (inr right) = inr (at (status_of s k) refl right)
     where
@@ -42,7 +45,8 @@ module _ (p : LinearProgram) (s : List Status) (basis : IsBasis p s) (one : IsNo
       moved : is_basic (status_of s k) ≡ false → for_min p.sense (objective_rate p t.rate k) ≡ for_min p.sense (objective_rate p u.rate k)
       moved out = ap (for_min p.sense) (same_rates t u first second k (is, among ∙ out))
 
-      at : (st : Status) → status_of s k ≡ st → IsRightAt st (for_min p.sense (objective_rate p t.rate k)) → IsRightAt st (for_min p.sense (objective_rate p u.rate k))
+      at : (st : Status) → status_of s k ≡ st → IsRightAt st (for_min p.sense (objective_rate p t.rate k)) →
+          IsRightAt st (for_min p.sense (objective_rate p u.rate k))
       at Bs e right = tt
       at Ll e right = subst (IsRightAt Ll) (moved (ap is_basic e)) right
       at Ul e right = subst (IsRightAt Ul) (moved (ap is_basic e)) right
@@ -55,7 +59,9 @@ module _ (p : LinearProgram) (s : List Status) (basis : IsBasis p s) (one : IsNo
       to optimal = record {
         feasible = IsFeasible-same p optimal.tableau.point t.point
             (one_point p s optimal.tableau.point t.point basis.counted one optimal.is_tableau.is_point tab.is_point) optimal.feasible;
-        right = λ k is. right_improves_not (status_of s k) (lower_of p k) (upper_of p k) (worth_rate p s t k) (right_same optimal.tableau t optimal.is_tableau tab k is (optimal.right k is));
+        right =
+            λ k is. right_improves_not (status_of s k) (lower_of p k) (upper_of p k) (worth_rate p s t k)
+            (right_same optimal.tableau t optimal.is_tableau tab k is (optimal.right k is));
       }
 
       back : IsRightTableau p s t → IsOptimalBasis p s

@@ -20,7 +20,8 @@ counted xs k true = length-push xs k
 counted xs k false = ap length (append-nil xs) ∙ omega arith
 
 -- one more column
-pub one_more : (lp : LinearProgram) (s : List Status) (c : ℕ) → length (basics_so_far lp s (c + 1)) ≡ length (basics_so_far lp s c) + cond (is_basic (status_of s (lp.rows + 1 + c))) 1 0
+pub one_more : (lp : LinearProgram) (s : List Status) (c : ℕ) →
+    length (basics_so_far lp s (c + 1)) ≡ length (basics_so_far lp s c) + cond (is_basic (status_of s (lp.rows + 1 + c))) 1 0
 one_more lp s c =
     let p : ℕ → Bool = λ k. is_basic (status_of s k) in
     ap (λ xs. length (filter p xs)) (numbers_from-append (lp.rows + 1) c 1)
@@ -29,7 +30,9 @@ one_more lp s c =
 
 module _ (lp : LinearProgram) (s : List Status) (c column : ℕ) (place : lp.rows + 1 + c ≡ column) where
   by_status : (b : Bool) → is_basic (status_of s column) ≡ b → length (basics_so_far lp s (c + 1)) ≡ length (basics_so_far lp s c) + cond b 1 0
-  by_status b is = one_more lp s c ∙ ap (λ (k : ℕ). length (basics_so_far lp s c) + cond (is_basic (status_of s k)) 1 0) place ∙ ap (λ (m : Bool). length (basics_so_far lp s c) + cond m 1 0) is
+  by_status b is =
+      one_more lp s c ∙ ap (λ (k : ℕ). length (basics_so_far lp s c) + cond (is_basic (status_of s k)) 1 0) place
+      ∙ ap (λ (m : Bool). length (basics_so_far lp s c) + cond m 1 0) is
 
   pub not_counted : is_basic (status_of s column) ≡ false → length (basics_so_far lp s (c + 1)) ≡ length (basics_so_far lp s c)
   not_counted out = by_status false out ∙ omega arith

@@ -41,7 +41,8 @@ pub record IsPresentOf (problem : Problem ℕ) (setup : Setup) (viewed : Option 
 pub one_problem : (file : Filed) (setup : Setup) (a b : Problem ℕ) → filed_under setup.name file ≡ Some a → filed_under setup.name file ≡ Some b → a ≡ b
 one_problem file setup a b first second = same_Some a b (sym first ∙ second)
 
-pub present_at : (file : Filed) (setup : Setup) (viewed : Option Present) (problem : Problem ℕ) → filed_under setup.name file ≡ Some problem → ShowsSetup file (Some setup) viewed → IsPresentOf problem setup viewed
+pub present_at : (file : Filed) (setup : Setup) (viewed : Option Present) (problem : Problem ℕ) → filed_under setup.name file ≡ Some problem →
+    ShowsSetup file (Some setup) viewed → IsPresentOf problem setup viewed
 present_at file setup viewed problem on_file there =
     let present = there.0 in
     let p = there.2 in
@@ -58,10 +59,13 @@ present_at file setup viewed problem on_file there =
       ends = b.1 ∙ ap (λ s. b.0 ++ s ∷ []) p.reached;
     }
 
-module _ (problem : Problem ℕ) (setup : Setup) (viewed : Option Present) (p : IsPresentOf problem setup viewed) (lp : LinearProgram) (same : matrix_of problem ≡ lp.matrix) where
+module _ (problem : Problem ℕ) (setup : Setup) (viewed : Option Present) (p : IsPresentOf problem setup viewed) (lp : LinearProgram)
+    (same : matrix_of problem ≡ lp.matrix) where
   -- the waypoints lie in a list that ends with the basis
   pub lie_up_to : LieIn lp.matrix setup.engine.waypoints (p.initial ++ setup.basis ∷ [])
-  lie_up_to = subst (λ (a : Matrix). LieIn a setup.engine.waypoints (p.initial ++ setup.basis ∷ [])) same (subst (λ (bs : List Basis). LieIn (matrix_of problem) setup.engine.waypoints bs) p.ends p.lie)
+  lie_up_to =
+      subst (λ (a : Matrix). LieIn a setup.engine.waypoints (p.initial ++ setup.basis ∷ [])) same
+      (subst (λ (bs : List Basis). LieIn (matrix_of problem) setup.engine.waypoints bs) p.ends p.lie)
 
 -- ---- a setup
 
@@ -97,10 +101,13 @@ module _ (file : Filed) (setup : Setup) (r : IsReady file setup) (problem : Prob
   module _ (cells : Cells) (lp : LinearProgram) (ok : selected problem (choice_of cells setup.options) ≡ Ok lp) where
     -- the setup's rates are those of what is selected now
     pub ready_rates : HasRates setup.engine.matrix setup.engine.basics lp setup.basis
-    ready_rates = rates_carry problem (chosen setup) (choice_of cells setup.options) setup.lp lp refl own_selected ok setup.engine.matrix setup.engine.basics setup.basis r.rates
+    ready_rates =
+        rates_carry problem (chosen setup)
+        (choice_of cells setup.options) setup.lp lp refl own_selected ok setup.engine.matrix setup.engine.basics setup.basis r.rates
 
     -- with what is selected now, and rates of it, the setup is ready
-    pub ready_solved : (new : Setup) → new.name ≡ setup.name → chosen new ≡ choice_of cells setup.options → new.lp ≡ lp → HasRates new.engine.matrix new.engine.basics lp new.basis → IsReady file new
+    pub ready_solved : (new : Setup) → new.name ≡ setup.name → chosen new ≡ choice_of cells setup.options → new.lp ≡ lp →
+        HasRates new.engine.matrix new.engine.basics lp new.basis → IsReady file new
     ready_solved new same_name same_choice same_lp has = record {
       problem = problem;
       on_file = ap (λ name. filed_under name file) same_name ∙ on_file;
@@ -108,7 +115,9 @@ module _ (file : Filed) (setup : Setup) (r : IsReady file setup) (problem : Prob
       rates = subst (λ (p : LinearProgram). HasRates new.engine.matrix new.engine.basics p new.basis) (sym same_lp) has;
     }
 
-    pub now_selected : (new : Setup) → new.name ≡ setup.name → new.options ≡ setup.options → new.lp ≡ lp → IsSelected file new.name (choice_of cells new.options) new.lp
+    pub now_selected : (new : Setup) → new.name ≡ setup.name → new.options ≡ setup.options → new.lp ≡ lp →
+        IsSelected file new.name (choice_of cells new.options) new.lp
     now_selected new same_name same_options same_lp = λ other on.
         let same : problem ≡ other = one_problem file setup problem other on_file (ap (λ name. filed_under name file) (sym same_name) ∙ on) in
-        ap (λ o. selected other (choice_of cells o)) same_options ∙ subst (λ (q : Problem ℕ). selected q (choice_of cells setup.options) ≡ Ok lp) same ok ∙ ap Ok (sym same_lp)
+        ap (λ o. selected other (choice_of cells o)) same_options ∙ subst (λ (q : Problem ℕ). selected q (choice_of cells setup.options) ≡ Ok lp) same ok
+        ∙ ap Ok (sym same_lp)

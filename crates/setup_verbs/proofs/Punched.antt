@@ -39,7 +39,8 @@ go state present lp =
     Asks OfPunch (record { problem = present.problem; lp = lp }) (present_basis present) (λ cards.
     next (Punches (BasisOut present.problem.name (min (length cards) max_counted)) cards) state)
 
-begins : (card : ℕ) (state : State) (outcome : StatementOutcome) → Gives linear_programming_of_128_bits card (or_fault card NoSetup state.setup (λ present. selects_present card state present (go state present))) outcome →
+begins : (card : ℕ) (state : State) (outcome : StatementOutcome) →
+    Gives linear_programming_of_128_bits card (or_fault card NoSetup state.setup (λ present. selects_present card state present (go state present))) outcome →
     Gives linear_programming_of_128_bits card (verb_move Punch card state) outcome
 unfolding linear_programming_of_128_bits verb_move
 begins card state outcome g = g
@@ -65,14 +66,21 @@ module _ (card : ℕ) (cards : List (List ℕ)) (machine : Machine) where
       abbrev punched : State → StatementOutcome
       punched state = next (Punches (BasisOut problem.name (min (length deck) max_counted)) deck) state
 
-      gives : {position executed : ℕ} {state : State} → Represents cards machine position executed state → Gives linear_programming_of_128_bits card (verb_move Punch card state) (punched state)
+      gives : {position executed : ℕ} {state : State} → Represents cards machine position executed state →
+          Gives linear_programming_of_128_bits card (verb_move Punch card state) (punched state)
       unfolding linear_programming_of_128_bits
       gives {state = state} s =
           selected_gives Punch card go (begins card) cards machine setup is_setup problem on_file s lp ok (punched state)
-          (inl (deck, ap (λ (b : Basis). basis_deck problem lp b) (sym (viewed Punch card go (begins card) cards machine setup is_setup problem on_file s).reached), refl))
+          (inl (
+            deck,
+            ap (λ (b : Basis). basis_deck problem lp b)
+                (sym (viewed Punch card go (begins card) cards machine setup is_setup problem on_file s).reached),
+            refl,
+          ))
 
       -- the punch stops in the deck
-      pub deck_cut : (print : SinkState) {punch_old punch_new : SinkState} {T : Type 0} (stop : WriteStop) → Writes {T = T} punch_old punch_new (Err stop) (card_text deck) →
+      pub deck_cut : (print : SinkState) {punch_old punch_new : SinkState} {T : Type 0} (stop : WriteStop) →
+          Writes {T = T} punch_old punch_new (Err stop) (card_text deck) →
           Performs linear_programming_of_128_bits Punch card print print punch_old punch_new cards machine machine (Err (halt.Punch stop))
       deck_cut print stop punches = λ position executed state s. record {
         report = BasisOut problem.name (min (length deck) max_counted);
@@ -83,12 +91,14 @@ module _ (card : ℕ) (cards : List (List ℕ)) (machine : Machine) where
         is_quiet = refl;
       }
 
-      module _ {print_old print_new punch_old punch_new : SinkState} (name : Name) (is_name : name ≡ problem.name) (count : ℕ) (is_count : count ≡ min (length deck) max_counted)
+      module _ {print_old print_new punch_old punch_new : SinkState} (name : Name) (is_name : name ≡ problem.name) (count : ℕ)
+          (is_count : count ≡ min (length deck) max_counted)
           (punches : Writes {T = ℕ} punch_old punch_new (Ok count) (card_text deck)) where
         -- the line is that of the report
         own_line : (result : Result (Unit {0}) WriteStop) → Writes {T = Unit {0}} print_old print_new result (report_text (BasisOut name count)) →
             Writes {T = Unit {0}} print_old print_new result (report_text (BasisOut problem.name (min (length deck) max_counted)))
-        own_line result prints = writes_same (ap (λ (n : Name). report_text (BasisOut n count)) is_name ∙ ap (λ (k : ℕ). report_text (BasisOut problem.name k)) is_count) prints
+        own_line result prints =
+            writes_same (ap (λ (n : Name). report_text (BasisOut n count)) is_name ∙ ap (λ (k : ℕ). report_text (BasisOut problem.name k)) is_count) prints
 
         pub deck_punched : Writes {T = Unit {0}} print_old print_new (Ok tt) (report_text (BasisOut name count)) →
             Performs linear_programming_of_128_bits Punch card print_old print_new punch_old punch_new cards machine machine (Ok Next)

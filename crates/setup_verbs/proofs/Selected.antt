@@ -59,14 +59,16 @@ alike_each : {X : Type 0} (f g : X → Limits) (xs : List X) → ((x : X) → Al
 alike_each f g [] h = tt
 alike_each f g (x ∷ xs) h = (h x, alike_each f g xs h)
 
-lower_alike : (xs ys : List Limits) (n : ℕ) → AreAlike xs ys → is_some (get_or (map (λ (l : Limits). l.lower) xs) n None) ≡ is_some (get_or (map (λ (l : Limits). l.lower) ys) n None)
+lower_alike : (xs ys : List Limits) (n : ℕ) → AreAlike xs ys →
+    is_some (get_or (map (λ (l : Limits). l.lower) xs) n None) ≡ is_some (get_or (map (λ (l : Limits). l.lower) ys) n None)
 lower_alike [] [] n h = refl
 lower_alike [] (y ∷ ys) n h = elim h [ ]
 lower_alike (x ∷ xs) [] n h = elim h [ ]
 lower_alike (x ∷ xs) (y ∷ ys) zero h = h.0.lower
 lower_alike (x ∷ xs) (y ∷ ys) (suc n) h = lower_alike xs ys n h.1
 
-upper_alike : (xs ys : List Limits) (n : ℕ) → AreAlike xs ys → is_some (get_or (map (λ (l : Limits). l.upper) xs) n None) ≡ is_some (get_or (map (λ (l : Limits). l.upper) ys) n None)
+upper_alike : (xs ys : List Limits) (n : ℕ) → AreAlike xs ys →
+    is_some (get_or (map (λ (l : Limits). l.upper) xs) n None) ≡ is_some (get_or (map (λ (l : Limits). l.upper) ys) n None)
 upper_alike [] [] n h = refl
 upper_alike [] (y ∷ ys) n h = elim h [ ]
 upper_alike (x ∷ xs) [] n h = elim h [ ]
@@ -102,22 +104,26 @@ by_sides problem options a b =
 
 limits_alike : (problem : Problem ℕ) (c d : Choice) → c.options ≡ d.options → AreAlike (limits_of problem c) (limits_of problem d)
 limits_alike problem c d same =
-    subst (λ (o : SetupOptions). AreAlike (limits_of problem c) (limits_by problem o (rhs_of problem d))) same (by_sides problem c.options (rhs_of problem c) (rhs_of problem d))
+    subst (λ (o : SetupOptions). AreAlike (limits_of problem c) (limits_by problem o (rhs_of problem d))) same
+    (by_sides problem c.options (rhs_of problem c) (rhs_of problem d))
 
 -- ---- the bases are those of every selection by these options
 
-module _ (problem : Problem ℕ) (c d : Choice) (p q : LinearProgram) (same : c.options ≡ d.options) (first : selected problem c ≡ Ok p) (second : selected problem d ≡ Ok q) where
+module _ (problem : Problem ℕ) (c d : Choice) (p q : LinearProgram) (same : c.options ≡ d.options) (first : selected problem c ≡ Ok p)
+    (second : selected problem d ≡ Ok q) where
   pub matrix_carries : p.matrix ≡ q.matrix
   matrix_carries = sym (same_matrix problem c p first) ∙ same_matrix problem d q second
 
   lowers : (k : ℕ) → is_some (lower_of p k) ≡ is_some (lower_of q k)
   lowers k =
-      ap (λ (r : LinearProgram). is_some (lower_of r k)) (sym (is_program problem c p first)) ∙ lower_alike (limits_of problem c) (limits_of problem d) (k - 1) (limits_alike problem c d same)
+      ap (λ (r : LinearProgram). is_some (lower_of r k)) (sym (is_program problem c p first))
+      ∙ lower_alike (limits_of problem c) (limits_of problem d) (k - 1) (limits_alike problem c d same)
       ∙ ap (λ (r : LinearProgram). is_some (lower_of r k)) (is_program problem d q second)
 
   uppers : (k : ℕ) → is_some (upper_of p k) ≡ is_some (upper_of q k)
   uppers k =
-      ap (λ (r : LinearProgram). is_some (upper_of r k)) (sym (is_program problem c p first)) ∙ upper_alike (limits_of problem c) (limits_of problem d) (k - 1) (limits_alike problem c d same)
+      ap (λ (r : LinearProgram). is_some (upper_of r k)) (sym (is_program problem c p first))
+      ∙ upper_alike (limits_of problem c) (limits_of problem d) (k - 1) (limits_alike problem c d same)
       ∙ ap (λ (r : LinearProgram). is_some (upper_of r k)) (is_program problem d q second)
 
   pub rates_carry : (a : Matrix) (b : Basics) (s : List Status) → HasRates a b p s → HasRates a b q s
@@ -128,8 +134,12 @@ module _ (problem : Problem ℕ) (c d : Choice) (p q : LinearProgram) (same : c.
         is_basis = record {
           counted = rw (← rows, ← cols) has.is_basis.counted;
           m_basics = has.is_basis.m_basics ∙ rows;
-          free_rows = λ i is free. has.is_basis.free_rows i (rw rows is) (none_like (lower_of q i) (lower_of p i) (sym (lowers i)) free.0, none_like (upper_of q i) (upper_of p i) (sym (uppers i)) free.1);
-          allowed = λ k is. allowed_like _ (lower_of p k) (upper_of p k) (lower_of q k) (upper_of q k) (lowers k) (uppers k) (has.is_basis.allowed k (rw (rows, cols) is));
+          free_rows =
+              λ i is free. has.is_basis.free_rows i (rw rows is)
+              (none_like (lower_of q i) (lower_of p i) (sym (lowers i)) free.0, none_like (upper_of q i) (upper_of p i) (sym (uppers i)) free.1);
+          allowed =
+              λ k is. allowed_like _ (lower_of p k) (upper_of p k) (lower_of q k) (upper_of q k) (lowers k) (uppers k)
+              (has.is_basis.allowed k (rw (rows, cols) is));
         };
         nonsingular = subst (λ (m : Matrix). IsNonsingular m (basics_of s)) matrix_carries has.nonsingular;
         same_matrix = has.same_matrix ∙ matrix_carries;

@@ -27,12 +27,16 @@ use Rattle.setup_verbs.proofs.Giving.{gives_fault, gives_found, gives_unselected
 use Rattle.setup_verbs.proofs.Present.{present_with, IsPresentOf, present_at}
 
 -- the state has no setup where the machine has none
-pub setup_gone : (cards : List (List ℕ)) (machine : Machine) → machine.setup ≡ None → {position executed : ℕ} {state : State} → Represents cards machine position executed state → state.setup ≡ None
+pub setup_gone : (cards : List (List ℕ)) (machine : Machine) → machine.setup ≡ None → {position executed : ℕ} {state : State} →
+    Represents cards machine position executed state → state.setup ≡ None
 setup_gone cards machine none {state = state} s = subst (λ (kept : Option Setup). ShowsSetup machine.file kept state.setup) none s.setup
 
 -- what the statement does with a setup, and with what is selected
 module _ (verb : Verb ℕ) (card : ℕ) (go : State → Present → LinearProgram → StatementMove)
-    (begins : (state : State) (outcome : StatementOutcome) → Gives linear_programming_of_128_bits card (or_fault card NoSetup state.setup (λ present. selects_present card state present (go state present))) outcome → Gives linear_programming_of_128_bits card (verb_move verb card state) outcome) where
+    (begins : (state : State) (outcome : StatementOutcome) →
+    Gives linear_programming_of_128_bits card
+    (or_fault card NoSetup state.setup (λ present. selects_present card state present (go state present))) outcome →
+    Gives linear_programming_of_128_bits card (verb_move verb card state) outcome) where
   abbrev pub selecting_move : State → Present → LinearProgram → StatementMove
   selecting_move state present lp = MayStop (InSelection present.problem (choice_of state.cells present.options)) (go state present lp)
 
@@ -46,7 +50,8 @@ module _ (verb : Verb ℕ) (card : ℕ) (go : State → Present → LinearProgra
       begins state (stops (endings.VerbStop (record { fault = NoSetup; card = card })))
       (gives_fault card NoSetup state.setup (with_setup state) (setup_gone cards machine none s)))
 
-  module _ (cards : List (List ℕ)) (old : Machine) (setup : Setup) (is_setup : old.setup ≡ Some setup) (problem : Problem ℕ) (on_file : filed_under setup.name old.file ≡ Some problem) where
+  module _ (cards : List (List ℕ)) (old : Machine) (setup : Setup) (is_setup : old.setup ≡ Some setup) (problem : Problem ℕ)
+      (on_file : filed_under setup.name old.file ≡ Some problem) where
     module _ {position executed : ℕ} {state : State} (s : Represents cards old position executed state) where
       pub viewed : IsPresentOf problem setup state.setup
       viewed = present_at old.file setup state.setup problem on_file (subst (λ (kept : Option Setup). ShowsSetup old.file kept state.setup) is_setup s.setup)
@@ -54,10 +59,12 @@ module _ (verb : Verb ℕ) (card : ℕ) (go : State → Present → LinearProgra
       abbrev pub present : Present
       present = present_with problem setup.options viewed.opening viewed.steps
 
-      setup_gives : (outcome : StatementOutcome) → Gives linear_programming_of_128_bits card (with_setup state present) outcome → Gives linear_programming_of_128_bits card (verb_move verb card state) outcome
+      setup_gives : (outcome : StatementOutcome) → Gives linear_programming_of_128_bits card (with_setup state present) outcome →
+          Gives linear_programming_of_128_bits card (verb_move verb card state) outcome
       setup_gives outcome g = begins state outcome (gives_found card NoSetup state.setup (with_setup state) present outcome viewed.is_viewed g)
 
-      pub selected_gives : (lp : LinearProgram) → selected problem (choice_of old.cells setup.options) ≡ Ok lp → (outcome : StatementOutcome) → Gives linear_programming_of_128_bits card (selecting_move state present lp) outcome →
+      pub selected_gives : (lp : LinearProgram) → selected problem (choice_of old.cells setup.options) ≡ Ok lp → (outcome : StatementOutcome) →
+          Gives linear_programming_of_128_bits card (selecting_move state present lp) outcome →
           Gives linear_programming_of_128_bits card (verb_move verb card state) outcome
       selected_gives lp ok outcome g =
           setup_gives outcome (gives_selected card (selected problem (choice_of state.cells setup.options)) (selecting_move state present) lp outcome
@@ -71,7 +78,8 @@ module _ (verb : Verb ℕ) (card : ℕ) (go : State → Present → LinearProgra
           (ap (λ (c : Cells). selected problem (choice_of c setup.options)) s.cells ∙ h.is_refused) h.is_fault)
 
       pub overflow_gives : (e : Evidence) → HasSelectionOverflow problem (choice_of old.cells setup.options) e →
-          Gives linear_programming_of_128_bits card (verb_move verb card state) (stops (endings.OverflowStop (record { evidence = e; place = None; card = card })))
+          Gives linear_programming_of_128_bits card (verb_move verb card state)
+          (stops (endings.OverflowStop (record { evidence = e; place = None; card = card })))
       overflow_gives e h =
           selected_gives h.lp h.is_selected (stops (endings.OverflowStop (record { evidence = e; place = None; card = card })))
           (inr (e, None, (subst (λ (c : Cells). SelectionOverflows problem (choice_of c setup.options) e None) (sym s.cells) (h.is_refusal, refl)), refl))

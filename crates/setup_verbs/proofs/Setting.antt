@@ -38,7 +38,8 @@ use Rattle.setup_verbs.proofs.Selected.{same_matrix}
 use Rattle.setup_verbs.proofs.Giving.{gives_fault, gives_found, gives_selected, gives_unselected}
 
 -- the problem that is wanted is on file
-pub filed_by : (wanted : Option Name) (file : Filed) (name : Name) (found : Option (Problem ℕ)) → named wanted file ≡ Some name → filed_under name file ≡ found → filed wanted file ≡ found
+pub filed_by : (wanted : Option Name) (file : Filed) (name : Name) (found : Option (Problem ℕ)) → named wanted file ≡ Some name →
+    filed_under name file ≡ found → filed wanted file ≡ found
 filed_by wanted file name found is on_file = rw is on_file
 
 -- the selection of that problem is refused
@@ -65,45 +66,60 @@ module _ (card : ℕ) (options : SetupOptions) (state : State) where
   abbrev go_found : Problem ℕ → StatementMove
   go_found problem = or_selection_fault card (selected problem (choice_of state.cells options)) (go_selected problem)
 
-  gives_no_problem : problem_of state.cells.xpbname state.file ≡ None → Gives linear_programming_of_128_bits card (verb_move (SetupVerb options) card state) (stops (VerbStop (record { fault = verb_fault.NoProblem; card = card })))
+  gives_no_problem : problem_of state.cells.xpbname state.file ≡ None →
+      Gives linear_programming_of_128_bits card (verb_move (SetupVerb options) card state)
+      (stops (VerbStop (record { fault = verb_fault.NoProblem; card = card })))
   unfolding linear_programming_of_128_bits verb_move
   gives_no_problem e = gives_fault card verb_fault.NoProblem (problem_of state.cells.xpbname state.file) go_found e
 
-  gives_refused : (problem : Problem ℕ) (fault : VerbFault) → problem_of state.cells.xpbname state.file ≡ Some problem → HasSelectionFault problem (choice_of state.cells options) fault →
+  gives_refused : (problem : Problem ℕ) (fault : VerbFault) → problem_of state.cells.xpbname state.file ≡ Some problem →
+      HasSelectionFault problem (choice_of state.cells options) fault →
       Gives linear_programming_of_128_bits card (verb_move (SetupVerb options) card state) (stops (VerbStop (record { fault = fault; card = card })))
   unfolding linear_programming_of_128_bits verb_move
   gives_refused problem fault e h =
-      gives_found card verb_fault.NoProblem (problem_of state.cells.xpbname state.file) go_found problem (stops (VerbStop (record { fault = fault; card = card }))) e
+      gives_found card verb_fault.NoProblem (problem_of state.cells.xpbname state.file) go_found problem
+      (stops (VerbStop (record { fault = fault; card = card }))) e
       (gives_unselected card (selected problem (choice_of state.cells options)) (go_selected problem) h.why fault h.is_refused h.is_fault)
 
-  gives_overflow : (problem : Problem ℕ) (evidence : Evidence) → problem_of state.cells.xpbname state.file ≡ Some problem → HasSelectionOverflow problem (choice_of state.cells options) evidence →
-      Gives linear_programming_of_128_bits card (verb_move (SetupVerb options) card state) (stops (OverflowStop (record { evidence = evidence; place = None; card = card })))
+  gives_overflow : (problem : Problem ℕ) (evidence : Evidence) → problem_of state.cells.xpbname state.file ≡ Some problem →
+      HasSelectionOverflow problem (choice_of state.cells options) evidence →
+      Gives linear_programming_of_128_bits card (verb_move (SetupVerb options) card state)
+      (stops (OverflowStop (record { evidence = evidence; place = None; card = card })))
   unfolding linear_programming_of_128_bits verb_move
   gives_overflow problem evidence e h =
-      gives_found card verb_fault.NoProblem (problem_of state.cells.xpbname state.file) go_found problem (stops (OverflowStop (record { evidence = evidence; place = None; card = card }))) e
-      (gives_selected card (selected problem (choice_of state.cells options)) (go_selected problem) h.lp (stops (OverflowStop (record { evidence = evidence; place = None; card = card }))) h.is_selected
+      gives_found card verb_fault.NoProblem (problem_of state.cells.xpbname state.file) go_found problem
+      (stops (OverflowStop (record { evidence = evidence; place = None; card = card }))) e
+      (gives_selected card (selected problem (choice_of state.cells options)) (go_selected problem) h.lp
+      (stops (OverflowStop (record { evidence = evidence; place = None; card = card }))) h.is_selected
       (inr (evidence, None, (h.is_refusal, refl), refl)))
 
-  gives_set_up : (problem : Problem ℕ) (lp : LinearProgram) → problem_of state.cells.xpbname state.file ≡ Some problem → selected problem (choice_of state.cells options) ≡ Ok lp →
+  gives_set_up : (problem : Problem ℕ) (lp : LinearProgram) → problem_of state.cells.xpbname state.file ≡ Some problem →
+      selected problem (choice_of state.cells options) ≡ Ok lp →
       Gives linear_programming_of_128_bits card (verb_move (SetupVerb options) card state) (outcome_of problem options (opening_statuses lp) state)
   unfolding linear_programming_of_128_bits verb_move
   gives_set_up problem lp e s =
-      gives_found card verb_fault.NoProblem (problem_of state.cells.xpbname state.file) go_found problem (outcome_of problem options (opening_statuses lp) state) e
-      (gives_selected card (selected problem (choice_of state.cells options)) (go_selected problem) lp (outcome_of problem options (opening_statuses lp) state) s (inl refl))
+      gives_found card verb_fault.NoProblem (problem_of state.cells.xpbname state.file) go_found problem
+      (outcome_of problem options (opening_statuses lp) state) e
+      (gives_selected card (selected problem (choice_of state.cells options)) (go_selected problem) lp
+      (outcome_of problem options (opening_statuses lp) state) s (inl refl))
 
 module _ (card : ℕ) (cards : List (List ℕ)) (machine : Machine) (options : SetupOptions) where
-  fault_by : (fault : VerbFault) → IsSetupFault machine.cells machine.file options (Fault fault) → {position executed : ℕ} {state : State} → Represents cards machine position executed state →
+  fault_by : (fault : VerbFault) → IsSetupFault machine.cells machine.file options (Fault fault) → {position executed : ℕ} {state : State} →
+      Represents cards machine position executed state →
       Gives linear_programming_of_128_bits card (verb_move (SetupVerb options) card state) (stops (VerbStop (record { fault = fault; card = card })))
   fault_by fault (no_problem is none) {state = state} s =
       let same : fault ≡ verb_fault.NoProblem = cc in
-      subst (λ (f : VerbFault). Gives linear_programming_of_128_bits card (verb_move (SetupVerb options) card state) (stops (VerbStop (record { fault = f; card = card })))) (sym same)
+      subst (λ (f : VerbFault). Gives linear_programming_of_128_bits card (verb_move (SetupVerb options) card state)
+      (stops (VerbStop (record { fault = f; card = card })))) (sym same)
       (gives_no_problem card options state (problem_view s (λ (c : Cells). c.xpbname) None none))
   fault_by fault (not_selected problem some h) {state = state} s =
       gives_refused card options state problem fault (problem_view s (λ (c : Cells). c.xpbname) (Some problem) some)
       (subst (λ (c : Cells). HasSelectionFault problem (choice_of c options) fault) (sym s.cells) h)
 
-  overflow_by : (e : Evidence) → IsSetupFault machine.cells machine.file options (Overflow e) → {position executed : ℕ} {state : State} → Represents cards machine position executed state →
-      Gives linear_programming_of_128_bits card (verb_move (SetupVerb options) card state) (stops (OverflowStop (record { evidence = e; place = None; card = card })))
+  overflow_by : (e : Evidence) → IsSetupFault machine.cells machine.file options (Overflow e) → {position executed : ℕ} {state : State} →
+      Represents cards machine position executed state →
+      Gives linear_programming_of_128_bits card (verb_move (SetupVerb options) card state)
+      (stops (OverflowStop (record { evidence = e; place = None; card = card })))
   overflow_by e (no_problem is none) {state = state} s = cc
   overflow_by e (not_selected problem some h) {state = state} s =
       gives_overflow card options state problem e (problem_view s (λ (c : Cells). c.xpbname) (Some problem) some)
@@ -111,19 +127,25 @@ module _ (card : ℕ) (cards : List (List ℕ)) (machine : Machine) (options : S
 
   pub setup_refused : (print : SinkState) (refusal : Refusal) → IsNotOpened machine.cells machine.file options refusal →
       Executes linear_programming_of_128_bits (SetupVerb options) card print print cards machine machine (refused_act card refusal)
-  setup_refused print (Fault fault) h = quietly IsPresent (Gives linear_programming_of_128_bits) (SetupVerb options) card cards machine print (λ position executed state s. fault_by fault h s)
-  setup_refused print (Overflow e) h = quietly IsPresent (Gives linear_programming_of_128_bits) (SetupVerb options) card cards machine print (λ position executed state s. overflow_by e h s)
+  setup_refused print (Fault fault) h =
+      quietly IsPresent (Gives linear_programming_of_128_bits) (SetupVerb options) card cards machine print (λ position executed state s. fault_by fault h s)
+  setup_refused print (Overflow e) h =
+      quietly IsPresent (Gives linear_programming_of_128_bits) (SetupVerb options) card cards machine print (λ position executed state s. overflow_by e h s)
   setup_refused print NoMemory h = refl
 
   module _ (opened : Opened) (o : IsOpened machine.cells machine.file options opened) where
     gives_opened : {position executed : ℕ} {state : State} → Represents cards machine position executed state →
-        Gives linear_programming_of_128_bits card (verb_move (SetupVerb options) card state) (outcome_of o.problem options (opening_statuses opened.setup.lp) state)
+        Gives linear_programming_of_128_bits card (verb_move (SetupVerb options) card state)
+        (outcome_of o.problem options (opening_statuses opened.setup.lp) state)
     gives_opened {state = state} s =
-        gives_set_up card options state o.problem opened.setup.lp (problem_view s (λ (c : Cells). c.xpbname) (Some o.problem) (filed_by machine.cells.xpbname machine.file opened.setup.name (Some o.problem) o.is_named o.is_filed))
+        gives_set_up card options state o.problem opened.setup.lp
+        (problem_view s (λ (c : Cells). c.xpbname) (Some o.problem)
+        (filed_by machine.cells.xpbname machine.file opened.setup.name (Some o.problem) o.is_named o.is_filed))
         (ap (λ (c : Cells). selected o.problem (choice_of c options)) s.cells ∙ o.is_selected)
 
     stands_set_up : {position executed : ℕ} {state : State} → Represents cards machine position executed state →
-        Represents cards (record machine { setup = Some opened.setup; mark = None }) position executed (after_setup o.problem options (opening_statuses opened.setup.lp) state)
+        Represents cards (record machine { setup = Some opened.setup; mark = None }) position executed
+        (after_setup o.problem options (opening_statuses opened.setup.lp) state)
     stands_set_up s = record {
       is_position = s.is_position;
       is_executed = s.is_executed;
@@ -137,7 +159,9 @@ module _ (card : ℕ) (cards : List (List ℕ)) (machine : Machine) (options : S
           on_file = o.is_filed;
           has_options = sym o.are_options;
           reached = sym o.is_opening;
-          lie = subst (λ (a : Matrix). LieIn a opened.setup.engine.waypoints (opening_statuses opened.setup.lp ∷ [])) (sym (same_matrix o.problem (choice_of machine.cells options) opened.setup.lp o.is_selected))
+          lie =
+              subst (λ (a : Matrix). LieIn a opened.setup.engine.waypoints (opening_statuses opened.setup.lp ∷ []))
+              (sym (same_matrix o.problem (choice_of machine.cells options) opened.setup.lp o.is_selected))
               (subst (λ (s : Basis). LieIn opened.setup.lp.matrix opened.setup.engine.waypoints (s ∷ [])) o.is_opening o.lie);
         },
       );
@@ -145,13 +169,15 @@ module _ (card : ℕ) (cards : List (List ℕ)) (machine : Machine) (options : S
     }
 
     pub setup_done : {print_old print_new : SinkState} → Writes {T = Unit {0}} print_old print_new (Ok tt) (report_text (SetUp opened.name options.sense)) →
-        Executes linear_programming_of_128_bits (SetupVerb options) card print_old print_new cards machine (record machine { setup = Some opened.setup; mark = None }) (Ok Next)
+        Executes linear_programming_of_128_bits (SetupVerb options) card print_old print_new cards machine
+        (record machine { setup = Some opened.setup; mark = None }) (Ok Next)
     setup_done {print_old = print_old} {print_new = print_new} writes =
         loudly IsPresent (Gives linear_programming_of_128_bits) (SetupVerb options) card cards machine (SetUp o.problem.name options.sense)
         (λ position executed state s. (after_setup o.problem options (opening_statuses opened.setup.lp) state, gives_opened s, stands_set_up s))
         (subst (λ (n : Name). Writes {T = Unit {0}} print_old print_new (Ok tt) (report_text (SetUp n options.sense))) o.is_own writes)
 
-    pub setup_cut : {print_old print_new : SinkState} (stop : WriteStop) → Writes {T = Unit {0}} print_old print_new (Err stop) (report_text (SetUp opened.name options.sense)) →
+    pub setup_cut : {print_old print_new : SinkState} (stop : WriteStop) →
+        Writes {T = Unit {0}} print_old print_new (Err stop) (report_text (SetUp opened.name options.sense)) →
         Executes linear_programming_of_128_bits (SetupVerb options) card print_old print_new cards machine machine (Err (halt.Print stop))
     setup_cut {print_old = print_old} {print_new = print_new} stop writes =
         cut_off IsPresent (Gives linear_programming_of_128_bits) (SetupVerb options) card cards machine machine stop (SetUp o.problem.name options.sense)

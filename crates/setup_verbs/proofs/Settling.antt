@@ -27,10 +27,17 @@ module _ {K : Type 0} (Shows : Filed → K → Present → Type 0) (S : Solving)
 
   module _ (verb : Verb ℕ) (card : ℕ) (print_old print_new : SinkState) where
     pub executes : (cards : List (List ℕ)) (old new : Machine K) (result : Result Act Halt) →
-        Executes Shows DecidesAlone verb card print_old print_new cards old new result → Executes Shows (Gives S) verb card print_old print_new cards old new result
+        Executes Shows DecidesAlone verb card print_old print_new cards old new result →
+        Executes Shows (Gives S) verb card print_old print_new cards old new result
     executes cards old new (Ok then) e = λ position executed state s.
         let a = e position executed state s in
-        record { gain = a.gain; no_cards = a.no_cards; comes = follows card (verb_move verb card state) cards new position executed a.gain then a.comes; writes = a.writes }
+        record {
+          gain = a.gain;
+          no_cards = a.no_cards;
+          comes = follows card
+              (verb_move verb card state) cards new position executed a.gain then a.comes;
+          writes = a.writes;
+        }
     executes cards old new (Err (halt.Print stop)) e = λ position executed state s.
         let a = e position executed state s in
         record { outcome = a.outcome; no_cards = a.no_cards; gives = settles_gives S card (verb_move verb card state) a.outcome a.gives; writes = a.writes }
@@ -42,13 +49,27 @@ module _ {K : Type 0} (Shows : Filed → K → Present → Type 0) (S : Solving)
         Performs Shows (Gives S) verb card print_old print_new punch_old punch_new cards old new result
     performs punch_old punch_new cards old new (Ok then) e = λ position executed state s.
         let a = e position executed state s in
-        record { gain = a.gain; comes = follows card (verb_move verb card state) cards new position executed a.gain then a.comes; prints = a.prints; punches = a.punches }
+        record {
+          gain = a.gain;
+          comes = follows card
+              (verb_move verb card state) cards new position executed a.gain then a.comes;
+          prints = a.prints;
+          punches = a.punches;
+        }
     performs punch_old punch_new cards old new (Err (halt.Print stop)) e = λ position executed state s.
         let a = e position executed state s in
         record { outcome = a.outcome; gives = settles_gives S card (verb_move verb card state) a.outcome a.gives; prints = a.prints; punches = a.punches }
     performs punch_old punch_new cards old new (Err (halt.Punch stop)) e = λ position executed state s.
         let a = e position executed state s in
-        record { report = a.report; deck = a.deck; after = a.after; gives = settles_gives S card (verb_move verb card state) (Goes (Punches a.report a.deck) a.after) a.gives; punches = a.punches; is_quiet = a.is_quiet }
+        record {
+          report = a.report;
+          deck = a.deck;
+          after = a.after;
+          gives = settles_gives S card (verb_move verb card state)
+              (Goes (Punches a.report a.deck) a.after) a.gives;
+          punches = a.punches;
+          is_quiet = a.is_quiet;
+        }
     performs punch_old punch_new cards old new (Err halt.NoMemory) e = e
 
   -- a statement that prints and punches nothing

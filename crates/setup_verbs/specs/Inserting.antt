@@ -70,7 +70,8 @@ module _ (problem : Problem ℕ) (lp : LinearProgram) (wanted : Option Name) (fr
   abbrev pub IsDeckEnd : ℕ → End → Type 0
   IsDeckEnd card end =
       ((deck_taken wanted (decks_of from) ≡ None) × (end ≡ ends.Verb DeckNotFound card)) ⊎
-      ((deck : List Card) × (rest : List (List Card)) × (fault : DeckFault) × (deck_taken wanted (decks_of from) ≡ Some (deck, rest)) × (basis_reading problem lp deck ≡ Err fault) × (end ≡ ends.Deck fault))
+      ((deck : List Card) × (rest : List (List Card)) × (fault : DeckFault) × (deck_taken wanted (decks_of from) ≡ Some (deck, rest)) ×
+      (basis_reading problem lp deck ≡ Err fault) × (end ≡ ends.Deck fault))
 
 abbrev pub IsGiven : ℕ → Problem ℕ → LinearProgram → Option Name → List Card → List (List ℕ) → Result Given Halt → Type 0
 IsGiven card problem lp wanted from cards (Ok (given.Basis read)) = IsBasisOf problem lp wanted from cards read.basis read.deck.first read.deck.last
@@ -136,14 +137,17 @@ module _ (card : ℕ) (cards : List (List ℕ)) (machine : Machine) where
   -- from each state that the machine shows, the statement prints this line and goes on with this setup
   pub record IsInserted (new : Setup) (deck : Name) (basic next : ℕ) : Type 0 where
     pub comes : (position executed : ℕ) (state : State) → Represents cards machine position executed state →
-        LeadsTo linear_programming_of_128_bits Insert card cards position executed state (record machine { setup = Some new; decks_from = next; mark = None }) (Prints (Inserted deck basic)) act.Next
+        LeadsTo linear_programming_of_128_bits Insert card cards position executed state (record machine { setup = Some new; decks_from = next; mark = None })
+        (Prints (Inserted deck basic)) act.Next
     pub ready : IsReady machine.file new
     pub first : 1 ≤ next
     pub last : next ≤ length cards + 1
 
   -- from each state that the machine shows, the statement ends the run so
   abbrev pub EndsSo : endings.Ending → Type 0
-  EndsSo ending = (position executed : ℕ) (state : State) → Represents cards machine position executed state → Gives linear_programming_of_128_bits card (verb_move Insert card state) (stops ending)
+  EndsSo ending =
+      (position executed : ℕ) (state : State) → Represents cards machine position executed state →
+      Gives linear_programming_of_128_bits card (verb_move Insert card state) (stops ending)
 
   -- the run ends with the lines of a dependency, and the problem that has their names is on file
   pub record IsSingularAt (name : Name) (p : LinearProgram) (d : List ℚ) : Type 0 where

@@ -42,10 +42,13 @@ pub fn select_again<E: Engine>(
     setup: &mut Setup<E>,
 ) -> Result<(), Refusal>
     requires { selected problem.now (chosen setup.old) ≡ Ok setup.old.lp }
-    ensures selected { OnOk result (selected problem.now (choice_of cells.now setup.old.options) ≡ Ok setup.new.lp) }
+    ensures selected { OnOk result
+        (selected problem.now (choice_of cells.now setup.old.options) ≡ Ok setup.new.lp) }
     ensures chosen { OnOk result (chosen setup.new ≡ choice_of cells.now setup.old.options) }
-    ensures others { setup.new ≡ record setup.old { objective = setup.new.objective; rhs = setup.new.rhs; lp = setup.new.lp } }
-    ensures refused { IfErr result (IsUnselected problem.now (choice_of cells.now setup.old.options)) }
+    ensures others { setup.new ≡
+        record setup.old { objective = setup.new.objective; rhs = setup.new.rhs; lp = setup.new.lp } }
+    ensures refused { IfErr result
+        (IsUnselected problem.now (choice_of cells.now setup.old.options)) }
     ensures unchanged { IfErr result (λ refusal. setup.new ≡ setup.old) }
 {
     let choice = present_choice(cells, setup.options);

@@ -70,7 +70,8 @@ module _ {print_old print_new : SinkState} (sheet : OwnSheet) (s : Basis) (befor
     writes = writes;
   }
 
-  pub ranges_cut : (stop : WriteStop) → Writes {T = Unit {0}} print_old print_new (Err stop) (report_text (Ranges (range_lines sheet.lp.now s point report sheet.problem.now))) →
+  pub ranges_cut : (stop : WriteStop) →
+      Writes {T = Unit {0}} print_old print_new (Err stop) (report_text (Ranges (range_lines sheet.lp.now s point report sheet.problem.now))) →
       ReportsFinding (RangesFound (sheet_view sheet) s before) print_old print_new (Err (halt.Print stop))
   ranges_cut stop writes = record {
     gain = Prints (Ranges (range_lines sheet.lp.now s point report sheet.problem.now));
@@ -80,9 +81,11 @@ module _ {print_old print_new : SinkState} (sheet : OwnSheet) (s : Basis) (befor
   }
 
 pub ranges_overflow : (sheet : OwnSheet) (s : Basis) (before after : List Basics) (e : Evidence) → RangesRefused sheet.lp.now before s after e →
-    (place : OwnPlace) → place_view place ≡ record { basis = s; way = waypoint (basics_of s) after e.way } → EvidenceFits e → RangesFound (sheet_view sheet) s before Nothing (Overflow e (Some place))
+    (place : OwnPlace) → place_view place ≡ record { basis = s; way = waypoint (basics_of s) after e.way } → EvidenceFits e →
+    RangesFound (sheet_view sheet) s before Nothing (Overflow e (Some place))
 ranges_overflow sheet s before after e o place is fit =
-    stopped (λ earlier lie. subst (λ (p : endings.Place). IsEvidence (RangeStatement sheet.lp.now) None 0 (earlier ++ s ∷ []) [] e (Some p)) (sym is) (o.shows earlier lie)) fit
+    stopped (λ earlier lie. subst (λ (p : endings.Place). IsEvidence (RangeStatement sheet.lp.now) None 0 (earlier ++ s ∷ []) [] e (Some p)) (sym is)
+    (o.shows earlier lie)) fit
 
 -- the setup that code has opened, which is the one that is spoken of
 module _ (file : Filed) {setup old : Setup} (is_old : setup ≡ old) (there : Problem ℕ) (is_there : filed_under setup.name file ≡ Some there) where
@@ -125,29 +128,39 @@ module _ (card : ℕ) (state : State) where
   abbrev go_set_up : Present → StatementMove
   go_set_up present = or_fault card verb_fault.NotSolved state.mark (go_marked present)
 
-  range_gives : (outcome : StatementOutcome) → Gives linear_programming_of_128_bits card (or_fault card verb_fault.NoSetup state.setup go_set_up) outcome → Gives linear_programming_of_128_bits card (verb_move Ranging card state) outcome
+  range_gives : (outcome : StatementOutcome) → Gives linear_programming_of_128_bits card (or_fault card verb_fault.NoSetup state.setup go_set_up) outcome →
+      Gives linear_programming_of_128_bits card (verb_move Ranging card state) outcome
   unfolding linear_programming_of_128_bits verb_move
   range_gives outcome g = g
 
-  gives_no_setup : state.setup ≡ None → Gives linear_programming_of_128_bits card (verb_move Ranging card state) (stops (endings.VerbStop (record { fault = verb_fault.NoSetup; card = card })))
-  gives_no_setup e = range_gives (stops (endings.VerbStop (record { fault = verb_fault.NoSetup; card = card }))) (gives_fault card verb_fault.NoSetup state.setup go_set_up e)
+  gives_no_setup : state.setup ≡ None →
+      Gives linear_programming_of_128_bits card (verb_move Ranging card state) (stops (endings.VerbStop (record { fault = verb_fault.NoSetup; card = card })))
+  gives_no_setup e =
+      range_gives (stops (endings.VerbStop (record { fault = verb_fault.NoSetup; card = card }))) (gives_fault card verb_fault.NoSetup state.setup go_set_up e)
 
-  gives_set_up : (present : Present) (outcome : StatementOutcome) → state.setup ≡ Some present → Gives linear_programming_of_128_bits card (go_set_up present) outcome → Gives linear_programming_of_128_bits card (verb_move Ranging card state) outcome
+  gives_set_up : (present : Present) (outcome : StatementOutcome) → state.setup ≡ Some present →
+      Gives linear_programming_of_128_bits card (go_set_up present) outcome → Gives linear_programming_of_128_bits card (verb_move Ranging card state) outcome
   gives_set_up present outcome e given = range_gives outcome (gives_found card verb_fault.NoSetup state.setup go_set_up present outcome e given)
 
   -- the mark is refused
-  gives_refused : (present : Present) (mark : Option Mark) (fault : VerbFault) → state.mark ≡ mark → range_fault mark ≡ Some fault → Gives linear_programming_of_128_bits card (go_set_up present) (stops (endings.VerbStop (record { fault = fault; card = card })))
+  gives_refused : (present : Present) (mark : Option Mark) (fault : VerbFault) → state.mark ≡ mark → range_fault mark ≡ Some fault →
+      Gives linear_programming_of_128_bits card (go_set_up present) (stops (endings.VerbStop (record { fault = fault; card = card })))
   gives_refused present None fault is e =
-      subst (λ (f : VerbFault). Gives linear_programming_of_128_bits card (go_set_up present) (stops (endings.VerbStop (record { fault = f; card = card })))) (same_Some verb_fault.NotSolved fault e)
+      subst (λ (f : VerbFault). Gives linear_programming_of_128_bits card (go_set_up present) (stops (endings.VerbStop (record { fault = f; card = card }))))
+      (same_Some verb_fault.NotSolved fault e)
       (gives_fault card verb_fault.NotSolved state.mark (go_marked present) is)
   gives_refused present (Some Optimal) fault is e = absurd (cc e)
   gives_refused present (Some Infeasible) fault is e =
-      subst (λ (f : VerbFault). Gives linear_programming_of_128_bits card (go_set_up present) (stops (endings.VerbStop (record { fault = f; card = card })))) (same_Some verb_fault.NotOptimal fault e)
-      (gives_found card verb_fault.NotSolved state.mark (go_marked present) Infeasible (stops (endings.VerbStop (record { fault = verb_fault.NotOptimal; card = card }))) is
+      subst (λ (f : VerbFault). Gives linear_programming_of_128_bits card (go_set_up present) (stops (endings.VerbStop (record { fault = f; card = card }))))
+      (same_Some verb_fault.NotOptimal fault e)
+      (gives_found card verb_fault.NotSolved state.mark (go_marked present) Infeasible
+      (stops (endings.VerbStop (record { fault = verb_fault.NotOptimal; card = card }))) is
       (gives_fault card verb_fault.NotOptimal (if_optimal Infeasible) (go_optimal present) refl))
   gives_refused present (Some Unbounded) fault is e =
-      subst (λ (f : VerbFault). Gives linear_programming_of_128_bits card (go_set_up present) (stops (endings.VerbStop (record { fault = f; card = card })))) (same_Some verb_fault.NotOptimal fault e)
-      (gives_found card verb_fault.NotSolved state.mark (go_marked present) Unbounded (stops (endings.VerbStop (record { fault = verb_fault.NotOptimal; card = card }))) is
+      subst (λ (f : VerbFault). Gives linear_programming_of_128_bits card (go_set_up present) (stops (endings.VerbStop (record { fault = f; card = card }))))
+      (same_Some verb_fault.NotOptimal fault e)
+      (gives_found card verb_fault.NotSolved state.mark (go_marked present) Unbounded
+      (stops (endings.VerbStop (record { fault = verb_fault.NotOptimal; card = card }))) is
       (gives_fault card verb_fault.NotOptimal (if_optimal Unbounded) (go_optimal present) refl))
 
 pub ranges_no_setup : (card : ℕ) (cards : List (List ℕ)) (machine : Machine) (print : SinkState) → machine.setup ≡ None →
@@ -156,7 +169,8 @@ ranges_no_setup card cards machine print none =
     quietly IsPresent (Gives linear_programming_of_128_bits) Ranging card cards machine print (λ position executed state s.
     gives_no_setup card state (subst (λ (kept : Option Setup). ShowsSetup machine.file kept state.setup) none s.setup))
 
-module _ (card : ℕ) (cards : List (List ℕ)) (old : Machine) (setup : Setup) (is_setup : old.setup ≡ Some setup) (problem : Problem ℕ) (on_file : filed_under setup.name old.file ≡ Some problem) where
+module _ (card : ℕ) (cards : List (List ℕ)) (old : Machine) (setup : Setup) (is_setup : old.setup ≡ Some setup) (problem : Problem ℕ)
+    (on_file : filed_under setup.name old.file ≡ Some problem) where
   module _ (position executed : ℕ) (state : State) (s : Represents cards old position executed state) where
     p : IsPresentOf problem setup state.setup
     p = present_at old.file setup state.setup problem on_file (subst (λ (kept : Option Setup). ShowsSetup old.file kept state.setup) is_setup s.setup)
@@ -164,11 +178,16 @@ module _ (card : ℕ) (cards : List (List ℕ)) (old : Machine) (setup : Setup) 
     abbrev present : Present
     present = present_with problem setup.options p.opening p.steps
 
-    not_optimal : (fault : VerbFault) → range_fault old.mark ≡ Some fault → Gives linear_programming_of_128_bits card (verb_move Ranging card state) (stops (endings.VerbStop (record { fault = fault; card = card })))
-    not_optimal fault is = gives_set_up card state present (stops (endings.VerbStop (record { fault = fault; card = card }))) p.is_viewed (gives_refused card state present old.mark fault s.mark is)
+    not_optimal : (fault : VerbFault) → range_fault old.mark ≡ Some fault →
+        Gives linear_programming_of_128_bits card (verb_move Ranging card state) (stops (endings.VerbStop (record { fault = fault; card = card })))
+    not_optimal fault is =
+        gives_set_up card state present (stops (endings.VerbStop (record { fault = fault; card = card }))) p.is_viewed
+        (gives_refused card state present old.mark fault s.mark is)
 
-    module _ (new : Setup) (is_mark : old.mark ≡ Some Optimal) (ok : selected problem (choice_of old.cells setup.options) ≡ Ok setup.lp) (k : IsSameSetup setup new) where
-      optimal_gives : (outcome : StatementOutcome) → Gives linear_programming_of_128_bits card (go_view card state present setup.lp) outcome → Gives linear_programming_of_128_bits card (verb_move Ranging card state) outcome
+    module _ (new : Setup) (is_mark : old.mark ≡ Some Optimal) (ok : selected problem (choice_of old.cells setup.options) ≡ Ok setup.lp)
+        (k : IsSameSetup setup new) where
+      optimal_gives : (outcome : StatementOutcome) → Gives linear_programming_of_128_bits card (go_view card state present setup.lp) outcome →
+          Gives linear_programming_of_128_bits card (verb_move Ranging card state) outcome
       optimal_gives outcome g =
           gives_set_up card state present outcome p.is_viewed
           (gives_found card verb_fault.NotSolved state.mark (go_marked card state present) Optimal outcome (s.mark ∙ is_mark)
@@ -177,11 +196,13 @@ module _ (card : ℕ) (cards : List (List ℕ)) (old : Machine) (setup : Setup) 
           (ap (λ (c : Cells). selected problem (choice_of c setup.options)) s.cells ∙ ok) g)))
 
       pub ranged_comes : (gain : Gain) (finding : Finding) → ShowsRanges problem setup gain finding →
-          LeadsTo linear_programming_of_128_bits Ranging card cards position executed state (record old { setup = Some new }) gain (act_of old.cells card finding)
+          LeadsTo linear_programming_of_128_bits Ranging card cards position executed state (record old { setup = Some new }) gain
+          (act_of old.cells card finding)
       unfolding linear_programming_of_128_bits
       ranged_comes _ _ (ranged {lines = lines} h) = (
         state,
-        optimal_gives (printed card state lines) (inl (lines, subst (λ (b : Basis). IsRanged (record { problem = problem; lp = setup.lp }) b lines) (sym p.reached) h, refl)),
+        optimal_gives (printed card state lines)
+            (inl (lines, subst (λ (b : Basis). IsRanged (record { problem = problem; lp = setup.lp }) b lines) (sym p.reached) h, refl)),
         still_stands card cards old setup is_setup problem on_file position executed state s new Optimal is_mark ok k,
       )
       ranged_comes _ _ (stopped {e = e} {place = place} h fit) =
@@ -190,25 +211,36 @@ module _ (card : ℕ) (cards : List (List ℕ)) (old : Machine) (setup : Setup) 
           (inr (
             e,
             option_map place_view place,
-            (subst (λ (bs : List Basis). IsEvidence (RangeStatement setup.lp) None 0 bs [] e (option_map place_view place)) (sym p.ends) (h p.initial (lie_up_to problem setup state.setup p setup.lp same)), fit),
+            (
+              subst (λ (bs : List Basis). IsEvidence (RangeStatement setup.lp) None 0 bs [] e (option_map place_view place)) (sym p.ends)
+                  (h p.initial (lie_up_to problem setup state.setup p setup.lp same)),
+              fit,
+            ),
             refl,
           ))
 
   module _ where
-    pub ranges_refused : (print : SinkState) (any : Machine) (fault : VerbFault) → range_fault old.mark ≡ Some fault → Executes linear_programming_of_128_bits Ranging card print print cards old any (refused_act card (Fault fault))
+    pub ranges_refused : (print : SinkState) (any : Machine) (fault : VerbFault) → range_fault old.mark ≡ Some fault →
+        Executes linear_programming_of_128_bits Ranging card print print cards old any (refused_act card (Fault fault))
     ranges_refused print any fault is =
-        quietly IsPresent (Gives linear_programming_of_128_bits) Ranging card cards old print {new = any} (λ position executed state s. not_optimal position executed state s fault is)
+        quietly IsPresent (Gives linear_programming_of_128_bits) Ranging card cards old print {new = any}
+        (λ position executed state s. not_optimal position executed state s fault is)
 
-    module _ (print_old print_new : SinkState) (new : Setup) (is_mark : old.mark ≡ Some Optimal) (ok : selected problem (choice_of old.cells setup.options) ≡ Ok setup.lp) (k : IsSameSetup setup new) where
-      pub ranges_found : (finding : Finding) (then : Act) → then ≡ act_of old.cells card finding → ReportsFinding (ShowsRanges problem setup) print_old print_new (Ok finding) →
+    module _ (print_old print_new : SinkState) (new : Setup) (is_mark : old.mark ≡ Some Optimal)
+        (ok : selected problem (choice_of old.cells setup.options) ≡ Ok setup.lp) (k : IsSameSetup setup new) where
+      pub ranges_found : (finding : Finding) (then : Act) → then ≡ act_of old.cells card finding →
+          ReportsFinding (ShowsRanges problem setup) print_old print_new (Ok finding) →
           Executes linear_programming_of_128_bits Ranging card print_old print_new cards old (record old { setup = Some new }) (Ok then)
       ranges_found finding then e t =
-          subst (λ (a : Act). Executes linear_programming_of_128_bits Ranging card print_old print_new cards old (record old { setup = Some new }) (Ok a)) (sym e)
-          (reported_executes Ranging card cards old (ShowsRanges problem setup) (λ found. record old { setup = Some new }) (act_of old.cells card) (no_cards_by problem setup)
+          subst (λ (a : Act). Executes linear_programming_of_128_bits Ranging card print_old print_new cards old (record old { setup = Some new }) (Ok a))
+          (sym e)
+          (reported_executes Ranging card cards old (ShowsRanges problem setup) (λ found. record old { setup = Some new }) (act_of old.cells card)
+          (no_cards_by problem setup)
           (λ gain found h position executed state s. ranged_comes position executed state s new is_mark ok k gain found h) print_old print_new finding t)
 
       pub ranges_broken : (any : Machine) (h : Halt) → ReportsFinding (ShowsRanges problem setup) print_old print_new (Err h) →
           Executes linear_programming_of_128_bits Ranging card print_old print_new cards old any (Err h)
       ranges_broken any h t =
-          cut_executes Ranging card cards old (ShowsRanges problem setup) (λ found. record old { setup = Some new }) (act_of old.cells card) (no_cards_by problem setup)
+          cut_executes Ranging card cards old (ShowsRanges problem setup) (λ found. record old { setup = Some new }) (act_of old.cells card)
+          (no_cards_by problem setup)
           (λ gain found h position executed state s. ranged_comes position executed state s new is_mark ok k gain found h) print_old print_new any h t

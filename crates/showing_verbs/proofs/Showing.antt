@@ -57,30 +57,39 @@ use Rattle.setup_verbs.proofs.Present.{IsPresentOf, lie_up_to, one_problem, pres
 -- ---- the lines of a basis
 
 -- they are printed or broken off
-module _ {print_old print_new : SinkState} (sheet : OwnSheet) (s : Basis) (before : List Basics) (mark : Mark) (point prices slack list : List ℚ) (same : list ≡ slack)
+module _ {print_old print_new : SinkState} (sheet : OwnSheet) (s : Basis) (before : List Basics) (mark : Mark) (point prices slack list : List ℚ)
+    (same : list ≡ slack)
     (is_viewed : IsSolutionOf (sheet_view sheet) s (solution_lines sheet.problem.now sheet.lp.now s point prices slack))
     (fit : SolutionFits (solution_lines sheet.problem.now sheet.lp.now s point prices slack)) where
-  pub lines_reported : Writes {T = Unit {0}} print_old print_new (Ok tt) (report_text (Solution mark (solution_lines sheet.problem.now sheet.lp.now s point prices list))) →
+  pub lines_reported : Writes {T = Unit {0}} print_old print_new (Ok tt)
+      (report_text (Solution mark (solution_lines sheet.problem.now sheet.lp.now s point prices list))) →
       ReportsFinding (LinesFound (sheet_view sheet) s before mark) print_old print_new (Ok Printed)
   lines_reported writes = record {
     gain = Prints (Solution mark (solution_lines sheet.problem.now sheet.lp.now s point prices slack));
     holds = viewed is_viewed fit;
-    writes = subst (λ (xs : List ℚ). Writes {T = Unit {0}} print_old print_new (Ok tt) (report_text (Solution mark (solution_lines sheet.problem.now sheet.lp.now s point prices xs)))) same writes;
+    writes =
+        subst (λ (xs : List ℚ). Writes {T = Unit {0}} print_old print_new (Ok tt)
+        (report_text (Solution mark (solution_lines sheet.problem.now sheet.lp.now s point prices xs)))) same writes;
   }
 
-  pub lines_cut : (stop : WriteStop) → Writes {T = Unit {0}} print_old print_new (Err stop) (report_text (Solution mark (solution_lines sheet.problem.now sheet.lp.now s point prices list))) →
+  pub lines_cut : (stop : WriteStop) →
+      Writes {T = Unit {0}} print_old print_new (Err stop) (report_text (Solution mark (solution_lines sheet.problem.now sheet.lp.now s point prices list))) →
       ReportsFinding (LinesFound (sheet_view sheet) s before mark) print_old print_new (Err (halt.Print stop))
   lines_cut stop writes = record {
     gain = Prints (Solution mark (solution_lines sheet.problem.now sheet.lp.now s point prices slack));
     finding = Printed;
     holds = viewed is_viewed fit;
-    writes = subst (λ (xs : List ℚ). Writes {T = Unit {0}} print_old print_new (Err stop) (report_text (Solution mark (solution_lines sheet.problem.now sheet.lp.now s point prices xs)))) same writes;
+    writes =
+        subst (λ (xs : List ℚ). Writes {T = Unit {0}} print_old print_new (Err stop)
+        (report_text (Solution mark (solution_lines sheet.problem.now sheet.lp.now s point prices xs)))) same writes;
   }
 
 pub lines_overflow : (sheet : OwnSheet) (s : Basis) (before after : List Basics) (mark : Mark) (e : Evidence) → SolutionRefused sheet.lp.now before s after e →
-    (place : OwnPlace) → place_view place ≡ record { basis = s; way = waypoint (basics_of s) after e.way } → EvidenceFits e → LinesFound (sheet_view sheet) s before mark Nothing (Overflow e (Some place))
+    (place : OwnPlace) → place_view place ≡ record { basis = s; way = waypoint (basics_of s) after e.way } → EvidenceFits e →
+    LinesFound (sheet_view sheet) s before mark Nothing (Overflow e (Some place))
 lines_overflow sheet s before after mark e o place is fit =
-    overflows (λ earlier lie. subst (λ (p : endings.Place). IsEvidence (SolutionStatement sheet.lp.now) None 0 (earlier ++ s ∷ []) [] e (Some p)) (sym is) (o.shows earlier lie)) fit
+    overflows (λ earlier lie. subst (λ (p : endings.Place). IsEvidence (SolutionStatement sheet.lp.now) None 0 (earlier ++ s ∷ []) [] e (Some p)) (sym is)
+    (o.shows earlier lie)) fit
 
 -- ---- a setup
 
@@ -92,14 +101,19 @@ pub record IsSameSetup (setup new : Setup) : Type 0 where
   pub basis : new.basis ≡ setup.basis
   pub keeps : KeepsWaypoints setup.lp.matrix (basics_of setup.basis) setup.engine.waypoints (basics_of setup.basis) new.engine.waypoints
 
-pub still_selected : (cells : Cells) (file : Filed) (setup new : Setup) → IsSameSetup setup new → IsSelected file setup.name (choice_of cells setup.options) setup.lp → IsSelected file new.name (choice_of cells new.options) new.lp
+pub still_selected : (cells : Cells) (file : Filed) (setup new : Setup) → IsSameSetup setup new →
+    IsSelected file setup.name (choice_of cells setup.options) setup.lp → IsSelected file new.name (choice_of cells new.options) new.lp
 still_selected cells file setup new k h = λ problem on_file.
-    ap (λ (o : SetupOptions). selected problem (choice_of cells o)) k.options ∙ h problem (ap (λ name. filed_under name file) (sym k.name) ∙ on_file) ∙ ap Ok (sym k.lp)
+    ap (λ (o : SetupOptions). selected problem (choice_of cells o)) k.options ∙ h problem (ap (λ name. filed_under name file) (sym k.name) ∙ on_file)
+    ∙ ap Ok (sym k.lp)
 
-pub still_solved : (cells : Cells) (file : Filed) (setup new : Setup) (mark : Mark) → IsSameSetup setup new → IsSolved mark cells.xobj cells.xrhs file setup → IsSolved mark cells.xobj cells.xrhs file new
+pub still_solved : (cells : Cells) (file : Filed) (setup new : Setup) (mark : Mark) → IsSameSetup setup new → IsSolved mark cells.xobj cells.xrhs file setup →
+    IsSolved mark cells.xobj cells.xrhs file new
 still_solved cells file setup new mark k h = record {
   is_selected = still_selected cells file setup new k h.is_selected;
-  optimal = λ is. subst (λ (p : LinearProgram). IsOptimalBasis p new.basis) (sym k.lp) (subst (λ (b : Basis). IsOptimalBasis setup.lp b) (sym k.basis) (h.optimal is));
+  optimal =
+      λ is. subst (λ (p : LinearProgram). IsOptimalBasis p new.basis) (sym k.lp)
+      (subst (λ (b : Basis). IsOptimalBasis setup.lp b) (sym k.basis) (h.optimal is));
 }
 
 -- the setup that code has opened, which is the one that is spoken of
@@ -113,7 +127,8 @@ module _ (file : Filed) {setup old : Setup} (is_old : setup ≡ old) (mark : Mar
 
 -- ---- the statement
 
-no_cards_by : (problem : Problem ℕ) (setup : Setup) (mark : Mark) (gain : Gain) (finding : Finding) → Shows problem setup mark gain finding → punched_by gain ≡ []
+no_cards_by : (problem : Problem ℕ) (setup : Setup) (mark : Mark) (gain : Gain) (finding : Finding) → Shows problem setup mark gain finding →
+    punched_by gain ≡ []
 no_cards_by problem setup mark _ _ (viewed h fit) = refl
 no_cards_by problem setup mark _ _ (overflows h fit) = refl
 
@@ -125,7 +140,9 @@ module _ (card : ℕ) (state : State) where
   printed mark lines = next (Prints (Solution mark lines)) state
 
   abbrev go_view : Present → Mark → LinearProgram → StatementMove
-  go_view present mark lp = MayStop (InAnswer (OfSolution mark) (sheet_of present lp) (path_of present)) (Asks (OfSolution mark) (sheet_of present lp) (present_basis present) (printed mark))
+  go_view present mark lp =
+      MayStop (InAnswer (OfSolution mark) (sheet_of present lp) (path_of present))
+      (Asks (OfSolution mark) (sheet_of present lp) (present_basis present) (printed mark))
 
   abbrev go_marked : Present → Mark → StatementMove
   go_marked present mark = or_selection_fault card (selected present.problem (choice_of state.cells present.options)) (go_view present mark)
@@ -133,14 +150,21 @@ module _ (card : ℕ) (state : State) where
   abbrev go_set_up : Present → StatementMove
   go_set_up present = or_fault card verb_fault.NotSolved state.mark (go_marked present)
 
-  solution_gives : (outcome : StatementOutcome) → Gives linear_programming_of_128_bits card (or_fault card verb_fault.NoSetup state.setup go_set_up) outcome → Gives linear_programming_of_128_bits card (verb_move SolutionVerb card state) outcome
+  solution_gives : (outcome : StatementOutcome) → Gives linear_programming_of_128_bits card (or_fault card verb_fault.NoSetup state.setup go_set_up) outcome →
+      Gives linear_programming_of_128_bits card (verb_move SolutionVerb card state) outcome
   unfolding linear_programming_of_128_bits verb_move
   solution_gives outcome g = g
 
-  gives_no_setup : state.setup ≡ None → Gives linear_programming_of_128_bits card (verb_move SolutionVerb card state) (stops (endings.VerbStop (record { fault = verb_fault.NoSetup; card = card })))
-  gives_no_setup e = solution_gives (stops (endings.VerbStop (record { fault = verb_fault.NoSetup; card = card }))) (gives_fault card verb_fault.NoSetup state.setup go_set_up e)
+  gives_no_setup : state.setup ≡ None →
+      Gives linear_programming_of_128_bits card (verb_move SolutionVerb card state)
+      (stops (endings.VerbStop (record { fault = verb_fault.NoSetup; card = card })))
+  gives_no_setup e =
+      solution_gives (stops (endings.VerbStop (record { fault = verb_fault.NoSetup; card = card })))
+      (gives_fault card verb_fault.NoSetup state.setup go_set_up e)
 
-  gives_set_up : (present : Present) (outcome : StatementOutcome) → state.setup ≡ Some present → Gives linear_programming_of_128_bits card (go_set_up present) outcome → Gives linear_programming_of_128_bits card (verb_move SolutionVerb card state) outcome
+  gives_set_up : (present : Present) (outcome : StatementOutcome) → state.setup ≡ Some present →
+      Gives linear_programming_of_128_bits card (go_set_up present) outcome →
+      Gives linear_programming_of_128_bits card (verb_move SolutionVerb card state) outcome
   gives_set_up present outcome e given = solution_gives outcome (gives_found card verb_fault.NoSetup state.setup go_set_up present outcome e given)
 
 pub solution_no_setup : (card : ℕ) (cards : List (List ℕ)) (machine : Machine) (print : SinkState) → machine.setup ≡ None →
@@ -149,7 +173,8 @@ solution_no_setup card cards machine print none =
     quietly IsPresent (Gives linear_programming_of_128_bits) SolutionVerb card cards machine print (λ position executed state s.
     gives_no_setup card state (subst (λ (kept : Option Setup). ShowsSetup machine.file kept state.setup) none s.setup))
 
-module _ (card : ℕ) (cards : List (List ℕ)) (old : Machine) (setup : Setup) (is_setup : old.setup ≡ Some setup) (problem : Problem ℕ) (on_file : filed_under setup.name old.file ≡ Some problem) where
+module _ (card : ℕ) (cards : List (List ℕ)) (old : Machine) (setup : Setup) (is_setup : old.setup ≡ Some setup) (problem : Problem ℕ)
+    (on_file : filed_under setup.name old.file ≡ Some problem) where
   module _ (position executed : ℕ) (state : State) (s : Represents cards old position executed state) where
     p : IsPresentOf problem setup state.setup
     p = present_at old.file setup state.setup problem on_file (subst (λ (kept : Option Setup). ShowsSetup old.file kept state.setup) is_setup s.setup)
@@ -157,13 +182,17 @@ module _ (card : ℕ) (cards : List (List ℕ)) (old : Machine) (setup : Setup) 
     abbrev present : Present
     present = present_with problem setup.options p.opening p.steps
 
-    not_solved : old.mark ≡ None → Gives linear_programming_of_128_bits card (verb_move SolutionVerb card state) (stops (endings.VerbStop (record { fault = verb_fault.NotSolved; card = card })))
+    not_solved : old.mark ≡ None →
+        Gives linear_programming_of_128_bits card (verb_move SolutionVerb card state)
+        (stops (endings.VerbStop (record { fault = verb_fault.NotSolved; card = card })))
     not_solved none =
         gives_set_up card state present (stops (endings.VerbStop (record { fault = verb_fault.NotSolved; card = card }))) p.is_viewed
         (gives_fault card verb_fault.NotSolved state.mark (go_marked card state present) (s.mark ∙ none))
 
-    module _ (new : Setup) (mark : Mark) (is_mark : old.mark ≡ Some mark) (ok : selected problem (choice_of old.cells setup.options) ≡ Ok setup.lp) (k : IsSameSetup setup new) where
-      marked_gives : (outcome : StatementOutcome) → Gives linear_programming_of_128_bits card (go_view card state present mark setup.lp) outcome → Gives linear_programming_of_128_bits card (verb_move SolutionVerb card state) outcome
+    module _ (new : Setup) (mark : Mark) (is_mark : old.mark ≡ Some mark) (ok : selected problem (choice_of old.cells setup.options) ≡ Ok setup.lp)
+        (k : IsSameSetup setup new) where
+      marked_gives : (outcome : StatementOutcome) → Gives linear_programming_of_128_bits card (go_view card state present mark setup.lp) outcome →
+          Gives linear_programming_of_128_bits card (verb_move SolutionVerb card state) outcome
       marked_gives outcome g =
           gives_set_up card state present outcome p.is_viewed
           (gives_found card verb_fault.NotSolved state.mark (go_marked card state present) mark outcome (s.mark ∙ is_mark)
@@ -174,7 +203,8 @@ module _ (card : ℕ) (cards : List (List ℕ)) (old : Machine) (setup : Setup) 
       still_stands =
           let same : matrix_of problem ≡ setup.lp.matrix = same_matrix problem (choice_of old.cells setup.options) setup.lp ok in
           let lie : LieIn setup.lp.matrix new.engine.waypoints (p.initial ++ setup.basis ∷ []) =
-          lie_later setup.lp.matrix p.initial setup.basis setup.engine.waypoints new.engine.waypoints k.keeps (lie_up_to problem setup state.setup p setup.lp same) in
+          lie_later setup.lp.matrix p.initial setup.basis setup.engine.waypoints new.engine.waypoints k.keeps
+          (lie_up_to problem setup state.setup p setup.lp same) in
           record {
             is_position = s.is_position;
             is_executed = s.is_executed;
@@ -188,42 +218,64 @@ module _ (card : ℕ) (cards : List (List ℕ)) (old : Machine) (setup : Setup) 
                 on_file = ap (λ name. filed_under name old.file) k.name ∙ on_file;
                 has_options = sym k.options;
                 reached = p.reached ∙ sym k.basis;
-                lie = subst (λ (bs : List Basis). LieIn (matrix_of problem) new.engine.waypoints bs) (sym p.ends) (subst (λ (a : Matrix). LieIn a new.engine.waypoints (p.initial ++ setup.basis ∷ [])) (sym same) lie);
+                lie =
+                    subst (λ (bs : List Basis). LieIn (matrix_of problem) new.engine.waypoints bs) (sym p.ends)
+                    (subst (λ (a : Matrix). LieIn a new.engine.waypoints (p.initial ++ setup.basis ∷ [])) (sym same) lie);
               },
             );
             mark = s.mark;
           }
 
       pub reported_comes : (gain : Gain) (finding : Finding) → Shows problem setup mark gain finding →
-          LeadsTo linear_programming_of_128_bits SolutionVerb card cards position executed state (record old { setup = Some new }) gain (act_of old.cells card finding)
+          LeadsTo linear_programming_of_128_bits SolutionVerb card cards position executed state (record old { setup = Some new }) gain
+          (act_of old.cells card finding)
       unfolding linear_programming_of_128_bits
-      reported_comes _ _ (viewed {lines = lines} h fit) =
-          (state, marked_gives (printed card state mark lines) (inl (lines, (subst (λ (b : Basis). IsSolutionOf (record { problem = problem; lp = setup.lp }) b lines) (sym p.reached) h, fit), refl)), still_stands)
+      reported_comes _ _ (viewed {lines = lines} h fit) = (
+        state,
+        marked_gives (printed card state mark lines)
+            (inl (
+              lines,
+              (subst (λ (b : Basis). IsSolutionOf (record { problem = problem; lp = setup.lp }) b lines) (sym p.reached) h, fit),
+              refl,
+            )),
+        still_stands,
+      )
       reported_comes _ _ (overflows {e = e} {place = place} h fit) =
           let same : matrix_of problem ≡ setup.lp.matrix = same_matrix problem (choice_of old.cells setup.options) setup.lp ok in
           marked_gives (stops (endings.OverflowStop (record { evidence = e; place = option_map place_view place; card = card })))
           (inr (
             e,
             option_map place_view place,
-            (subst (λ (bs : List Basis). IsEvidence (SolutionStatement setup.lp) None 0 bs [] e (option_map place_view place)) (sym p.ends) (h p.initial (lie_up_to problem setup state.setup p setup.lp same)), fit),
+            (
+              subst (λ (bs : List Basis). IsEvidence (SolutionStatement setup.lp) None 0 bs [] e (option_map place_view place)) (sym p.ends)
+                  (h p.initial (lie_up_to problem setup state.setup p setup.lp same)),
+              fit,
+            ),
             refl,
           ))
 
   module _ where
-    pub solution_not_solved : (print : SinkState) (any : Machine) → old.mark ≡ None → Executes linear_programming_of_128_bits SolutionVerb card print print cards old any (refused_act card (Fault verb_fault.NotSolved))
+    pub solution_not_solved : (print : SinkState) (any : Machine) → old.mark ≡ None →
+        Executes linear_programming_of_128_bits SolutionVerb card print print cards old any (refused_act card (Fault verb_fault.NotSolved))
     solution_not_solved print any none =
-        quietly IsPresent (Gives linear_programming_of_128_bits) SolutionVerb card cards old print {new = any} (λ position executed state s. not_solved position executed state s none)
+        quietly IsPresent (Gives linear_programming_of_128_bits) SolutionVerb card cards old print {new = any}
+        (λ position executed state s. not_solved position executed state s none)
 
-    module _ (print_old print_new : SinkState) (new : Setup) (mark : Mark) (is_mark : old.mark ≡ Some mark) (ok : selected problem (choice_of old.cells setup.options) ≡ Ok setup.lp) (k : IsSameSetup setup new) where
-      pub solution_found : (finding : Finding) (then : Act) → then ≡ act_of old.cells card finding → ReportsFinding (Shows problem setup mark) print_old print_new (Ok finding) →
+    module _ (print_old print_new : SinkState) (new : Setup) (mark : Mark) (is_mark : old.mark ≡ Some mark)
+        (ok : selected problem (choice_of old.cells setup.options) ≡ Ok setup.lp) (k : IsSameSetup setup new) where
+      pub solution_found : (finding : Finding) (then : Act) → then ≡ act_of old.cells card finding →
+          ReportsFinding (Shows problem setup mark) print_old print_new (Ok finding) →
           Executes linear_programming_of_128_bits SolutionVerb card print_old print_new cards old (record old { setup = Some new }) (Ok then)
       solution_found finding then e t =
-          subst (λ (a : Act). Executes linear_programming_of_128_bits SolutionVerb card print_old print_new cards old (record old { setup = Some new }) (Ok a)) (sym e)
-          (reported_executes SolutionVerb card cards old (Shows problem setup mark) (λ found. record old { setup = Some new }) (act_of old.cells card) (no_cards_by problem setup mark)
+          subst (λ (a : Act). Executes linear_programming_of_128_bits SolutionVerb card print_old print_new cards old (record old { setup = Some new }) (Ok a))
+          (sym e)
+          (reported_executes SolutionVerb card cards old (Shows problem setup mark) (λ found. record old { setup = Some new }) (act_of old.cells card)
+          (no_cards_by problem setup mark)
           (λ gain found h position executed state s. reported_comes position executed state s new mark is_mark ok k gain found h) print_old print_new finding t)
 
       pub solution_cut : (any : Machine) (h : Halt) → ReportsFinding (Shows problem setup mark) print_old print_new (Err h) →
           Executes linear_programming_of_128_bits SolutionVerb card print_old print_new cards old any (Err h)
       solution_cut any h t =
-          cut_executes SolutionVerb card cards old (Shows problem setup mark) (λ found. record old { setup = Some new }) (act_of old.cells card) (no_cards_by problem setup mark)
+          cut_executes SolutionVerb card cards old (Shows problem setup mark) (λ found. record old { setup = Some new }) (act_of old.cells card)
+          (no_cards_by problem setup mark)
           (λ gain found h position executed state s. reported_comes position executed state s new mark is_mark ok k gain found h) print_old print_new any h t

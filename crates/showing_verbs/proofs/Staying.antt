@@ -17,25 +17,31 @@ use Rattle.basis_values.specs.Calls.{LieIn}
 pub solved_of : (cells : Cells) (file : Filed) (mark : Option Mark) (kept : Option Setup) (own : Mark) (setup : Setup) → mark ≡ Some own → kept ≡ Some setup →
     IfSome mark (λ m. IfSome kept (IsSolved m cells.xobj cells.xrhs file)) → IsSolved own cells.xobj cells.xrhs file setup
 solved_of cells file mark kept own setup marked is h =
-    subst (λ (o : Option Setup). IfSome o (IsSolved own cells.xobj cells.xrhs file)) is (subst (λ (m : Option Mark). IfSome m (λ n. IfSome kept (IsSolved n cells.xobj cells.xrhs file))) marked h)
+    subst (λ (o : Option Setup). IfSome o (IsSolved own cells.xobj cells.xrhs file)) is
+    (subst (λ (m : Option Mark). IfSome m (λ n. IfSome kept (IsSolved n cells.xobj cells.xrhs file))) marked h)
 
 module _ (cells : Cells) (file : Filed) (setup new : Setup) where
-  while_marked : (mark : Option Mark) (kept : Option Setup) → kept ≡ Some setup → ((m : Mark) → IsSolved m cells.xobj cells.xrhs file setup → IsSolved m cells.xobj cells.xrhs file new) →
+  while_marked : (mark : Option Mark) (kept : Option Setup) → kept ≡ Some setup →
+      ((m : Mark) → IsSolved m cells.xobj cells.xrhs file setup → IsSolved m cells.xobj cells.xrhs file new) →
       IfSome mark (λ m. IfSome kept (IsSolved m cells.xobj cells.xrhs file)) → IfSome mark (λ m. IsSolved m cells.xobj cells.xrhs file new)
   while_marked None kept is keeps h = tt
   while_marked (Some mark) kept is keeps h = keeps mark (subst (λ (o : Option Setup). IfSome o (IsSolved mark cells.xobj cells.xrhs file)) is h)
 
 module _ (cards : List (List ℕ)) (old : Machine) (setup new : Setup) (ready : IsReady old.file new) (s : IsSound cards old) where
   -- the mark stays
-  pub sound_kept : old.setup ≡ Some setup → ((m : Mark) → IsSolved m old.cells.xobj old.cells.xrhs old.file setup → IsSolved m old.cells.xobj old.cells.xrhs old.file new) → IsSound cards (record old { setup = Some new })
-  sound_kept is keeps = record { first = s.first; last = s.last; demands = s.demands; ready = ready; solved = while_marked old.cells old.file setup new old.mark old.setup is keeps s.solved }
+  pub sound_kept : old.setup ≡ Some setup →
+      ((m : Mark) → IsSolved m old.cells.xobj old.cells.xrhs old.file setup → IsSolved m old.cells.xobj old.cells.xrhs old.file new) →
+      IsSound cards (record old { setup = Some new })
+  sound_kept is keeps =
+      record { first = s.first; last = s.last; demands = s.demands; ready = ready; solved = while_marked old.cells old.file setup new old.mark old.setup is keeps s.solved }
 
 module _ (a : Matrix) where
   within_last : (xs : List Basis) (s : Basis) → IsWithinOne a (basics_of s) (map basics_of (xs ++ s ∷ []))
   within_last [] s = inl (within_itself a (basics_of s))
   within_last (x ∷ xs) s = inr (within_last xs s)
 
-  pub lie_later : (initial : List Basis) (s : Basis) (before after : List Basics) → KeepsWaypoints a (basics_of s) before (basics_of s) after → LieIn a before (initial ++ s ∷ []) → LieIn a after (initial ++ s ∷ [])
+  pub lie_later : (initial : List Basis) (s : Basis) (before after : List Basics) → KeepsWaypoints a (basics_of s) before (basics_of s) after →
+      LieIn a before (initial ++ s ∷ []) → LieIn a after (initial ++ s ∷ [])
   lie_later initial s before after keeps lie k d below = place (get_or after k d) (keeps.each k d below)
     where
       place : (w : Basics) → IsKept a (basics_of s) before (basics_of s) w → IsWithinOne a w (map basics_of (initial ++ s ∷ []))

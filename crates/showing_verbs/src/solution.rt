@@ -120,7 +120,8 @@ pub fn show_solution<E: Engine, P: Sink>(
 ) -> Result<Act, Halt>
     requires ready { IfSome machine.old.setup (IsReady machine.old.file) }
     requires solved { IfSome machine.old.mark
-        (λ mark. IfSome machine.old.setup (IsSolved mark machine.old.cells.xobj machine.old.cells.xrhs machine.old.file)) }
+        (λ mark. IfSome machine.old.setup
+        (IsSolved mark machine.old.cells.xobj machine.old.cells.xrhs machine.old.file)) }
     ensures acts { (cards : List (List ℕ)) →
         Executes linear_programming_of_128_bits program.Solution card (P.taken print.old)
         (P.taken print.new)

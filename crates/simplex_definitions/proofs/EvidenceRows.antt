@@ -98,7 +98,15 @@ gainful = problem (minus 99999999000000000000000000) (plus 1) great
 gain : MoveFormula gainful (opening_statuses gainful) (opened gainful) Ul (of_formula 8 2 3 1 0 0 Mul great (minus 99999999000000000000000000))
 unfolding tableau_for table_for refuses fraction whole ◌+ℚ◌ ◌*ℚ◌ neg_ℚ inverse_ℚ reciprocal compare_ℚ sum_to gcd
 gain = f8 2 3 1 great (record { is_formula = refl; is_p = refl; is_q = refl; is_i = refl; is_j = refl; is_term = refl })
-    (record { limit = great; is_limit = refl; is_variable = (omega arith, omega arith); is_nonbasic = ((omega arith, omega arith), refl); moves = is_nonzero _ 0 refl; is_step = same_parts _ _ refl refl })
+    (record {
+      limit = great;
+      is_limit = refl;
+      is_variable = (omega arith, omega arith);
+      is_nonbasic =
+          ((omega arith, omega arith), refl);
+      moves = is_nonzero _ 0 refl;
+      is_step = same_parts _ _ refl refl;
+    })
     (omega arith, omega arith)
     (record { is_op = refl; is_left = same_parts _ _ refl refl; is_right = same_parts _ _ refl refl; refused = refl })
 

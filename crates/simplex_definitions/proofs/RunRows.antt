@@ -85,12 +85,14 @@ falling-first : optimal_at (objective_family falling 2) (Bs ∷ Bs ∷ Ll ∷ []
 unfolding tableau_for table_for is_optimal fraction whole ◌+ℚ◌ ◌*ℚ◌ neg_ℚ inverse_ℚ reciprocal compare_ℚ sum_to gcd
 falling-first = refl
 
-falling-ends : objective_at falling 2 one_ℚ (Bs ∷ Bs ∷ Ll ∷ []) ≡ Unbounded ((pos 1, 1) ∷ (pos 0, 1) ∷ (pos 0, 1) ∷ (pos 0, 1) ∷ []) ((pos 1, 1) ∷ (negsuc 0, 1) ∷ (pos 1, 1) ∷ [])
+falling-ends : objective_at falling 2 one_ℚ (Bs ∷ Bs ∷ Ll ∷ []) ≡ Unbounded ((pos 1, 1) ∷ (pos 0, 1) ∷ (pos 0, 1) ∷ (pos 0, 1) ∷ [])
+    ((pos 1, 1) ∷ (negsuc 0, 1) ∷ (pos 1, 1) ∷ [])
 unfolding tableau_for table_for objective_face fraction whole ◌+ℚ◌ ◌*ℚ◌ neg_ℚ inverse_ℚ reciprocal compare_ℚ sum_to gcd
 falling-ends = refl
 
 -- x grows with the right-hand side until its limit 3 stops it at 2
-one-first : optimal_at (rhs_family (one_with 1 (Some (plus 3))) shift) (Bs ∷ Ll ∷ Bs ∷ []) (zero_ℚ ∷ plus 2 ∷ fraction (pos 2001) 1000 ∷ []) ≡ true ∷ true ∷ false ∷ []
+one-first : optimal_at (rhs_family (one_with 1 (Some (plus 3))) shift) (Bs ∷ Ll ∷ Bs ∷ [])
+    (zero_ℚ ∷ plus 2 ∷ fraction (pos 2001) 1000 ∷ []) ≡ true ∷ true ∷ false ∷ []
 unfolding tableau_for table_for is_optimal fraction whole ◌+ℚ◌ ◌*ℚ◌ neg_ℚ inverse_ℚ reciprocal compare_ℚ sum_to gcd
 one-first = refl
 
@@ -115,6 +117,7 @@ pair-second : optimal_at (rhs_family pair shift) (Bs ∷ Ll ∷ Ul ∷ Bs ∷ []
 unfolding tableau_for table_for is_optimal fraction whole ◌+ℚ◌ ◌*ℚ◌ neg_ℚ inverse_ℚ reciprocal compare_ℚ sum_to gcd
 pair-second = refl
 
-pair-values : map (point_at (rhs_family pair shift) (Bs ∷ Ll ∷ Ul ∷ Bs ∷ [])) (plus 2 ∷ plus 5 ∷ []) ≡ map (λ theta. moved_to pair theta (minus 1 ∷ plus 1 ∷ plus 3 ∷ minus 2 ∷ []) (plus 2 ∷ plus 1 ∷ zero_ℚ ∷ plus 1 ∷ [])) (plus 2 ∷ plus 5 ∷ [])
+pair-values : map (point_at (rhs_family pair shift) (Bs ∷ Ll ∷ Ul ∷ Bs ∷ [])) (plus 2 ∷ plus 5 ∷ []) ≡ map
+    (λ theta. moved_to pair theta (minus 1 ∷ plus 1 ∷ plus 3 ∷ minus 2 ∷ []) (plus 2 ∷ plus 1 ∷ zero_ℚ ∷ plus 1 ∷ [])) (plus 2 ∷ plus 5 ∷ [])
 unfolding tableau_for table_for fraction whole ◌+ℚ◌ ◌*ℚ◌ neg_ℚ inverse_ℚ reciprocal compare_ℚ sum_to gcd
 pair-values = refl

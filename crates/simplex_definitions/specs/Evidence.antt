@@ -39,7 +39,8 @@ module _ (statement : SolvingStatement) (Goes : Status → Type 0) (s : List Sta
 
 -- the operands are those of the formula at the basis s and the waypoint w, and the operation refuses them; a formula that tells
 -- of an exchange at w leads to a waypoint too, and any other means the basis itself. Around are the bases that waypoints lie in.
-pub record ShowsRefusal (statement : SolvingStatement) (Goes : Status → Type 0) (around : List Basics) (s : List Status) (w : Basics) (e : Evidence) : Type 0 where
+pub record ShowsRefusal (statement : SolvingStatement) (Goes : Status → Type 0) (around : List Basics) (s : List Status) (w : Basics)
+    (e : Evidence) : Type 0 where
   pub tableau : Tableau
   pub is_tableau : IsTableau (program_at statement e.theta) s tableau
   pub way_rate : ℕ → ℕ → ℚ
@@ -87,7 +88,8 @@ with_ahead bases (Some next) = bases ++ next ∷ []
 -- s is the last of the bases of the path in hand, which has so many steps left; waypoints lie in these bases and the one that
 -- the step in hand is to reach; breakpoint is the value at which a parametric run takes face steps, if it is at one, and ends are the
 -- ends of its intervals so far
-pub record EvidenceHolds (statement : SolvingStatement) (breakpoint : Option ℚ) (left : ℕ) (bases : List (List Status)) (ends : List ℚ) (s : List Status) (w : Basics) (e : Evidence) : Type 0 where
+pub record EvidenceHolds (statement : SolvingStatement) (breakpoint : Option ℚ) (left : ℕ) (bases : List (List Status)) (ends : List ℚ) (s : List Status)
+    (w : Basics) (e : Evidence) : Type 0 where
   pub before : List (List Status)
   pub reached : bases ≡ before ++ s ∷ []
   pub ahead : Option (List Status)

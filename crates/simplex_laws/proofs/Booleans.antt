@@ -19,7 +19,8 @@ improves r rises falls = (lt_ℚ r zero_ℚ && rises) || (lt_ℚ zero_ℚ r && f
 
 -- a rate that isn't negative where the variable may rise, nor positive where it may fall, improves nothing
 pub improves_not : (r : ℚ) (rises falls : Bool) → (rises ≡ true → zero_ℚ ≤ℚ r) → (falls ≡ true → r ≤ℚ zero_ℚ) → improves r rises falls ≡ false
-improves_not r rises falls up down = ap₂ ◌||◌ (at (lt_ℚ r zero_ℚ) rises (λ e. lt_fails_from_le r zero_ℚ (up e))) (at (lt_ℚ zero_ℚ r) falls (λ e. lt_fails_from_le zero_ℚ r (down e)))
+improves_not r rises falls up down =
+    ap₂ ◌||◌ (at (lt_ℚ r zero_ℚ) rises (λ e. lt_fails_from_le r zero_ℚ (up e))) (at (lt_ℚ zero_ℚ r) falls (λ e. lt_fails_from_le zero_ℚ r (down e)))
   where
     at : (test may : Bool) → (may ≡ true → test ≡ false) → (test && may) ≡ false
     at true true h = h refl

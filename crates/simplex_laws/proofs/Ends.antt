@@ -101,10 +101,12 @@ module _ (p : LinearProgram) (s : List Status) (t : Tableau) (basis : IsBasis p 
           and_true _ _ test among
 
       within : IsWithinLimits p t.point
-      within k is = inside (status_of s k) (lower_of p k) (upper_of p k) (t.point k) (basis.allowed k is) (tab.is_point.placed k is) (uncrossed k is) (unbroken k is)
+      within k is =
+          inside (status_of s k) (lower_of p k) (upper_of p k) (t.point k) (basis.allowed k is) (tab.is_point.placed k is) (uncrossed k is) (unbroken k is)
 
   -- where no variable improves the objective, its rates are right
-  pub rates_right : entering_variable p s t None ≡ None → (k : ℕ) → IsVariable p.matrix k → IsFixed p k ⊎ IsRightAt (status_of s k) (for_min p.sense (objective_rate p t.rate k))
+  pub rates_right : entering_variable p s t None ≡ None → (k : ℕ) → IsVariable p.matrix k →
+      IsFixed p k ⊎ IsRightAt (status_of s k) (for_min p.sense (objective_rate p t.rate k))
   rates_right none k is =
       right (status_of s k) (lower_of p k) (upper_of p k) (worth_rate p s t k) (is_fixed p k) refl
       (find_none (lowers p s (worth_rate p s t)) (size p.matrix) 1 none k is.0 (omega (arith, is.1)))
@@ -117,7 +119,8 @@ module _ (p : LinearProgram) (s : List Status) (t : Tableau) (basis : IsBasis p 
   }
 
 -- the limits of a vector that has the values of a feasible one
-within_same : (low high : Option ℚ) (x y : ℚ) → x ≡ y → IfSome low (λ l. l ≤ℚ x) × IfSome high (λ u. x ≤ℚ u) → IfSome low (λ l. l ≤ℚ y) × IfSome high (λ u. y ≤ℚ u)
+within_same : (low high : Option ℚ) (x y : ℚ) → x ≡ y → IfSome low (λ l. l ≤ℚ x) × IfSome high (λ u. x ≤ℚ u) →
+    IfSome low (λ l. l ≤ℚ y) × IfSome high (λ u. y ≤ℚ u)
 within_same low high x y e h = subst (λ v. IfSome low (λ l. l ≤ℚ v) × IfSome high (λ u. v ≤ℚ u)) e h
 
 pub IsFeasible-same : (p : LinearProgram) (d e : Vector) → ((k : ℕ) → IsVariable p.matrix k → d k ≡ e k) → IsFeasible p d → IsFeasible p e
@@ -127,7 +130,8 @@ IsFeasible-same p d e same h = record {
 }
 
 -- an optimal end: the basis is optimal, these are its point and its prices, and they prove that the point is best
-pub optimal_end : (p : LinearProgram) (s : List Status) (z y : List ℚ) → IsLinearProgram p → IsNonsingularBasis p s → EndsAt p s (EndsOptimal z y) → ProvedOptimal p s z y
+pub optimal_end : (p : LinearProgram) (s : List Status) (z y : List ℚ) → IsLinearProgram p → IsNonsingularBasis p s → EndsAt p s (EndsOptimal z y) →
+    ProvedOptimal p s z y
 optimal_end p s z y lawful at ends = record {
   optimal = record {
     is_basis = at.is_basis;
@@ -140,7 +144,9 @@ optimal_end p s z y lawful at ends = record {
   point = at_z;
   prices = record { rate = ends.tableau.rate; are_rates = ends.is_tableau.are_rates; prices = at_prices };
   certificate = certificate;
-  best = best_by_prices p lawful (value_at z) (value_at y) (IsFeasible-same p ends.tableau.point (value_at z) (λ k is. sym (at_point k is)) at_feasible) certificate;
+  best =
+      best_by_prices p lawful (value_at z) (value_at y)
+      (IsFeasible-same p ends.tableau.point (value_at z) (λ k is. sym (at_point k is)) at_feasible) certificate;
 }
   where
     optimal : IsOptimalTurn p s ends.tableau (Ends (EndsOptimal z y))
@@ -168,4 +174,5 @@ optimal_end p s z y lawful at ends = record {
     at_z = is_point_same p s ends.tableau at.is_basis ends.is_tableau (value_at z) at_point
 
     certificate : IsDualCertificate p (value_at z) (value_at y)
-    certificate = prices_prove p lawful s at.is_basis at.nonsingular ends.tableau.rate ends.is_tableau.are_rates (value_at z) (value_at y) at_z at_prices at_right
+    certificate =
+        prices_prove p lawful s at.is_basis at.nonsingular ends.tableau.rate ends.is_tableau.are_rates (value_at z) (value_at y) at_z at_prices at_right

@@ -21,7 +21,9 @@ tableau_from p s at rate are = record {
 }
 
 pub opening_has : (p : LinearProgram) → HasTableau p (opening_statuses p)
-opening_has p = tableau_from p (opening_statuses p) (opening_is p) (opening_rate p.matrix) (subst (λ b. AreRates p.matrix b (opening_rate p.matrix)) (sym (basics_of-opening p)) (AreRates-opening p.matrix))
+opening_has p =
+    tableau_from p (opening_statuses p) (opening_is p) (opening_rate p.matrix)
+    (subst (λ b. AreRates p.matrix b (opening_rate p.matrix)) (sym (basics_of-opening p)) (AreRates-opening p.matrix))
 
 pub step_has : (p : LinearProgram) (s next : List Status) → IsNonsingularBasis p s → IsStep p s next → HasTableau p next
 step_has p s next at step = let led = step_leads_to p s next at step in tableau_from p next led.at led.rate led.are_rates
@@ -32,7 +34,8 @@ module _ (rule : Rule) (p : LinearProgram) (leads : (s next : List Status) → I
   rule_step_has s next at step = let led = leads s next at step in tableau_from p next led.at led.rate led.are_rates
 
   -- a basis with a tableau has a step or an end
-  rule_goes : (s : List Status) (t : Tableau) → IsTableau p s t → (u : Turn) → rule p s t ≡ u → ((next : List Status) × RuleStep rule p s next) ⊎ ((ending : PathEnding) × RuleEnd rule p s ending)
+  rule_goes : (s : List Status) (t : Tableau) → IsTableau p s t → (u : Turn) → rule p s t ≡ u →
+      ((next : List Status) × RuleStep rule p s next) ⊎ ((ending : PathEnding) × RuleEnd rule p s ending)
   rule_goes s t tab (Moves m) e = inl (after s m, record { tableau = t; is_tableau = tab; move = m; turns = e; is_next = refl })
   rule_goes s t tab (Ends ending) e = inr (ending, record { tableau = t; is_tableau = tab; turns = e })
 
@@ -40,16 +43,33 @@ module _ (rule : Rule) (p : LinearProgram) (leads : (s next : List Status) → I
   pub rule_ends_or_goes_on : (steps : ℕ) (s : List Status) → IsNonsingularBasis p s → HasTableau p s → RuleEndsWithin rule p s steps ⊎ RuleGoesOn rule p s steps
   rule_ends_or_goes_on zero s at has = by_turn (rule_goes s has.tableau has.is_tableau (rule p s has.tableau) refl)
     where
-      by_turn : (((next : List Status) × RuleStep rule p s next) ⊎ ((ending : PathEnding) × RuleEnd rule p s ending)) → RuleEndsWithin rule p s 0 ⊎ RuleGoesOn rule p s 0
+      by_turn : (((next : List Status) × RuleStep rule p s next) ⊎ ((ending : PathEnding) × RuleEnd rule p s ending)) →
+          RuleEndsWithin rule p s 0 ⊎ RuleGoesOn rule p s 0
       by_turn (inl (next, step)) = inr (record { bases = []; is_path = tt; taken = refl; next = next; is_step = step })
       by_turn (inr (ending, ends)) = inl (record { bases = []; ending = ending; ends = record { is_path = tt; ends = ends }; within = omega arith })
-  rule_ends_or_goes_on (suc steps) s at has = by_turn (rule_goes s has.tableau has.is_tableau (rule p s has.tableau) refl) (λ next step. rule_ends_or_goes_on steps next (leads s next at step).at (rule_step_has s next at step))
+  rule_ends_or_goes_on (suc steps) s at has =
+      by_turn (rule_goes s has.tableau has.is_tableau (rule p s has.tableau) refl)
+      (λ next step. rule_ends_or_goes_on steps next (leads s next at step).at (rule_step_has s next at step))
     where
-      after_step : (next : List Status) → RuleStep rule p s next → (RuleEndsWithin rule p next steps ⊎ RuleGoesOn rule p next steps) → RuleEndsWithin rule p s (suc steps) ⊎ RuleGoesOn rule p s (suc steps)
-      after_step next step (inl done) = inl (record { bases = next ∷ done.bases; ending = done.ending; ends = record { is_path = (step, done.ends.is_path); ends = done.ends.ends }; within = omega (arith, done.within) })
-      after_step next step (inr on) = inr (record { bases = next ∷ on.bases; is_path = (step, on.is_path); taken = ap suc on.taken; next = on.next; is_step = on.is_step })
+      after_step : (next : List Status) → RuleStep rule p s next → (RuleEndsWithin rule p next steps ⊎ RuleGoesOn rule p next steps) →
+          RuleEndsWithin rule p s (suc steps) ⊎ RuleGoesOn rule p s (suc steps)
+      after_step next step (inl done) =
+          inl (record {
+            bases = next ∷ done.bases;
+            ending = done.ending;
+            ends = record {
+              is_path =
+                  (step, done.ends.is_path);
+              ends = done.ends.ends;
+            };
+            within = omega (arith, done.within);
+          })
+      after_step next step (inr on) =
+          inr (record { bases = next ∷ on.bases; is_path = (step, on.is_path); taken = ap suc on.taken; next = on.next; is_step = on.is_step })
 
-      by_turn : (((next : List Status) × RuleStep rule p s next) ⊎ ((ending : PathEnding) × RuleEnd rule p s ending)) → ((next : List Status) → RuleStep rule p s next → RuleEndsWithin rule p next steps ⊎ RuleGoesOn rule p next steps) → RuleEndsWithin rule p s (suc steps) ⊎ RuleGoesOn rule p s (suc steps)
+      by_turn : (((next : List Status) × RuleStep rule p s next) ⊎ ((ending : PathEnding) × RuleEnd rule p s ending)) →
+          ((next : List Status) → RuleStep rule p s next → RuleEndsWithin rule p next steps ⊎ RuleGoesOn rule p next steps) →
+          RuleEndsWithin rule p s (suc steps) ⊎ RuleGoesOn rule p s (suc steps)
       by_turn (inl (next, step)) rest = after_step next step (rest next step)
       by_turn (inr (ending, ends)) rest = inl (record { bases = []; ending = ending; ends = record { is_path = tt; ends = ends }; within = omega arith })
 

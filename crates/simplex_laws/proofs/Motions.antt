@@ -26,7 +26,8 @@ use Rattle.simplex_laws.proofs.Stoppers.{stopper_some, reaches_limit}
 
 -- a quotient with both signs turned
 turned_quotient : (a v : ℚ) → v <ℚ zero_ℚ → a /ℚ v ≡ neg_ℚ a /ℚ neg_ℚ v
-turned_quotient a v h = same_quotients a v (neg_ℚ a) (neg_ℚ v) (apart_from_below h) (apart_from_above (neg_above v h)) (by_ring2 a v (λ a v. a ⊗ opposite v ≐ opposite a ⊗ v) refl)
+turned_quotient a v h =
+    same_quotients a v (neg_ℚ a) (neg_ℚ v) (apart_from_below h) (apart_from_above (neg_above v h)) (by_ring2 a v (λ a v. a ⊗ opposite v ≐ opposite a ⊗ v) refl)
 
 pub difference_above : (x y : ℚ) → x ≤ℚ y → zero_ℚ ≤ℚ y -ℚ x
 difference_above x y h = le_by_one h (by_ring2 x y (λ x y. y ⊖ x ≐ number (pos 0) ⊕ (y ⊖ x)) refl)
@@ -69,14 +70,18 @@ module _ (z v x : ℚ) (forward : zero_ℚ ≤ℚ x) where
       lower_ahead None h e = tt
       lower_ahead (Some l) h e = above_lower l h (le_from_test x ((l -ℚ z) /ℚ v) e)
 
-      by_tests : (up : Bool) → lt_ℚ zero_ℚ v ≡ up → (down : Bool) → lt_ℚ v zero_ℚ ≡ down → is_no_later (Some x) (option_map (λ l. (l -ℚ z) /ℚ v) (if up then high else (if down then low else None))) ≡ true →
+      by_tests : (up : Bool) → lt_ℚ zero_ℚ v ≡ up → (down : Bool) → lt_ℚ v zero_ℚ ≡ down →
+          is_no_later (Some x) (option_map (λ l. (l -ℚ z) /ℚ v) (if up then high else (if down then low else None))) ≡ true →
           IfSome low (λ l. l ≤ℚ z +ℚ x *ℚ v) × IfSome high (λ u. z +ℚ x *ℚ v ≤ℚ u)
       by_tests true up down down_is e = let h = lt_from_test zero_ℚ v up in (low_kept low within.0 (z +ℚ x *ℚ v) (moved_up h), upper_ahead high h e)
       by_tests false up true down_is e = let h = lt_from_test v zero_ℚ down_is in (lower_ahead low h e, high_kept high within.1 (z +ℚ x *ℚ v) (moved_down h))
       by_tests false up false down_is e =
           let none : v ≡ zero_ℚ = le_antisymm (le_from_lt_fails zero_ℚ v up) (le_from_lt_fails v zero_ℚ down_is) in
-          let still : z ≡ z +ℚ x *ℚ v = by_ring2 z x (λ z x. z ≐ z ⊕ x ⊗ number (pos 0)) refl ∙ ap (λ y. z +ℚ x *ℚ y) (sym none) in
-          (low_kept low within.0 (z +ℚ x *ℚ v) (subst (λ y. z ≤ℚ y) still (le_refl z)), high_kept high within.1 (z +ℚ x *ℚ v) (subst (λ y. y ≤ℚ z) still (le_refl z)))
+          let still : z ≡ z +ℚ x *ℚ v = by_ring2 z x (λ z x. z ≐ z ⊕ x ⊗ number (pos 0)) refl ∙ ap (λ y. z +ℚ x *ℚ y) (sym none) in (
+            low_kept low within.0 (z +ℚ x *ℚ v) (subst (λ y. z ≤ℚ y) still (le_refl z)),
+            high_kept high within.1 (z +ℚ x *ℚ v)
+                (subst (λ y. y ≤ℚ z) still (le_refl z)),
+          )
 
 -- ---- the variable that stops the motion
 
@@ -93,25 +98,30 @@ comes_to : (low high : Option ℚ) (z v x : ℚ) → IfSome low (λ l. l ≤ℚ 
     option_map (λ l. (l -ℚ z) /ℚ v) (if lt_ℚ zero_ℚ v then high else (if lt_ℚ v zero_ℚ then low else None)) ≡ Some x → ComesTo low high z v x
 comes_to low high z v x within e = by_tests (lt_ℚ zero_ℚ v) refl (lt_ℚ v zero_ℚ) refl e
   where
-    upper : (high : Option ℚ) → IfSome high (λ u. z ≤ℚ u) → zero_ℚ <ℚ v → option_map (λ l. (l -ℚ z) /ℚ v) high ≡ Some x → (zero_ℚ ≤ℚ x) × (high ≡ Some (z +ℚ x *ℚ v))
+    upper : (high : Option ℚ) → IfSome high (λ u. z ≤ℚ u) → zero_ℚ <ℚ v → option_map (λ l. (l -ℚ z) /ℚ v) high ≡ Some x →
+        (zero_ℚ ≤ℚ x) × (high ≡ Some (z +ℚ x *ℚ v))
     upper None h up e = cc
     upper (Some u) h up e =
         let x_is : (u -ℚ z) /ℚ v ≡ x = same_Some _ _ e in (
-          subst (λ y. zero_ℚ ≤ℚ y) x_is (le-div up (subst (λ y. y ≤ℚ u -ℚ z) (by_ring1 v (λ v. number (pos 0) ≐ number (pos 0) ⊗ v) refl) (difference_above z u h))),
+          subst (λ y. zero_ℚ ≤ℚ y) x_is
+              (le-div up (subst (λ y. y ≤ℚ u -ℚ z) (by_ring1 v (λ v. number (pos 0) ≐ number (pos 0) ⊗ v) refl) (difference_above z u h))),
           ap (λ y. Some y) (arrival z v u (apart_from_above up) ∙ ap (λ y. z +ℚ y *ℚ v) x_is),
         )
 
-    lower : (low : Option ℚ) → IfSome low (λ l. l ≤ℚ z) → v <ℚ zero_ℚ → option_map (λ l. (l -ℚ z) /ℚ v) low ≡ Some x → (zero_ℚ ≤ℚ x) × (low ≡ Some (z +ℚ x *ℚ v))
+    lower : (low : Option ℚ) → IfSome low (λ l. l ≤ℚ z) → v <ℚ zero_ℚ → option_map (λ l. (l -ℚ z) /ℚ v) low ≡ Some x →
+        (zero_ℚ ≤ℚ x) × (low ≡ Some (z +ℚ x *ℚ v))
     lower None h down e = cc
     lower (Some l) h down e =
         let x_is : (l -ℚ z) /ℚ v ≡ x = same_Some _ _ e in
         let turned : neg_ℚ (l -ℚ z) /ℚ neg_ℚ v ≡ x = sym (turned_quotient (l -ℚ z) v down) ∙ x_is in
         let ahead : zero_ℚ ≤ℚ neg_ℚ (l -ℚ z) = subst (λ y. zero_ℚ ≤ℚ y) (by_ring2 z l (λ z l. z ⊖ l ≐ opposite (l ⊖ z)) refl) (difference_above l z h) in (
-          subst (λ y. zero_ℚ ≤ℚ y) turned (le-div (neg_above v down) (subst (λ y. y ≤ℚ neg_ℚ (l -ℚ z)) (by_ring1 v (λ v. number (pos 0) ≐ number (pos 0) ⊗ opposite v) refl) ahead)),
+          subst (λ y. zero_ℚ ≤ℚ y) turned
+              (le-div (neg_above v down) (subst (λ y. y ≤ℚ neg_ℚ (l -ℚ z)) (by_ring1 v (λ v. number (pos 0) ≐ number (pos 0) ⊗ opposite v) refl) ahead)),
           ap (λ y. Some y) (arrival z v l (apart_from_below down) ∙ ap (λ y. z +ℚ y *ℚ v) x_is),
         )
 
-    by_tests : (up : Bool) → lt_ℚ zero_ℚ v ≡ up → (down : Bool) → lt_ℚ v zero_ℚ ≡ down → option_map (λ l. (l -ℚ z) /ℚ v) (if up then high else (if down then low else None)) ≡ Some x → ComesTo low high z v x
+    by_tests : (up : Bool) → lt_ℚ zero_ℚ v ≡ up → (down : Bool) → lt_ℚ v zero_ℚ ≡ down →
+        option_map (λ l. (l -ℚ z) /ℚ v) (if up then high else (if down then low else None)) ≡ Some x → ComesTo low high z v x
     by_tests true up down down_is e =
         let above = lt_from_test zero_ℚ v up in
         let h = upper high within.1 above e in record { forward = h.0; arrives = rw up h.1; moves = apart_from_above above }
@@ -135,7 +145,9 @@ module _ (p : LinearProgram) (t : Tableau) (q k : ℕ) (up : Bool) (stops : stop
   stopped_is = (stopper_some p t.point (speeds t.rate up q) k stops).0
 
   pub length_of : (x : ℚ) × (step_length p t.point (speeds t.rate up q) k ≡ Some x)
-  length_of = reaches_limit (step_length p t.point (speeds t.rate up q) k) (step_length p t.point (speeds t.rate up q) k) ((stopper_some p t.point (speeds t.rate up q) k stops).1 k stopped_is)
+  length_of =
+      reaches_limit (step_length p t.point (speeds t.rate up q) k) (step_length p t.point (speeds t.rate up q) k)
+      ((stopper_some p t.point (speeds t.rate up q) k stops).1 k stopped_is)
 
   module _ (feasible : IsFeasible p t.point) where
     pub comes : ComesTo (lower_of p k) (upper_of p k) (t.point k) (speeds t.rate up q k) length_of.0
@@ -150,14 +162,17 @@ module _ (p : LinearProgram) (t : Tableau) (q k : ℕ) (up : Bool) (stops : stop
         keeps = subst (KeepsEquations p.matrix) as_direction
             (KeepsEquations-along p.matrix t.point (signed up length_of.0) (λ i. t.rate i q) tab.is_point.keeps (tab.are_rates q enters).keeps);
         within = λ i is. moved_within (t.point i) (speeds t.rate up q i) length_of.0 comes.forward (lower_of p i) (upper_of p i) (feasible.within i is)
-            (subst (λ o. is_no_later o (step_length p t.point (speeds t.rate up q) i) ≡ true) length_of.1 ((stopper_some p t.point (speeds t.rate up q) k stops).1 i is));
+            (subst (λ o. is_no_later o (step_length p t.point (speeds t.rate up q) i) ≡ true) length_of.1
+            ((stopper_some p t.point (speeds t.rate up q) k stops).1 i is));
       }
 
       stands : StandsAt (reached (speeds t.rate up q) k) (lower_of p k) (upper_of p k) (along t.point length_of.0 (speeds t.rate up q) k)
-      stands = stands_reached (lower_of p k) (upper_of p k) (along t.point length_of.0 (speeds t.rate up q) k) (lt_ℚ zero_ℚ (speeds t.rate up q k)) comes.arrives
+      stands =
+          stands_reached (lower_of p k) (upper_of p k) (along t.point length_of.0 (speeds t.rate up q) k) (lt_ℚ zero_ℚ (speeds t.rate up q k)) comes.arrives
 
       pub moved_point : IsPointOf p (with_status (with_status s q Bs) k (reached (speeds t.rate up q) k)) (along t.point length_of.0 (speeds t.rate up q))
       moved_point =
           subst (IsPointOf p (with_status (with_status s q Bs) k (reached (speeds t.rate up q) k))) as_direction
           (IsPointOf-replaced p s at.is_basis t.point tab.is_point q enters.0 (λ i. t.rate i q) (tab.are_rates q enters) (signed up length_of.0)
-          k (reached (speeds t.rate up q) k) stopped_is (subst (λ w. StandsAt (reached (speeds t.rate up q) k) (lower_of p k) (upper_of p k) (w k)) (sym as_direction) stands))
+          k (reached (speeds t.rate up q) k) stopped_is
+          (subst (λ w. StandsAt (reached (speeds t.rate up q) k) (lower_of p k) (upper_of p k) (w k)) (sym as_direction) stands))

@@ -40,7 +40,8 @@ module _ (test : ℕ → Bool) where
   find_some zero first k e = cc
   find_some (suc n) first k e = by_test (test first) refl e (find_some n (suc first) k)
     where
-      by_test : (b : Bool) → test first ≡ b → cond b (Some first) (find test (numbers_from (suc first) n)) ≡ Some k → (find test (numbers_from (suc first) n) ≡ Some k → IsFound n (suc first) k) → IsFound (suc n) first k
+      by_test : (b : Bool) → test first ≡ b → cond b (Some first) (find test (numbers_from (suc first) n)) ≡ Some k →
+          (find test (numbers_from (suc first) n) ≡ Some k → IsFound n (suc first) k) → IsFound (suc n) first k
       by_test true is e rest = let same : first ≡ k = cc in subst (IsFound (suc n) first) same (record { low = omega arith; high = omega arith; passes = is })
       by_test false is e rest = found_later n first k (rest e)
 
@@ -61,13 +62,15 @@ module _ (test : ℕ → Bool) where
   list_all_from (suc n) first h = rw (h first (omega arith) (omega arith)) (list_all_from n (suc first) (λ k low high. h k (omega arith) (omega arith)))
 
 -- two tests that agree on the numbers find the same, and pass alike
-pub find_same : (test other : ℕ → Bool) (n first : ℕ) → ((k : ℕ) → first ≤ k → k < first + n → test k ≡ other k) → find test (numbers_from first n) ≡ find other (numbers_from first n)
+pub find_same : (test other : ℕ → Bool) (n first : ℕ) → ((k : ℕ) → first ≤ k → k < first + n → test k ≡ other k) →
+    find test (numbers_from first n) ≡ find other (numbers_from first n)
 find_same test other zero first h = refl
 find_same test other (suc n) first h =
     ap (λ b. cond b (Some first) (find test (numbers_from (suc first) n))) (h first (omega arith) (omega arith))
     ∙ ap (λ o. cond (other first) (Some first) o) (find_same test other n (suc first) (λ k low high. h k (omega arith) (omega arith)))
 
-pub list_all_same : (test other : ℕ → Bool) (n first : ℕ) → ((k : ℕ) → first ≤ k → k < first + n → test k ≡ other k) → list_all test (numbers_from first n) ≡ list_all other (numbers_from first n)
+pub list_all_same : (test other : ℕ → Bool) (n first : ℕ) → ((k : ℕ) → first ≤ k → k < first + n → test k ≡ other k) →
+    list_all test (numbers_from first n) ≡ list_all other (numbers_from first n)
 list_all_same test other zero first h = refl
 list_all_same test other (suc n) first h =
     ap (λ b. b && list_all test (numbers_from (suc first) n)) (h first (omega arith) (omega arith))
@@ -87,14 +90,18 @@ module _ {X : Type 0} where
 
 module _ (test : ℕ → Bool) where
   -- the first number that passes is found
-  pub find_first : (n first k : ℕ) → first ≤ k → k < first + n → test k ≡ true → ((j : ℕ) → first ≤ j → j < k → test j ≡ false) → find test (numbers_from first n) ≡ Some k
+  pub find_first : (n first k : ℕ) → first ≤ k → k < first + n → test k ≡ true → ((j : ℕ) → first ≤ j → j < k → test j ≡ false) →
+      find test (numbers_from first n) ≡ Some k
   find_first zero first k low high passes before = absurd (omega arith)
   find_first (suc n) first k low high passes before = at (eqb_tells k first) (find_first n (suc first) k)
     where
       Rest : Type 0
-      Rest = suc first ≤ k → k < suc first + n → test k ≡ true → ((j : ℕ) → suc first ≤ j → j < k → test j ≡ false) → find test (numbers_from (suc first) n) ≡ Some k
+      Rest =
+          suc first ≤ k → k < suc first + n → test k ≡ true → ((j : ℕ) → suc first ≤ j → j < k → test j ≡ false) →
+          find test (numbers_from (suc first) n) ≡ Some k
 
-      at : (((eqb k first ≡ true) × (k ≡ first)) ⊎ ((eqb k first ≡ false) × (k ≢ first))) → Rest → cond (test first) (Some first) (find test (numbers_from (suc first) n)) ≡ Some k
+      at : (((eqb k first ≡ true) × (k ≡ first)) ⊎ ((eqb k first ≡ false) × (k ≢ first))) → Rest →
+          cond (test first) (Some first) (find test (numbers_from (suc first) n)) ≡ Some k
       at (inl same) rest = let here : test first ≡ true = ap test (sym same.1) ∙ passes in rw here (ap (λ j. Some j) (sym same.1))
       at (inr other) rest =
           let here : test first ≡ false = before first (omega arith) (omega (arith, other.1)) in

@@ -17,7 +17,8 @@ same_tableau p s at t u first second = record {
 }
 
 -- by any rule whose steps lead from bases to bases, each basis of a path is one
-pub rule_path_leads : (rule : Rule) (p : LinearProgram) → ((s next : List Status) → IsNonsingularBasis p s → RuleStep rule p s next → IsNonsingularBasis p next) →
+pub rule_path_leads : (rule : Rule) (p : LinearProgram) →
+    ((s next : List Status) → IsNonsingularBasis p s → RuleStep rule p s next → IsNonsingularBasis p next) →
     (s : List Status) (bases : List (List Status)) → IsNonsingularBasis p s → RulePath rule p s bases → IsNonsingularBasis p (last_of s bases)
 rule_path_leads rule p leads s [] at path = at
 rule_path_leads rule p leads s (next ∷ bases) at path = rule_path_leads rule p leads next bases (leads s next at path.0) path.1
@@ -41,18 +42,22 @@ module _ (rule : Rule) (p : LinearProgram)
       let turns = sym first.turns ∙ alike s at first.tableau second.tableau first.is_tableau second.is_tableau ∙ second.turns in cc
 
   -- a path that has ended goes over the same bases as any other that has, and ends alike
-  pub rule_one_path : (s : List Status) (bases others : List (List Status)) (ending other : PathEnding) → IsNonsingularBasis p s → RulePathEnds rule p s bases ending → RulePathEnds rule p s others other → SameEnds bases others ending other
+  pub rule_one_path : (s : List Status) (bases others : List (List Status)) (ending other : PathEnding) → IsNonsingularBasis p s →
+      RulePathEnds rule p s bases ending → RulePathEnds rule p s others other → SameEnds bases others ending other
   rule_one_path s [] [] ending other at first second = record { same_bases = refl; same_ending = rule_one_end s ending other at first.ends second.ends }
   rule_one_path s [] (next ∷ others) ending other at first second = absurd (rule_step_or_end s next ending at second.is_path.0 first.ends)
   rule_one_path s (next ∷ bases) [] ending other at first second = absurd (rule_step_or_end s next other at first.is_path.0 second.ends)
   rule_one_path s (next ∷ bases) (next' ∷ others) ending other at first second =
       let same : next ≡ next' = rule_one_step s next next' at first.is_path.0 second.is_path.0 in
-      let moved : RulePathEnds rule p next others other = subst (λ x. RulePathEnds rule p x others other) (sym same) (record { is_path = second.is_path.1; ends = second.ends }) in
-      let rest = rule_one_path next bases others ending other (leads s next at first.is_path.0) (record { is_path = first.is_path.1; ends = first.ends }) moved in
+      let moved : RulePathEnds rule p next others other =
+      subst (λ x. RulePathEnds rule p x others other) (sym same) (record { is_path = second.is_path.1; ends = second.ends }) in
+      let rest =
+      rule_one_path next bases others ending other (leads s next at first.is_path.0) (record { is_path = first.is_path.1; ends = first.ends }) moved in
       record { same_bases = ap₂ (λ x xs. x ∷ xs) same rest.same_bases; same_ending = rest.same_ending }
 
   -- a path that has ended within so many steps doesn't go on after them
-  rule_goes_on_from : (s : List Status) (bases further : List (List Status)) (ending : PathEnding) (next : List Status) → IsNonsingularBasis p s → RulePathEnds rule p s bases ending → length bases ≤ length further → RulePath rule p s further → RuleStep rule p (last_of s further) next → ⊥
+  rule_goes_on_from : (s : List Status) (bases further : List (List Status)) (ending : PathEnding) (next : List Status) → IsNonsingularBasis p s →
+      RulePathEnds rule p s bases ending → length bases ≤ length further → RulePath rule p s further → RuleStep rule p (last_of s further) next → ⊥
   rule_goes_on_from s [] [] ending next at ended within path step = rule_step_or_end s next ending at step ended.ends
   rule_goes_on_from s [] (x ∷ further) ending next at ended within path step = rule_step_or_end s x ending at path.0 ended.ends
   rule_goes_on_from s (x ∷ bases) [] ending next at ended within path step = absurd (omega arith)
@@ -60,15 +65,18 @@ module _ (rule : Rule) (p : LinearProgram)
       let same : x ≡ y = rule_one_step s x y at ended.is_path.0 path.0 in
       let moved : RulePath rule p x further = subst (λ z. RulePath rule p z further) (sym same) path.1 in
       let stepped : RuleStep rule p (last_of x further) next = subst (λ z. RuleStep rule p (last_of z further) next) (sym same) step in
-      rule_goes_on_from x bases further ending next (leads s x at ended.is_path.0) (record { is_path = ended.is_path.1; ends = ended.ends }) (omega arith) moved stepped
+      rule_goes_on_from x bases further ending next (leads s x at ended.is_path.0) (record { is_path = ended.is_path.1; ends = ended.ends })
+      (omega arith) moved stepped
 
   pub rule_not_both : (steps : ℕ) (s : List Status) → IsNonsingularBasis p s → RuleEndsWithin rule p s steps → RuleGoesOn rule p s steps → ⊥
   rule_not_both steps s at ended goes_on =
-      rule_goes_on_from s ended.bases goes_on.bases ended.ending goes_on.next at ended.ends (omega (arith, goes_on.taken, ended.within)) goes_on.is_path goes_on.is_step
+      rule_goes_on_from s ended.bases goes_on.bases ended.ending goes_on.next at ended.ends
+      (omega (arith, goes_on.taken, ended.within)) goes_on.is_path goes_on.is_step
 
 -- ---- the simplex path
 
-pub path_leads : (p : LinearProgram) (s : List Status) (bases : List (List Status)) → IsNonsingularBasis p s → IsPath p s bases → IsNonsingularBasis p (last_of s bases)
+pub path_leads : (p : LinearProgram) (s : List Status) (bases : List (List Status)) → IsNonsingularBasis p s → IsPath p s bases →
+    IsNonsingularBasis p (last_of s bases)
 path_leads p = rule_path_leads turn p (step_leads p)
 
 module _ (p : LinearProgram) (lawful : IsLinearProgram p) where
@@ -84,7 +92,8 @@ module _ (p : LinearProgram) (lawful : IsLinearProgram p) where
   pub step_or_end : (s next : List Status) (ending : PathEnding) → IsNonsingularBasis p s → IsStep p s next → EndsAt p s ending → ⊥
   step_or_end = rule_step_or_end turn p one_turn (step_leads p)
 
-  pub one_path : (s : List Status) (bases others : List (List Status)) (ending other : PathEnding) → IsNonsingularBasis p s → PathEnds p s bases ending → PathEnds p s others other → SameEnds bases others ending other
+  pub one_path : (s : List Status) (bases others : List (List Status)) (ending other : PathEnding) → IsNonsingularBasis p s → PathEnds p s bases ending →
+      PathEnds p s others other → SameEnds bases others ending other
   one_path = rule_one_path turn p one_turn (step_leads p)
 
   pub not_both : (steps : ℕ) (s : List Status) → IsNonsingularBasis p s → EndsWithin p s steps → GoesOnFor p s steps → ⊥

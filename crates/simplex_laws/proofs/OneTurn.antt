@@ -34,7 +34,8 @@ idle_basic Fr a b c e = cc
 module _ (p : LinearProgram) (s : List Status) (basis : IsBasis p s) where
   pub lowers_idle : (f : Vector) (k : ℕ) → IsVariable p.matrix k → is_in (basics_of s) k ≡ true → lowers p s f k ≡ false
   lowers_idle f k is mark =
-      idle_basic (status_of s k) (lt_ℚ (f k) zero_ℚ) (lt_ℚ zero_ℚ (f k)) (not (is_fixed p k)) (sym (is_in-basics_of s k is.0 (omega (arith, is.1, basis.counted))) ∙ mark)
+      idle_basic (status_of s k) (lt_ℚ (f k) zero_ℚ) (lt_ℚ zero_ℚ (f k)) (not (is_fixed p k))
+      (sym (is_in-basics_of s k is.0 (omega (arith, is.1, basis.counted))) ∙ mark)
 
   -- quantities with the same rate at k, if it is nonbasic
   pub lowers_same : (f g : Vector) (k : ℕ) → IsVariable p.matrix k → (IsNonbasic p.matrix (basics_of s) k → f k ≡ g k) → lowers p s f k ≡ lowers p s g k
@@ -43,7 +44,8 @@ module _ (p : LinearProgram) (s : List Status) (basis : IsBasis p s) where
       by_mark : (mark : Bool) → is_in (basics_of s) k ≡ mark → lowers p s f k ≡ lowers p s g k
       by_mark true mark = lowers_idle f k is mark ∙ sym (lowers_idle g k is mark)
       by_mark false mark =
-          ap (λ v. (lt_ℚ v zero_ℚ && (rises_from (status_of s k) && not (is_fixed p k))) || (lt_ℚ zero_ℚ v && (falls_from (status_of s k) && not (is_fixed p k)))) (same (is, mark))
+          ap (λ v. (lt_ℚ v zero_ℚ && (rises_from (status_of s k) && not (is_fixed p k))) ||
+          (lt_ℚ zero_ℚ v && (falls_from (status_of s k) && not (is_fixed p k)))) (same (is, mark))
 
   -- quantities with the same rates at the nonbasics are lowered by the same variable
   pub entering_same : (f g : Vector) → ((k : ℕ) → IsNonbasic p.matrix (basics_of s) k → f k ≡ g k) → entering p s f ≡ entering p s g
@@ -60,10 +62,12 @@ step_length_same : (p : LinearProgram) (z y v w : Vector) (k : ℕ) → z k ≡ 
 unfolding step_length_at
 step_length_same p z y v w k first second = ap₂ (step_length_at p k) first second
 
-pub stopper_same : (p : LinearProgram) (z y v w : Vector) → ((k : ℕ) → IsVariable p.matrix k → z k ≡ y k) → ((k : ℕ) → IsVariable p.matrix k → v k ≡ w k) → stopper p z v ≡ stopper p y w
+pub stopper_same : (p : LinearProgram) (z y v w : Vector) → ((k : ℕ) → IsVariable p.matrix k → z k ≡ y k) → ((k : ℕ) → IsVariable p.matrix k → v k ≡ w k) →
+    stopper p z v ≡ stopper p y w
 stopper_same p z y v w first second =
     find_same (reaches_first p z v) (reaches_first p y w) (size p.matrix) 1 (λ k low high.
-    list_all_same (λ i. is_no_later (step_length p z v k) (step_length p z v i)) (λ i. is_no_later (step_length p y w k) (step_length p y w i)) (size p.matrix) 1 (λ i from to.
+    list_all_same (λ i. is_no_later (step_length p z v k) (step_length p z v i)) (λ i. is_no_later (step_length p y w k) (step_length p y w i))
+    (size p.matrix) 1 (λ i from to.
     ap₂ is_no_later (step_lengths k (low, omega (arith, high))) (step_lengths i (from, omega (arith, to)))))
   where
     step_lengths : (k : ℕ) → IsVariable p.matrix k → step_length p z v k ≡ step_length p y w k
@@ -73,7 +77,8 @@ module _ (p : LinearProgram) (s : List Status) (t u : Tableau) (lawful : IsLinea
   pub outside_same : outside p s t ≡ outside p s u
   outside_same =
       find_same (λ k. is_in (basics_of s) k && is_outside p t.point k) (λ k. is_in (basics_of s) k && is_outside p u.point k) (size p.matrix) 1 (λ k low high.
-      ap (λ v. is_in (basics_of s) k && (on_limit (λ l. lt_ℚ v l) (lower_of p k) || on_limit (λ h. lt_ℚ h v) (upper_of p k))) (same.points k (low, omega (arith, high))))
+      ap (λ v. is_in (basics_of s) k && (on_limit (λ l. lt_ℚ v l) (lower_of p k) || on_limit (λ h. lt_ℚ h v) (upper_of p k)))
+      (same.points k (low, omega (arith, high))))
 
   pub below_same : (r : ℕ) → IsVariable p.matrix r → is_below p t.point r ≡ is_below p u.point r
   below_same r is = ap (λ v. on_limit (λ l. lt_ℚ v l) (lower_of p r)) (same.points r is)
@@ -84,15 +89,18 @@ module _ (p : LinearProgram) (s : List Status) (t u : Tableau) (lawful : IsLinea
   prices_same : (k : ℕ) → IsVariable p.matrix k → price_at p (basics_of s) t.rate k ≡ price_at p (basics_of s) u.rate k
   prices_same k is = at (is_in (basics_of s) k) refl
     where
-      at : (mark : Bool) → is_in (basics_of s) k ≡ mark → (if mark then zero_ℚ else objective_rate p t.rate k) ≡ (if mark then zero_ℚ else objective_rate p u.rate k)
+      at : (mark : Bool) → is_in (basics_of s) k ≡ mark →
+          (if mark then zero_ℚ else objective_rate p t.rate k) ≡ (if mark then zero_ℚ else objective_rate p u.rate k)
       at true mark = refl
       at false mark = objective_value-same p (λ i. t.rate i k) (λ i. u.rate i k) lawful (λ i out. same.rates i k out (is, mark))
 
-  pub ray_same : (r : ℕ) → IsVariable p.matrix r → (below : Bool) → (k : ℕ) → IsVariable p.matrix k → ray_of (basics_of s) t.rate r below k ≡ ray_of (basics_of s) u.rate r below k
+  pub ray_same : (r : ℕ) → IsVariable p.matrix r → (below : Bool) → (k : ℕ) → IsVariable p.matrix k →
+      ray_of (basics_of s) t.rate r below k ≡ ray_of (basics_of s) u.rate r below k
   ray_same r found below k is = at (nat_eq k r) (is_in (basics_of s) k) refl
     where
       at : (own mark : Bool) → is_in (basics_of s) k ≡ mark →
-          (if own then signed below (neg_ℚ one_ℚ) else (if mark then zero_ℚ else signed below (t.rate r k))) ≡ (if own then signed below (neg_ℚ one_ℚ) else (if mark then zero_ℚ else signed below (u.rate r k)))
+          (if own then signed below (neg_ℚ one_ℚ) else (if mark then zero_ℚ else signed below (t.rate r k))) ≡
+          (if own then signed below (neg_ℚ one_ℚ) else (if mark then zero_ℚ else signed below (u.rate r k)))
       at true mark e = refl
       at false true e = refl
       at false false e = ap (signed below) (same.rates r k found (is, e))
@@ -103,21 +111,25 @@ module _ (p : LinearProgram) (s : List Status) (t u : Tableau) (lawful : IsLinea
       ap (λ b. Ends (EndsInfeasible (listed p.matrix (ray_of (basics_of s) t.rate r b)))) (below_same r is)
       ∙ ap (λ xs. Ends (EndsInfeasible xs)) (listed_same p.matrix _ _ (ray_same r is (is_below p u.point r)))
 
-  run_same : (q : ℕ) (v w : Vector) → ((k : ℕ) → IsVariable p.matrix k → v k ≡ w k) → (o : Option ℕ) → ((k : ℕ) → o ≡ Some k → IsVariable p.matrix k) → run_until p s t q v o ≡ run_until p s u q w o
+  run_same : (q : ℕ) (v w : Vector) → ((k : ℕ) → IsVariable p.matrix k → v k ≡ w k) → (o : Option ℕ) → ((k : ℕ) → o ≡ Some k → IsVariable p.matrix k) →
+      run_until p s t q v o ≡ run_until p s u q w o
   run_same q v w h (Some k) found = ap (λ x. Moves (record { enters = q; leaves = k; to = if lt_ℚ zero_ℚ x then Ul else Ll })) (h k (found k refl))
   run_same q v w h None found = ap₂ (λ xs ys. Ends (EndsUnbounded xs ys)) (listed_same p.matrix t.point u.point same.points) (listed_same p.matrix v w h)
 
-  speeds_same : (q : ℕ) → IsNonbasic p.matrix (basics_of s) q → (k : ℕ) → IsVariable p.matrix k → speeds t.rate (goes_up (worth_rate p s t) q) q k ≡ speeds u.rate (goes_up (worth_rate p s u) q) q k
+  speeds_same : (q : ℕ) → IsNonbasic p.matrix (basics_of s) q → (k : ℕ) → IsVariable p.matrix k →
+      speeds t.rate (goes_up (worth_rate p s t) q) q k ≡ speeds u.rate (goes_up (worth_rate p s u) q) q k
   speeds_same q out k is = ap₂ (λ r v. signed (lt_ℚ r zero_ℚ) v) (worth_same q out) (same.rates k q is out)
 
   pub improve_same : (o : Option ℕ) → ((q : ℕ) → o ≡ Some q → IsNonbasic p.matrix (basics_of s) q) → improve p s t o ≡ improve p s u o
   improve_same (Some q) out =
       let h = speeds_same q (out q refl) in
       ap (run_until p s t q (speeds t.rate (goes_up (worth_rate p s t) q) q)) (stopper_same p t.point u.point _ _ same.points h)
-      ∙ run_same q _ _ h (stopper p u.point (speeds u.rate (goes_up (worth_rate p s u) q) q)) (λ k e. let f = find_some _ (size p.matrix) 1 k e in (f.low, omega (arith, f.high)))
+      ∙ run_same q _ _ h (stopper p u.point (speeds u.rate (goes_up (worth_rate p s u) q) q))
+      (λ k e. let f = find_some _ (size p.matrix) 1 k e in (f.low, omega (arith, f.high)))
   improve_same None out = ap₂ (λ xs ys. Ends (EndsOptimal xs ys)) (listed_same p.matrix t.point u.point same.points) (listed_same p.matrix _ _ prices_same)
 
-  pub excess_same : (r : ℕ) → IsVariable p.matrix r → (q : ℕ) → IsNonbasic p.matrix (basics_of s) q → excess_rate t.rate r (is_below p t.point r) q ≡ excess_rate u.rate r (is_below p u.point r) q
+  pub excess_same : (r : ℕ) → IsVariable p.matrix r → (q : ℕ) → IsNonbasic p.matrix (basics_of s) q →
+      excess_rate t.rate r (is_below p t.point r) q ≡ excess_rate u.rate r (is_below p u.point r) q
   excess_same r is q out = ap₂ (λ b v. signed (not b) v) (below_same r is) (same.rates r q is out)
 
   turns_same : (c o : Option ℕ) → ((r : ℕ) → o ≡ Some r → IsVariable p.matrix r) → turn_for p s t c o ≡ turn_for p s u c o

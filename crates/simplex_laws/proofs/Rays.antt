@@ -76,7 +76,8 @@ pub data Breaks (low high : Option ℚ) (z : ℚ) (below : Bool) : Type 0 where
   breaks_lower : (l : ℚ) → below ≡ true → low ≡ Some l → z <ℚ l → Breaks low high z below
   breaks_upper : (u : ℚ) → below ≡ false → high ≡ Some u → u <ℚ z → Breaks low high z below
 
-broken_by : (low high : Option ℚ) (z : ℚ) (below : Bool) → on_limit (λ l. lt_ℚ z l) low ≡ below → (below || on_limit (λ u. lt_ℚ u z) high) ≡ true → Breaks low high z below
+broken_by : (low high : Option ℚ) (z : ℚ) (below : Bool) → on_limit (λ l. lt_ℚ z l) low ≡ below → (below || on_limit (λ u. lt_ℚ u z) high) ≡ true →
+    Breaks low high z below
 broken_by None high z true e h = cc
 broken_by (Some l) high z true e h = breaks_lower l refl refl (lt_from_test z l e)
 broken_by low None z false e h = cc
@@ -90,7 +91,9 @@ module _ (p : LinearProgram) (s : List Status) (t : Tableau) (r : ℕ) (phase : 
   broken_basic = ((found.low, omega (arith, found.high)), (and_parts (is_in (basics_of s) r) (is_outside p t.point r) found.passes).0)
 
   pub broken_limit : Breaks (lower_of p r) (upper_of p r) (t.point r) (is_below p t.point r)
-  broken_limit = broken_by (lower_of p r) (upper_of p r) (t.point r) (is_below p t.point r) refl (and_parts (is_in (basics_of s) r) (is_outside p t.point r) found.passes).1
+  broken_limit =
+      broken_by (lower_of p r) (upper_of p r) (t.point r) (is_below p t.point r) refl
+      (and_parts (is_in (basics_of s) r) (is_outside p t.point r) found.passes).1
 
 -- ---- the ray of a basic outside its limits that nothing brings back
 
@@ -137,14 +140,16 @@ module _ (p : LinearProgram) (s : List Status) (t : Tableau) (basis : IsBasis p 
   ray_multiple : (k : ℕ) → ray k ≡ own *ℚ multiplier (basics_of s) t.rate r k
   ray_multiple k = at (is_in (basics_of s) k) refl (eqb_tells k r)
     where
-      at : (mark : Bool) → is_in (basics_of s) k ≡ mark → (((eqb k r ≡ true) × (k ≡ r)) ⊎ ((eqb k r ≡ false) × (k ≢ r))) → ray k ≡ own *ℚ cond mark (cond (eqb k r) one_ℚ zero_ℚ) (neg_ℚ (t.rate r k))
+      at : (mark : Bool) → is_in (basics_of s) k ≡ mark → (((eqb k r ≡ true) × (k ≡ r)) ⊎ ((eqb k r ≡ false) × (k ≢ r))) →
+          ray k ≡ own *ℚ cond mark (cond (eqb k r) one_ℚ zero_ℚ) (neg_ℚ (t.rate r k))
       at true mark (inl same) = ap ray same.1 ∙ ray_own ∙ sym (mul-one own) ∙ ap (λ b. own *ℚ cond b one_ℚ zero_ℚ) (sym same.0)
       at true mark (inr other) = ray_basic k other.1 mark ∙ sym (mul-zero own) ∙ ap (λ b. own *ℚ cond b one_ℚ zero_ℚ) (sym other.0)
       at false mark same = ray_nonbasic k mark ∙ by_sign below (t.rate r k)
 
   ray_vanishes : (x : Vector) → KeepsEquations p.matrix x → functional p.matrix ray x ≡ zero_ℚ
   ray_vanishes x keeps =
-      sum_to-same (size p.matrix) _ _ (λ k low. ap (λ v. v *ℚ x (suc k)) (ray_multiple (suc k)) ∙ mul_assoc own (multiplier (basics_of s) t.rate r (suc k)) (x (suc k)))
+      sum_to-same (size p.matrix) _ _
+      (λ k low. ap (λ v. v *ℚ x (suc k)) (ray_multiple (suc k)) ∙ mul_assoc own (multiplier (basics_of s) t.rate r (suc k)) (x (suc k)))
       ∙ sum_to-mul_left (size p.matrix) own (λ k. multiplier (basics_of s) t.rate r (suc k) *ℚ x (suc k))
       ∙ ap (λ v. own *ℚ v) (multiplier_vanishes p.matrix (basics_of s) t.rate tab.are_rates one r leaves x keeps)
       ∙ mul-zero own
@@ -157,9 +162,11 @@ module _ (p : LinearProgram) (s : List Status) (t : Tableau) (basis : IsBasis p 
   ray_meets k is other = at (is_in (basics_of s) k) refl
     where
       at : (mark : Bool) → is_in (basics_of s) k ≡ mark → Meets (lower_of p k) (upper_of p k) (t.point k) (ray k)
-      at true mark = subst (Meets (lower_of p k) (upper_of p k) (t.point k)) (sym (ray_basic k other mark)) (zero_meets (lower_of p k) (upper_of p k) (t.point k))
+      at true mark =
+          subst (Meets (lower_of p k) (upper_of p k) (t.point k)) (sym (ray_basic k other mark)) (zero_meets (lower_of p k) (upper_of p k) (t.point k))
       at false mark = nonbasic_meets (status_of s k) (lower_of p k) (upper_of p k) (t.point k) (excess_rate t.rate r below k) (ray k)
-          (sym (is_in-basics_of s k is.0 (omega (arith, is.1, basis.counted))) ∙ mark) (tab.is_point.placed k is) (turned_signs below (t.rate r k) ∙ ap neg_ℚ (sym (ray_nonbasic k mark))) (idle k is) (basis.allowed k is)
+          (sym (is_in-basics_of s k is.0 (omega (arith, is.1, basis.counted))) ∙ mark) (tab.is_point.placed k is)
+          (turned_signs below (t.rate r k) ∙ ap neg_ℚ (sym (ray_nonbasic k mark))) (idle k is) (basis.allowed k is)
 
   -- and r itself the limit that it broke
   pub ray_is : IsRay p ray
@@ -167,10 +174,12 @@ module _ (p : LinearProgram) (s : List Status) (t : Tableau) (basis : IsBasis p 
     where
       by_limit : Breaks (lower_of p r) (upper_of p r) (t.point r) below → IsRay p ray
       by_limit (breaks_lower l is limit broken) =
-          ray_below p ray t.point r leaves.0 on_column tab.is_point.keeps (λ k is other. (ray_meets k is other).positive) (λ k is other. (ray_meets k is other).negative)
+          ray_below p ray t.point r leaves.0 on_column tab.is_point.keeps (λ k is other. (ray_meets k is other).positive)
+          (λ k is other. (ray_meets k is other).negative)
           l (subst (λ v. v <ℚ zero_ℚ) (sym (ray_own ∙ ap (λ b. signed b (neg_ℚ one_ℚ)) is)) minus_one) limit broken
       by_limit (breaks_upper u is limit broken) =
-          ray_above p ray t.point r leaves.0 on_column tab.is_point.keeps (λ k is other. (ray_meets k is other).positive) (λ k is other. (ray_meets k is other).negative)
+          ray_above p ray t.point r leaves.0 on_column tab.is_point.keeps (λ k is other. (ray_meets k is other).positive)
+          (λ k is other. (ray_meets k is other).negative)
           u (subst (λ v. zero_ℚ <ℚ v) (sym (ray_own ∙ ap (λ b. signed b (neg_ℚ one_ℚ)) is)) plus_one) limit broken
 
 -- a vector with the same multipliers is a ray too
@@ -182,13 +191,19 @@ IsRay-same p w v same h = record {
       ∙ h.vanishes j is;
   meets_upper = λ k is positive. h.meets_upper k is (subst (λ x. zero_ℚ <ℚ x) (sym (same k is)) positive);
   meets_lower = λ k is negative. h.meets_lower k is (subst (λ x. x <ℚ zero_ℚ) (sym (same k is)) negative);
-  negative = subst (λ x. x <ℚ zero_ℚ) (sum_to-same (size p.matrix) _ _ (λ k low. ap (λ x. x *ℚ unwrap_or (if lt_ℚ zero_ℚ x then upper_of p (suc k) else lower_of p (suc k)) zero_ℚ) (same (suc k) (omega arith, omega (arith, low))))) h.negative;
+  negative =
+      subst (λ x. x <ℚ zero_ℚ)
+      (sum_to-same (size p.matrix) _ _
+      (λ k low. ap (λ x. x *ℚ unwrap_or (if lt_ℚ zero_ℚ x then upper_of p (suc k) else lower_of p (suc k)) zero_ℚ)
+      (same (suc k) (omega arith, omega (arith, low))))) h.negative;
 }
 
 -- in a first phase that can't go on
-infeasible_ray : (p : LinearProgram) (s : List Status) (t : Tableau) → IsBasis p s → IsNonsingular p.matrix (basics_of s) → IsTableau p s t → (r : ℕ) → IsFirstPhase p s t r →
+infeasible_ray : (p : LinearProgram) (s : List Status) (t : Tableau) → IsBasis p s → IsNonsingular p.matrix (basics_of s) → IsTableau p s t → (r : ℕ) →
+    IsFirstPhase p s t r →
     entering_variable p s t (Some r) ≡ None → IsRay p (ray_of (basics_of s) t.rate r (is_below p t.point r))
-infeasible_ray p s t basis one tab r phase infeasible_ending = ray_is p s t basis one tab r (is_below p t.point r) (broken_basic p s t r phase) (broken_limit p s t r phase) idle
+infeasible_ray p s t basis one tab r phase infeasible_ending =
+    ray_is p s t basis one tab r (is_below p t.point r) (broken_basic p s t r phase) (broken_limit p s t r phase) idle
   where
     idle : (k : ℕ) → IsVariable p.matrix k → IsFixed p k ⊎ IsRightAt (status_of s k) (excess_rate t.rate r (is_below p t.point r) k)
     idle k is =
@@ -196,8 +211,10 @@ infeasible_ray p s t basis one tab r phase infeasible_ending = ray_is p s t basi
         (find_none (lowers p s (excess_rate t.rate r (is_below p t.point r))) (size p.matrix) 1 infeasible_ending k is.0 (omega (arith, is.1)))
 
 -- an infeasible end: its ray is a proof
-pub infeasible_end : (p : LinearProgram) (s : List Status) (w : List ℚ) → IsBasis p s → IsNonsingular p.matrix (basics_of s) → EndsAt p s (EndsInfeasible w) → IsRay p (value_at w)
-infeasible_end p s w basis one ends = IsRay-same p ray_at (value_at w) at (infeasible_ray p s ends.tableau basis one ends.is_tableau turn.0 turn.1.phase turn.1.moves)
+pub infeasible_end : (p : LinearProgram) (s : List Status) (w : List ℚ) → IsBasis p s → IsNonsingular p.matrix (basics_of s) → EndsAt p s (EndsInfeasible w) →
+    IsRay p (value_at w)
+infeasible_end p s w basis one ends =
+    IsRay-same p ray_at (value_at w) at (infeasible_ray p s ends.tableau basis one ends.is_tableau turn.0 turn.1.phase turn.1.moves)
   where
     turn : (r : ℕ) × IsInfeasibleTurn p s ends.tableau (Ends (EndsInfeasible w)) r
     turn = infeasible_turn p s ends.tableau w (rule_of p s ends.tableau (Ends (EndsInfeasible w)) ends.turns)

@@ -21,7 +21,8 @@ pub found_passes : (p : LinearProgram) (test : ℕ → Bool) (k : ℕ) → least
 found_passes p test k e = let h = find_some test (size p.matrix) 1 k e in ((h.low, omega (arith, h.high)), h.passes)
 
 -- k reaches a limit, no variable reaches one sooner, and each before it reaches one later or none
-pub stopper_is : (p : LinearProgram) (z v : Vector) (k : ℕ) → IsVariable p.matrix k → ((i : ℕ) → IsVariable p.matrix i → is_no_later (step_length p z v k) (step_length p z v i) ≡ true) →
+pub stopper_is : (p : LinearProgram) (z v : Vector) (k : ℕ) → IsVariable p.matrix k →
+    ((i : ℕ) → IsVariable p.matrix i → is_no_later (step_length p z v k) (step_length p z v i) ≡ true) →
     ((j : ℕ) → 1 ≤ j → j < k → is_no_later (step_length p z v j) (step_length p z v k) ≡ false) → stopper p z v ≡ Some k
 stopper_is p z v k is first before = least_is p (reaches_first p z v) k (record {
   is_variable = is;
@@ -32,7 +33,9 @@ stopper_is p z v k is first before = least_is p (reaches_first p z v) k (record 
     late : (j : ℕ) → 1 ≤ j → j < k → (b : Bool) → reaches_first p z v j ≡ b → reaches_first p z v j ≡ false
     late j from to false e = e
     late j from to true e =
-        absurd (clash (sym (list_all_true (λ i. is_no_later (step_length p z v j) (step_length p z v i)) (size p.matrix) 1 e k is.0 (omega (arith, is.1))) ∙ before j from to))
+        absurd (clash
+        (sym (list_all_true (λ i. is_no_later (step_length p z v j) (step_length p z v i)) (size p.matrix) 1 e k is.0 (omega (arith, is.1)))
+        ∙ before j from to))
 
 -- nothing stops a motion where no variable has a limit ahead
 pub stopper_nothing : (p : LinearProgram) (z v : Vector) → ((k : ℕ) → IsVariable p.matrix k → step_length p z v k ≡ None) → stopper p z v ≡ None

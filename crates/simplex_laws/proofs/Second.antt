@@ -23,11 +23,13 @@ use Rattle.simplex_laws.proofs.Rays.{Breaks, breaks_lower, breaks_upper, broken_
 -- ---- a step of the second phase
 
 -- a variable within its limits breaks none
-never_broken : (p : LinearProgram) (z : Vector) (r : ℕ) (below : Bool) → IsVariable p.matrix r → IsFeasible p z → Breaks (lower_of p r) (upper_of p r) (z r) below → ⊥
+never_broken : (p : LinearProgram) (z : Vector) (r : ℕ) (below : Bool) → IsVariable p.matrix r → IsFeasible p z →
+    Breaks (lower_of p r) (upper_of p r) (z r) below → ⊥
 never_broken p z r below is feasible (breaks_lower l e limit broken) = lt_not_le broken (low_of (lower_of p r) (z r) l (feasible.within r is).0 limit)
 never_broken p z r below is feasible (breaks_upper u e limit broken) = lt_not_le broken (high_of (upper_of p r) (z r) u (feasible.within r is).1 limit)
 
-module _ (p : LinearProgram) (s : List Status) (t : Tableau) (at : IsNonsingularBasis p s) (tab : IsTableau p s t) (m : Move) (q k : ℕ) (turn : IsStoppedTurn p s t (Moves m) q k) where
+module _ (p : LinearProgram) (s : List Status) (t : Tableau) (at : IsNonsingularBasis p s) (tab : IsTableau p s t) (m : Move) (q k : ℕ)
+    (turn : IsStoppedTurn p s t (Moves m) q k) where
   entered : IsEntering p s (worth_rate p s t) q
   entered = enters p s (worth_rate p s t) q at.is_basis turn.moves
 
@@ -47,7 +49,8 @@ module _ (p : LinearProgram) (s : List Status) (t : Tableau) (at : IsNonsingular
   no_worse =
       subst (λ y. y ≤ℚ for_min p.sense (objective_value p t.point)) (sym (for_min-along p t.point length (improving p s t q)))
       (le_by_product (comes p t q k up turn.stops from_feasible).forward (le_of_lt (improving_improves p s t at.is_basis tab q entered))
-      (by_ring3 (for_min p.sense (objective_value p t.point)) length (for_min p.sense (objective_value p (improving p s t q))) (λ z x d. z ≐ (z ⊕ x ⊗ d) ⊕ (x ⊖ number (pos 0)) ⊗ (number (pos 0) ⊖ d)) refl))
+      (by_ring3 (for_min p.sense (objective_value p t.point)) length (for_min p.sense (objective_value p (improving p s t q)))
+      (λ z x d. z ≐ (z ⊕ x ⊗ d) ⊕ (x ⊖ number (pos 0)) ⊗ (number (pos 0) ⊖ d)) refl))
 
   stopped_step : IsLinearProgram p → (z : Vector) → ((i : ℕ) → IsVariable p.matrix i → t.point i ≡ z i) → (w : Vector) × IsNoWorse p (after s m) z w
   stopped_step lawful z same =
@@ -62,9 +65,11 @@ module _ (p : LinearProgram) (s : List Status) (t : Tableau) (at : IsNonsingular
       )
 
 -- a step from a basis with a feasible point
-pub feasible_step : (p : LinearProgram) (s next : List Status) (z : Vector) → IsLinearProgram p → IsNonsingularBasis p s → IsStep p s next → IsPointOf p s z → IsFeasible p z → (w : Vector) × IsNoWorse p next z w
+pub feasible_step : (p : LinearProgram) (s next : List Status) (z : Vector) → IsLinearProgram p → IsNonsingularBasis p s → IsStep p s next → IsPointOf p s z →
+    IsFeasible p z → (w : Vector) × IsNoWorse p next z w
 feasible_step p s next z lawful at step point feasible_z =
-    subst (λ n. (w : Vector) × IsNoWorse p n z w) (sym step.is_next) (by_phase (moving_turn p s step.tableau step.move (rule_of p s step.tableau (Moves step.move) step.turns)))
+    subst (λ n. (w : Vector) × IsNoWorse p n z w) (sym step.is_next)
+    (by_phase (moving_turn p s step.tableau step.move (rule_of p s step.tableau (Moves step.move) step.turns)))
   where
     same : (i : ℕ) → IsVariable p.matrix i → step.tableau.point i ≡ z i
     same = one_point p s step.tableau.point z at.is_basis.counted at.nonsingular step.is_tableau.is_point point
@@ -76,8 +81,10 @@ feasible_step p s next z lawful at step point feasible_z =
     by_phase (stops q k h) = stopped_step p s step.tableau at step.is_tableau step.move q k h lawful z same
 
 -- and a path from there
-pub feasible_path : (p : LinearProgram) (s : List Status) (bases : List (List Status)) (z : Vector) → IsLinearProgram p → IsNonsingularBasis p s → IsPath p s bases → IsPointOf p s z → IsFeasible p z → (w : Vector) × IsNoWorse p (last_of s bases) z w
-feasible_path p s [] z lawful at path point feasible_z = (z, record { point = point; feasible = feasible_z; no_worse = le_refl (for_min p.sense (objective_value p z)) })
+pub feasible_path : (p : LinearProgram) (s : List Status) (bases : List (List Status)) (z : Vector) → IsLinearProgram p → IsNonsingularBasis p s →
+    IsPath p s bases → IsPointOf p s z → IsFeasible p z → (w : Vector) × IsNoWorse p (last_of s bases) z w
+feasible_path p s [] z lawful at path point feasible_z =
+    (z, record { point = point; feasible = feasible_z; no_worse = le_refl (for_min p.sense (objective_value p z)) })
 feasible_path p s (next ∷ bases) z lawful at path point feasible_z =
     let first = feasible_step p s next z lawful at path.0 point feasible_z in
     let rest = feasible_path p next bases first.0 lawful (step_leads p s next at path.0) path.1 first.1.point first.1.feasible in

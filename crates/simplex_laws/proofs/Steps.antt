@@ -48,11 +48,16 @@ module _ (p : LinearProgram) (s : List Status) (t : Tableau) (basis : IsBasis p 
   not_basic q out e = clash (sym (ap is_basic e) ∙ status_of_nonbasic p s basis q out)
 
   -- q becomes basic, and the basic r comes to a limit
-  pub exchange_leads : (r q : ℕ) (to : Status) → IsBasic p.matrix (basics_of s) r → IsNonbasic p.matrix (basics_of s) q → MayStand p r to → t.rate r q ≢ zero_ℚ → LeadsTo p (with_status (with_status s q Bs) r to)
+  pub exchange_leads : (r q : ℕ) (to : Status) → IsBasic p.matrix (basics_of s) r → IsNonbasic p.matrix (basics_of s) q → MayStand p r to →
+      t.rate r q ≢ zero_ℚ → LeadsTo p (with_status (with_status s q Bs) r to)
   exchange_leads r q to leaves enters stands pivot = record {
     at = record {
-      is_basis = IsBasis-replaced p s basis r q to leaves.0 enters.0 (status_of_basic p s basis r leaves) (not_basic q enters) stands.nonbasic stands.limited stands.allowed;
-      nonsingular = subst (IsNonsingular p.matrix) (sym (basics_of-replaced s r q to stands.nonbasic)) (IsNonsingular-exchanged p.matrix (basics_of s) r q (λ i. t.rate i q) one leaves enters (tab.are_rates q enters) pivot);
+      is_basis =
+          IsBasis-replaced p s basis r q to leaves.0 enters.0 (status_of_basic p s basis r leaves)
+          (not_basic q enters) stands.nonbasic stands.limited stands.allowed;
+      nonsingular =
+          subst (IsNonsingular p.matrix) (sym (basics_of-replaced s r q to stands.nonbasic))
+          (IsNonsingular-exchanged p.matrix (basics_of s) r q (λ i. t.rate i q) one leaves enters (tab.are_rates q enters) pivot);
     };
     rate = exchanged_rate t.rate r q;
     are_rates = subst (λ b. AreRates p.matrix b (exchanged_rate t.rate r q)) (sym (basics_of-replaced s r q to stands.nonbasic))
@@ -91,7 +96,8 @@ record IsAhead (low high : Option ℚ) (v : ℚ) (to : Status) : Type 0 where
   allowed : IsAllowed to low high
   moves : v ≢ zero_ℚ
 
-is_ahead : (low high : Option ℚ) (v l : ℚ) (up down : Bool) → lt_ℚ zero_ℚ v ≡ up → lt_ℚ v zero_ℚ ≡ down → (if up then high else (if down then low else None)) ≡ Some l → IsAhead low high v (if up then Ul else Ll)
+is_ahead : (low high : Option ℚ) (v l : ℚ) (up down : Bool) → lt_ℚ zero_ℚ v ≡ up → lt_ℚ v zero_ℚ ≡ down →
+    (if up then high else (if down then low else None)) ≡ Some l → IsAhead low high v (if up then Ul else Ll)
 is_ahead low high v l true down up_is down_is e = record {
   apart = upper_apart;
   allowed = rw e refl;
@@ -120,7 +126,8 @@ stands_ahead : (p : LinearProgram) (k : ℕ) (v : ℚ) (to : Status) → IsAhead
 stands_ahead p k v to h = record { nonbasic = h.apart.0; limited = h.apart.1; allowed = h.allowed }
 
 -- a nonbasic q rises or falls until k stops it
-module _ (p : LinearProgram) (s : List Status) (t : Tableau) (basis : IsBasis p s) (one : IsNonsingular p.matrix (basics_of s)) (tab : IsTableau p s t) (q k : ℕ) (up : Bool)
+module _ (p : LinearProgram) (s : List Status) (t : Tableau) (basis : IsBasis p s) (one : IsNonsingular p.matrix (basics_of s)) (tab : IsTableau p s t)
+    (q k : ℕ) (up : Bool)
     (enters : IsNonbasic p.matrix (basics_of s) q) (stops : stopper p t.point (speeds t.rate up q) ≡ Some k) where
   ahead : IsAhead (lower_of p k) (upper_of p k) (speeds t.rate up q k) (reached (speeds t.rate up q) k)
   ahead = stopper_ahead p t.point (speeds t.rate up q) k stops
@@ -139,9 +146,11 @@ module _ (p : LinearProgram) (s : List Status) (t : Tableau) (basis : IsBasis p 
   by_number : (((eqb k q ≡ true) × (k ≡ q)) ⊎ ((eqb k q ≡ false) × (k ≢ q))) → LeadsTo p (with_status (with_status s q Bs) k (reached (speeds t.rate up q) k))
   by_number (inl same) =
       subst (λ j. LeadsTo p (with_status (with_status s q Bs) j (reached (speeds t.rate up q) k))) (sym same.1)
-      (flip_leads p s t basis one tab q (reached (speeds t.rate up q) k) enters (subst (λ j. MayStand p j (reached (speeds t.rate up q) k)) same.1 (stands_ahead p k (speeds t.rate up q k) (reached (speeds t.rate up q) k) ahead)))
+      (flip_leads p s t basis one tab q (reached (speeds t.rate up q) k) enters
+      (subst (λ j. MayStand p j (reached (speeds t.rate up q) k)) same.1 (stands_ahead p k (speeds t.rate up q k) (reached (speeds t.rate up q) k) ahead)))
   by_number (inr other) =
-      exchange_leads p s t basis one tab k q (reached (speeds t.rate up q) k) (k_is, marked other.1 (is_in (basics_of s) k) refl) enters (stands_ahead p k (speeds t.rate up q k) (reached (speeds t.rate up q) k) ahead) pivot
+      exchange_leads p s t basis one tab k q (reached (speeds t.rate up q) k) (k_is, marked other.1 (is_in (basics_of s) k) refl) enters
+      (stands_ahead p k (speeds t.rate up q k) (reached (speeds t.rate up q) k) ahead) pivot
 
   pub motion_leads : LeadsTo p (with_status (with_status s q Bs) k (reached (speeds t.rate up q) k))
   motion_leads = by_number (eqb_tells k q)
@@ -150,10 +159,13 @@ module _ (p : LinearProgram) (s : List Status) (t : Tableau) (basis : IsBasis p 
   -- what lowers the excess of a basic outside its limits may take its place
   pub returned_leads : (r q : ℕ) → IsFirstPhase p s t r → IsEntering p s (excess_rate t.rate r (is_below p t.point r)) q →
       LeadsTo p (after s (record { enters = q; leaves = r; to = if is_below p t.point r then Ll else Ul }))
-  returned_leads r q phase entered = exchange_leads p s t basis one tab r q (if is_below p t.point r then Ll else Ul) (broken_basic p s t r phase) entered.nonbasic stands pivot
+  returned_leads r q phase entered =
+      exchange_leads p s t basis one tab r q (if is_below p t.point r then Ll else Ul) (broken_basic p s t r phase) entered.nonbasic stands pivot
     where
       pivot : t.rate r q ≢ zero_ℚ
-      pivot zero = rate_apart p s (excess_rate t.rate r (is_below p t.point r)) q entered (ap (signed (not (is_below p t.point r))) zero ∙ signed_zero (not (is_below p t.point r)))
+      pivot zero =
+          rate_apart p s (excess_rate t.rate r (is_below p t.point r)) q entered
+          (ap (signed (not (is_below p t.point r))) zero ∙ signed_zero (not (is_below p t.point r)))
 
       stands : MayStand p r (if is_below p t.point r then Ll else Ul)
       stands = by_limit (broken_limit p s t r phase)
@@ -184,11 +196,14 @@ module _ (p : LinearProgram) (s : List Status) (t : Tableau) (basis : IsBasis p 
 -- a step of the path leads from a basis to a basis, which has rates too
 pub step_leads_to : (p : LinearProgram) (s next : List Status) → IsNonsingularBasis p s → IsStep p s next → LeadsTo p next
 step_leads_to p s next at step =
-    subst (LeadsTo p) (sym step.is_next) (leads p s step.tableau at.is_basis at.nonsingular step.is_tableau step.move (moving_turn p s step.tableau step.move (rule_of p s step.tableau (Moves step.move) step.turns)))
+    subst (LeadsTo p) (sym step.is_next)
+    (leads p s step.tableau at.is_basis at.nonsingular step.is_tableau step.move
+    (moving_turn p s step.tableau step.move (rule_of p s step.tableau (Moves step.move) step.turns)))
 
 pub step_leads : (p : LinearProgram) (s next : List Status) → IsNonsingularBasis p s → IsStep p s next → IsNonsingularBasis p next
 step_leads p s next at step = (step_leads_to p s next at step).at
 
 -- the opening basis, in which the rows are basic
 pub opening_is : (p : LinearProgram) → IsNonsingularBasis p (opening_statuses p)
-opening_is p = record { is_basis = IsBasis-opening p; nonsingular = subst (IsNonsingular p.matrix) (sym (basics_of-opening p)) (IsNonsingular-row_basics p.matrix) }
+opening_is p =
+    record { is_basis = IsBasis-opening p; nonsingular = subst (IsNonsingular p.matrix) (sym (basics_of-opening p)) (IsNonsingular-row_basics p.matrix) }

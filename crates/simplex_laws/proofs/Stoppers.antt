@@ -49,14 +49,17 @@ module _ (f : ℕ → Option ℚ) where
       sooner k h here itself = record {
         low = omega arith;
         high = omega arith;
-        no_later = from_first (λ i. is_no_later (f first) (f i) ≡ true) first n itself (λ i low high. no_later-trans (f first) (f k) (f i) here (h.no_later i low high));
+        no_later =
+            from_first (λ i. is_no_later (f first) (f i) ≡ true) first n itself
+            (λ i low high. no_later-trans (f first) (f k) (f i) here (h.no_later i low high));
       }
 
       alone : (a : ℚ) → f first ≡ Some a → NoneReaches n (suc first) → IsLeastOf (suc n) first first
       alone a is none = record {
         low = omega arith;
         high = omega arith;
-        no_later = from_first (λ i. is_no_later (f first) (f i) ≡ true) first n (rw is (test_from_le a a (le_refl a))) (λ i low high. rw (is, none i low high) refl);
+        no_later =
+            from_first (λ i. is_no_later (f first) (f i) ≡ true) first n (rw is (test_from_le a a (le_refl a))) (λ i low high. rw (is, none i low high) refl);
       }
 
       value_of : (k : ℕ) → IsLeastOf n (suc first) k → (b : ℚ) × (f k ≡ Some b)
@@ -80,15 +83,18 @@ pub stopper_none : (p : LinearProgram) (z v : Vector) → stopper p z v ≡ None
 unfolding NoneReaches
 stopper_none p z v none k is = by_least (least_of (step_length p z v) (size p.matrix) 1)
   where
-    by_least : ((NoneReaches (step_length p z v) (size p.matrix) 1) ⊎ ((k : ℕ) × IsLeastOf (step_length p z v) (size p.matrix) 1 k)) → step_length p z v k ≡ None
+    by_least : ((NoneReaches (step_length p z v) (size p.matrix) 1) ⊎ ((k : ℕ) × IsLeastOf (step_length p z v) (size p.matrix) 1 k)) →
+        step_length p z v k ≡ None
     by_least (inl all_none) = all_none k is.0 (omega (arith, is.1))
     by_least (inr one) =
-        let passes : reaches_first p z v one.0 ≡ true = list_all_from (λ i. is_no_later (step_length p z v one.0) (step_length p z v i)) (size p.matrix) 1 one.1.no_later in
+        let passes : reaches_first p z v one.0 ≡ true =
+        list_all_from (λ i. is_no_later (step_length p z v one.0) (step_length p z v i)) (size p.matrix) 1 one.1.no_later in
         let fails : reaches_first p z v one.0 ≡ false = find_none (reaches_first p z v) (size p.matrix) 1 none one.0 one.1.low one.1.high in
         absurd (clash (sym passes ∙ fails))
 
 -- what stops a motion reaches its limit, and no variable reaches one sooner
-pub stopper_some : (p : LinearProgram) (z v : Vector) (k : ℕ) → stopper p z v ≡ Some k → IsVariable p.matrix k × ((i : ℕ) → IsVariable p.matrix i → is_no_later (step_length p z v k) (step_length p z v i) ≡ true)
+pub stopper_some : (p : LinearProgram) (z v : Vector) (k : ℕ) → stopper p z v ≡ Some k →
+    IsVariable p.matrix k × ((i : ℕ) → IsVariable p.matrix i → is_no_later (step_length p z v k) (step_length p z v i) ≡ true)
 stopper_some p z v k e =
     let found = find_some (reaches_first p z v) (size p.matrix) 1 k e in (
       (found.low, omega (arith, found.high)),

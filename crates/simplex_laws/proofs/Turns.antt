@@ -63,7 +63,8 @@ module _ (p : LinearProgram) (s : List Status) (t : Tableau) where
     by_unbounded : (q : ℕ) → IsUnboundedTurn u q → Rule u
     by_optimal : IsOptimalTurn u → Rule u
 
-  of_run : (q : ℕ) → IsSecondPhase → entering_variable p s t None ≡ Some q → (o : Option ℕ) → stopper p t.point (improving q) ≡ o → Rule (run_until p s t q (improving q) o)
+  of_run : (q : ℕ) → IsSecondPhase → entering_variable p s t None ≡ Some q → (o : Option ℕ) → stopper p t.point (improving q) ≡ o →
+      Rule (run_until p s t q (improving q) o)
   of_run q phase moves (Some k) stops = by_stopped q k (record { phase = phase; moves = moves; stops = stops; gives = refl })
   of_run q phase moves None stops = by_unbounded q (record { phase = phase; moves = moves; stops = stops; gives = refl })
 

@@ -48,13 +48,15 @@ nonbasic_status Ll e = refl
 nonbasic_status Ul e = refl
 nonbasic_status Fr e = refl
 
-lowering : (st : Status) (r : ℚ) (fixed below above rising falling : Bool) → lt_ℚ r zero_ℚ ≡ below → lt_ℚ zero_ℚ r ≡ above → rises_from st ≡ rising → falls_from st ≡ falling →
+lowering : (st : Status) (r : ℚ) (fixed below above rising falling : Bool) → lt_ℚ r zero_ℚ ≡ below → lt_ℚ zero_ℚ r ≡ above → rises_from st ≡ rising →
+    falls_from st ≡ falling →
     ((below && (rising && not fixed)) || (above && (falling && not fixed))) ≡ true → (is_basic st ≡ false) × ((below ≡ true) ⊎ (zero_ℚ <ℚ r))
 lowering st r fixed true above true falling below_is above_is up down e = (nonbasic_status st (rw up refl), inl refl)
 lowering st r fixed true true false true below_is above_is up down e = (nonbasic_status st (rw (up, down) refl), inl refl)
 lowering st r fixed true true false false below_is above_is up down e = cc
 lowering st r fixed true false false falling below_is above_is up down e = cc
-lowering st r fixed false true rising true below_is above_is up down e = (nonbasic_status st (rw (up, down) (or_right rising true refl)), inr (lt_from_test zero_ℚ r above_is))
+lowering st r fixed false true rising true below_is above_is up down e =
+    (nonbasic_status st (rw (up, down) (or_right rising true refl)), inr (lt_from_test zero_ℚ r above_is))
 lowering st r fixed false true rising false below_is above_is up down e = cc
 lowering st r fixed false false rising falling below_is above_is up down e = cc
 
@@ -64,9 +66,12 @@ pub record IsEntering (p : LinearProgram) (s : List Status) (f : Vector) (q : �
   pub nonbasic : IsNonbasic p.matrix (basics_of s) q
   pub turns : (goes_up f q ≡ true) ⊎ (zero_ℚ <ℚ f q)
 
-pub lowering_enters : (p : LinearProgram) (s : List Status) (f : Vector) (q : ℕ) → IsBasis p s → IsVariable p.matrix q → lowers p s f q ≡ true → IsEntering p s f q
+pub lowering_enters : (p : LinearProgram) (s : List Status) (f : Vector) (q : ℕ) → IsBasis p s → IsVariable p.matrix q → lowers p s f q ≡ true →
+    IsEntering p s f q
 lowering_enters p s f q basis is e =
-    let moving = lowering (status_of s q) (f q) (is_fixed p q) (lt_ℚ (f q) zero_ℚ) (lt_ℚ zero_ℚ (f q)) (rises_from (status_of s q)) (falls_from (status_of s q)) refl refl refl refl e in
+    let moving =
+    lowering (status_of s q) (f q) (is_fixed p q) (lt_ℚ (f q) zero_ℚ) (lt_ℚ zero_ℚ (f q)) (rises_from (status_of s q))
+    (falls_from (status_of s q)) refl refl refl refl e in
     record {
       is_variable = is;
       nonbasic = (is, is_in-basics_of s q is.0 (omega (arith, is.1, basis.counted)) ∙ moving.0);
@@ -103,7 +108,8 @@ step_length_none (Some l) z v e = cc
 ahead_of_falling : (p : LinearProgram) (v : Vector) (k : ℕ) → limit_ahead p v k ≡ None → v k <ℚ zero_ℚ → lower_of p k ≡ None
 ahead_of_falling p v k e h = by_tests (lt_ℚ zero_ℚ (v k)) refl (lt_ℚ (v k) zero_ℚ) refl e
   where
-    by_tests : (up : Bool) → lt_ℚ zero_ℚ (v k) ≡ up → (down : Bool) → lt_ℚ (v k) zero_ℚ ≡ down → (if up then upper_of p k else (if down then lower_of p k else None)) ≡ None → lower_of p k ≡ None
+    by_tests : (up : Bool) → lt_ℚ zero_ℚ (v k) ≡ up → (down : Bool) → lt_ℚ (v k) zero_ℚ ≡ down →
+        (if up then upper_of p k else (if down then lower_of p k else None)) ≡ None → lower_of p k ≡ None
     by_tests true up down down_is g = absurd (lt_not_le (lt_from_test zero_ℚ (v k) up) (le_of_lt h))
     by_tests false up true down_is g = g
     by_tests false up false down_is g = absurd (lt_not_le h (le_from_lt_fails (v k) zero_ℚ down_is))
@@ -111,7 +117,8 @@ ahead_of_falling p v k e h = by_tests (lt_ℚ zero_ℚ (v k)) refl (lt_ℚ (v k)
 ahead_of_rising : (p : LinearProgram) (v : Vector) (k : ℕ) → limit_ahead p v k ≡ None → zero_ℚ <ℚ v k → upper_of p k ≡ None
 ahead_of_rising p v k e h = by_test (lt_ℚ zero_ℚ (v k)) refl e
   where
-    by_test : (up : Bool) → lt_ℚ zero_ℚ (v k) ≡ up → (if up then upper_of p k else (if lt_ℚ (v k) zero_ℚ then lower_of p k else None)) ≡ None → upper_of p k ≡ None
+    by_test : (up : Bool) → lt_ℚ zero_ℚ (v k) ≡ up → (if up then upper_of p k else (if lt_ℚ (v k) zero_ℚ then lower_of p k else None)) ≡ None →
+        upper_of p k ≡ None
     by_test true up g = g
     by_test false up g = absurd (lt_not_le h (le_from_lt_fails zero_ℚ (v k) up))
 
@@ -125,14 +132,18 @@ module _ (p : LinearProgram) (s : List Status) (t : Tableau) (basis : IsBasis p 
     where
       by_way : (up : Bool) → goes_up (worth_rate p s t) q ≡ up → for_min p.sense (combined p (speeds t.rate up q)) <ℚ zero_ℚ
       by_way true is = lt_from_test (worth_rate p s t q) zero_ℚ is
-      by_way false is = subst (λ v. v <ℚ zero_ℚ) (sym (ap (for_min p.sense) (with_change_row-neg p.change (λ i. t.rate i q) (t.rate p.objective q)) ∙ for_min-neg p.sense (combined p (λ i. t.rate i q)))) (neg_below (worth_rate p s t q) (positive e.turns))
+      by_way false is =
+          subst (λ v. v <ℚ zero_ℚ)
+          (sym (ap (for_min p.sense) (with_change_row-neg p.change (λ i. t.rate i q) (t.rate p.objective q))
+          ∙ for_min-neg p.sense (combined p (λ i. t.rate i q)))) (neg_below (worth_rate p s t q) (positive e.turns))
         where
           positive : ((goes_up (worth_rate p s t) q ≡ true) ⊎ (zero_ℚ <ℚ worth_rate p s t q)) → zero_ℚ <ℚ worth_rate p s t q
           positive (inl h) = cc
           positive (inr h) = h
 
 -- the objective of a vector, from its values at rows
-objective-same : (o : ℕ) (change : Option Change) (d e : Vector) → d o ≡ e o → ((c : Change) → change ≡ Some c → d c.row ≡ e c.row) → with_change_row change d (d o) ≡ with_change_row change e (e o)
+objective-same : (o : ℕ) (change : Option Change) (d e : Vector) → d o ≡ e o → ((c : Change) → change ≡ Some c → d c.row ≡ e c.row) →
+    with_change_row change d (d o) ≡ with_change_row change e (e o)
 objective-same o None d e at_o at_h = at_o
 objective-same o (Some c) d e at_o at_h = rw (at_o, at_h c refl) refl
 
@@ -140,13 +151,15 @@ change_row_is : (p : LinearProgram) (change : Option Change) → ChangeIsFree p 
 change_row_is p None free c e = cc
 change_row_is p (Some d) free c e = let same : d ≡ c = cc in subst (λ x. IsVariable p.matrix x.row) same (free.0.0, omega (arith, free.0.1))
 
-pub objective_value-same : (p : LinearProgram) (d e : Vector) → IsLinearProgram p → ((k : ℕ) → IsVariable p.matrix k → d k ≡ e k) → objective_value p d ≡ objective_value p e
+pub objective_value-same : (p : LinearProgram) (d e : Vector) → IsLinearProgram p → ((k : ℕ) → IsVariable p.matrix k → d k ≡ e k) →
+    objective_value p d ≡ objective_value p e
 objective_value-same p d e lawful same =
     objective-same p.objective p.change d e (same p.objective (lawful.objective_row.0, omega (arith, lawful.objective_row.1)))
     (λ c is. same c.row (change_row_is p p.change lawful.change_free c is))
 
 -- nothing stops a motion from a feasible point that improves the objective: that proves the program unbounded
-pub motion_proves : (p : LinearProgram) (z v : Vector) → IsLinearProgram p → IsFeasible p z → KeepsEquations p.matrix v → stopper p z v ≡ None → for_min p.sense (objective_value p v) <ℚ zero_ℚ →
+pub motion_proves : (p : LinearProgram) (z v : Vector) → IsLinearProgram p → IsFeasible p z → KeepsEquations p.matrix v → stopper p z v ≡ None →
+    for_min p.sense (objective_value p v) <ℚ zero_ℚ →
     ProvesUnbounded p (value_at (listed p.matrix z)) (value_at (listed p.matrix v))
 motion_proves p z v lawful feasible keeps stops improves = record {
   feasible = IsFeasible-same p z (value_at (listed p.matrix z)) (at z) feasible;
@@ -163,7 +176,8 @@ motion_proves p z v lawful feasible keeps stops improves = record {
     none_ahead k is = step_length_none (limit_ahead p v k) (z k) (v k) (stopper_none p z v stops k is)
 
 -- an unbounded end: the point is feasible, and the direction improves the objective without end
-pub unbounded_end : (p : LinearProgram) (s : List Status) (z d : List ℚ) → IsLinearProgram p → IsBasis p s → EndsAt p s (EndsUnbounded z d) → ProvesUnbounded p (value_at z) (value_at d)
+pub unbounded_end : (p : LinearProgram) (s : List Status) (z d : List ℚ) → IsLinearProgram p → IsBasis p s → EndsAt p s (EndsUnbounded z d) →
+    ProvesUnbounded p (value_at z) (value_at d)
 unbounded_end p s z d lawful basis ends =
     subst₂ (λ (xs ys : List ℚ). ProvesUnbounded p (value_at xs) (value_at ys)) (sym z_is) (sym d_is)
     (motion_proves p t.point (improving p s t turn.0) lawful (feasible p s t basis ends.is_tableau turn.1.phase)

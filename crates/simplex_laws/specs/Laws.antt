@@ -26,10 +26,12 @@ pub record ProvedOptimal (p : LinearProgram) (s : List Status) (z y : List ℚ) 
   pub best : IsBest p (value_at z)
 
 pub record EndLaws : Type 0 where
-  pub optimal : (p : LinearProgram) (s : List Status) (z y : List ℚ) → IsLinearProgram p → IsNonsingularBasis p s → EndsAt p s (EndsOptimal z y) → ProvedOptimal p s z y
+  pub optimal : (p : LinearProgram) (s : List Status) (z y : List ℚ) → IsLinearProgram p → IsNonsingularBasis p s → EndsAt p s (EndsOptimal z y) →
+      ProvedOptimal p s z y
   pub crossed : (p : LinearProgram) (s : List Status) (k : ℕ) → EndsAt p s (EndsCrossed k) → IsCrossed p k
   pub infeasible : (p : LinearProgram) (s : List Status) (w : List ℚ) → IsNonsingularBasis p s → EndsAt p s (EndsInfeasible w) → IsRay p (value_at w)
-  pub unbounded : (p : LinearProgram) (s : List Status) (z d : List ℚ) → IsLinearProgram p → IsBasis p s → EndsAt p s (EndsUnbounded z d) → ProvesUnbounded p (value_at z) (value_at d)
+  pub unbounded : (p : LinearProgram) (s : List Status) (z d : List ℚ) → IsLinearProgram p → IsBasis p s → EndsAt p s (EndsUnbounded z d) →
+      ProvesUnbounded p (value_at z) (value_at d)
 
 -- the basis has a point and rates
 pub record HasTableau (p : LinearProgram) (s : List Status) : Type 0 where
@@ -54,11 +56,16 @@ pub record SameEnds (bases others : List (List Status)) (ending other : PathEndi
 pub record StepLaws : Type 0 where
   pub opening : (p : LinearProgram) → IsNonsingularBasis p (opening_statuses p)
   pub step : (p : LinearProgram) (s next : List Status) → IsNonsingularBasis p s → IsStep p s next → IsNonsingularBasis p next
-  pub path : (p : LinearProgram) (s : List Status) (bases : List (List Status)) → IsNonsingularBasis p s → IsPath p s bases → IsNonsingularBasis p (last_of s bases)
-  pub one_step : (p : LinearProgram) (s next other : List Status) → IsLinearProgram p → IsNonsingularBasis p s → IsStep p s next → IsStep p s other → next ≡ other
-  pub one_end : (p : LinearProgram) (s : List Status) (ending other : PathEnding) → IsLinearProgram p → IsNonsingularBasis p s → EndsAt p s ending → EndsAt p s other → ending ≡ other
-  pub step_or_end : (p : LinearProgram) (s next : List Status) (ending : PathEnding) → IsLinearProgram p → IsNonsingularBasis p s → IsStep p s next → EndsAt p s ending → ⊥
-  pub one_path : (p : LinearProgram) (s : List Status) (bases others : List (List Status)) (ending other : PathEnding) → IsLinearProgram p → IsNonsingularBasis p s →
+  pub path : (p : LinearProgram) (s : List Status) (bases : List (List Status)) → IsNonsingularBasis p s → IsPath p s bases →
+      IsNonsingularBasis p (last_of s bases)
+  pub one_step : (p : LinearProgram) (s next other : List Status) → IsLinearProgram p → IsNonsingularBasis p s → IsStep p s next → IsStep p s other →
+      next ≡ other
+  pub one_end : (p : LinearProgram) (s : List Status) (ending other : PathEnding) → IsLinearProgram p → IsNonsingularBasis p s → EndsAt p s ending →
+      EndsAt p s other → ending ≡ other
+  pub step_or_end : (p : LinearProgram) (s next : List Status) (ending : PathEnding) → IsLinearProgram p → IsNonsingularBasis p s → IsStep p s next →
+      EndsAt p s ending → ⊥
+  pub one_path : (p : LinearProgram) (s : List Status) (bases others : List (List Status)) (ending other : PathEnding) → IsLinearProgram p →
+      IsNonsingularBasis p s →
       PathEnds p s bases ending → PathEnds p s others other → SameEnds bases others ending other
   pub opening_has : (p : LinearProgram) → HasTableau p (opening_statuses p)
   pub step_has : (p : LinearProgram) (s next : List Status) → IsNonsingularBasis p s → IsStep p s next → HasTableau p next
@@ -72,8 +79,10 @@ pub record IsNoWorse (p : LinearProgram) (next : List Status) (z w : Vector) : T
   pub no_worse : for_min p.sense (objective_value p w) ≤ℚ for_min p.sense (objective_value p z)
 
 pub record FeasibleLaws : Type 0 where
-  pub step : (p : LinearProgram) (s next : List Status) (z : Vector) → IsLinearProgram p → IsNonsingularBasis p s → IsStep p s next → IsPointOf p s z → IsFeasible p z → (w : Vector) × IsNoWorse p next z w
-  pub path : (p : LinearProgram) (s : List Status) (bases : List (List Status)) (z : Vector) → IsLinearProgram p → IsNonsingularBasis p s → IsPath p s bases → IsPointOf p s z → IsFeasible p z →
+  pub step : (p : LinearProgram) (s next : List Status) (z : Vector) → IsLinearProgram p → IsNonsingularBasis p s → IsStep p s next → IsPointOf p s z →
+      IsFeasible p z → (w : Vector) × IsNoWorse p next z w
+  pub path : (p : LinearProgram) (s : List Status) (bases : List (List Status)) (z : Vector) → IsLinearProgram p → IsNonsingularBasis p s → IsPath p s bases →
+      IsPointOf p s z → IsFeasible p z →
       (w : Vector) × IsNoWorse p (last_of s bases) z w
 
 -- k passes, and no variable before it does
@@ -87,8 +96,10 @@ pub record SearchLaws : Type 0 where
   pub least_none : (p : LinearProgram) (test : ℕ → Bool) → ((k : ℕ) → IsVariable p.matrix k → test k ≡ false) → least p test ≡ None
   pub none_passes : (p : LinearProgram) (test : ℕ → Bool) → least p test ≡ None → (k : ℕ) → IsVariable p.matrix k → test k ≡ false
   pub found_passes : (p : LinearProgram) (test : ℕ → Bool) (k : ℕ) → least p test ≡ Some k → IsVariable p.matrix k × (test k ≡ true)
-  pub stopper_is : (p : LinearProgram) (z v : Vector) (k : ℕ) → IsVariable p.matrix k → ((i : ℕ) → IsVariable p.matrix i → is_no_later (step_length p z v k) (step_length p z v i) ≡ true) →
+  pub stopper_is : (p : LinearProgram) (z v : Vector) (k : ℕ) → IsVariable p.matrix k →
+      ((i : ℕ) → IsVariable p.matrix i → is_no_later (step_length p z v k) (step_length p z v i) ≡ true) →
       ((j : ℕ) → 1 ≤ j → j < k → is_no_later (step_length p z v j) (step_length p z v k) ≡ false) → stopper p z v ≡ Some k
   pub stopper_nothing : (p : LinearProgram) (z v : Vector) → ((k : ℕ) → IsVariable p.matrix k → step_length p z v k ≡ None) → stopper p z v ≡ None
   pub stopper_none : (p : LinearProgram) (z v : Vector) → stopper p z v ≡ None → (k : ℕ) → IsVariable p.matrix k → step_length p z v k ≡ None
-  pub stopper_some : (p : LinearProgram) (z v : Vector) (k : ℕ) → stopper p z v ≡ Some k → IsVariable p.matrix k × ((i : ℕ) → IsVariable p.matrix i → is_no_later (step_length p z v k) (step_length p z v i) ≡ true)
+  pub stopper_some : (p : LinearProgram) (z v : Vector) (k : ℕ) → stopper p z v ≡ Some k →
+      IsVariable p.matrix k × ((i : ℕ) → IsVariable p.matrix i → is_no_later (step_length p z v k) (step_length p z v i) ≡ true)

@@ -13,7 +13,8 @@ use Rattle.run_machine.specs.Findings.{IfEnded, mark_left}
 use Rattle.solving_verbs.specs.ParametricVerbs.{cells_left}
 
 module _ (cells : Cells) (file : Filed) (setup new : Setup) where
-  after_finding : (finding : Finding) → IfEnded finding (λ m. IsSolved m cells.xobj cells.xrhs file new) → IfSome (mark_left finding) (λ m. IsSolved m cells.xobj cells.xrhs file new)
+  after_finding : (finding : Finding) → IfEnded finding (λ m. IsSolved m cells.xobj cells.xrhs file new) →
+      IfSome (mark_left finding) (λ m. IsSolved m cells.xobj cells.xrhs file new)
   after_finding (Ended own) ends = ends
   after_finding (Refused fault) ends = tt
   after_finding (Overflow e place) ends = tt
@@ -37,15 +38,20 @@ module _ (cards : List (List ℕ)) (old : Machine) (setup new : Setup) (ready : 
   demands_left Printed = s.demands
   demands_left (RanThrough value) = record { infeasible = s.demands.infeasible; unbounded = s.demands.unbounded }
 
-  pub sound_run_through : (finding : Finding) (cells : Cells) → cells ≡ cells_left finding old.cells → IsSound cards (record old { setup = Some new; mark = None; cells = cells })
-  sound_run_through finding cells e = record { first = s.first; last = s.last; demands = subst AreDemands (sym e) (demands_left finding); ready = ready; solved = tt }
+  pub sound_run_through : (finding : Finding) (cells : Cells) → cells ≡ cells_left finding old.cells →
+      IsSound cards (record old { setup = Some new; mark = None; cells = cells })
+  sound_run_through finding cells e =
+      record { first = s.first; last = s.last; demands = subst AreDemands (sym e) (demands_left finding); ready = ready; solved = tt }
 
   -- it is that of a finding
-  pub sound_found : (finding : Finding) (mark : Option Mark) → mark ≡ mark_left finding → IfEnded finding (λ m. IsSolved m old.cells.xobj old.cells.xrhs old.file new) → IsSound cards (record old { setup = Some new; mark = mark })
+  pub sound_found : (finding : Finding) (mark : Option Mark) → mark ≡ mark_left finding →
+      IfEnded finding (λ m. IsSolved m old.cells.xobj old.cells.xrhs old.file new) → IsSound cards (record old { setup = Some new; mark = mark })
   sound_found finding mark left ends = record {
     first = s.first;
     last = s.last;
     demands = s.demands;
     ready = ready;
-    solved = subst (λ (m : Option Mark). IfSome m (λ n. IsSolved n old.cells.xobj old.cells.xrhs old.file new)) (sym left) (after_finding old.cells old.file setup new finding ends);
+    solved =
+        subst (λ (m : Option Mark). IfSome m (λ n. IsSolved n old.cells.xobj old.cells.xrhs old.file new)) (sym left)
+        (after_finding old.cells old.file setup new finding ends);
   }

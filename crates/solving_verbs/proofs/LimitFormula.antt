@@ -24,7 +24,8 @@ not_entry : (a : Matrix) (b : Basics) (rate : ℕ → ℕ → ℚ) (e : Evidence
 not_entry a b rate e (f11_product x0 x1 x2 x3 n y0 y1 y2 y3) is = let h : e.formula ≡ 11 = n.is_formula in omega (arith, h, is)
 not_entry a b rate e (f11_sum x0 x1 x2 x3 n y0 y1 y2 y3) is = let h : e.formula ≡ 11 = n.is_formula in omega (arith, h, is)
 
-not_carried : (a : Matrix) (b : Basics) (rate : ℕ → ℕ → ℚ) (w : Basics) (way_rate : ℕ → ℕ → ℚ) (e : Evidence) → CarriedFormula a b rate w way_rate e → e.formula ≡ 13 → ⊥
+not_carried : (a : Matrix) (b : Basics) (rate : ℕ → ℕ → ℚ) (w : Basics) (way_rate : ℕ → ℕ → ℚ) (e : Evidence) → CarriedFormula a b rate w way_rate e →
+    e.formula ≡ 13 → ⊥
 not_carried a b rate w way_rate e (f12_product x0 x1 x2 x3 x4 n y0 y1 y2 y3) is = let h : e.formula ≡ 12 = n.is_formula in omega (arith, h, is)
 not_carried a b rate w way_rate e (f12_sum x0 x1 x2 x3 x4 n y0 y1 y2 y3) is = let h : e.formula ≡ 12 = n.is_formula in omega (arith, h, is)
 not_carried a b rate w way_rate e (f12_quotient x0 x1 x2 n y0 y1 y2) is = let h : e.formula ≡ 12 = n.is_formula in omega (arith, h, is)

@@ -45,7 +45,8 @@ use Rattle.solving_verbs.proofs.Present.{goes_through}
 use Rattle.solving_verbs.proofs.Demanded.{verdict_comes}
 use Rattle.setup_verbs.proofs.Present.{IsPresentOf, lie_up_to, present_at, present_with}
 
-no_cards_by : (problem : Problem ℕ) (cells : Cells) (verb : ParametricVerb) (setup new : Setup) (gain : Gain) (finding : Finding) → ParametricRuns problem cells verb setup new gain finding → punched_by gain ≡ []
+no_cards_by : (problem : Problem ℕ) (cells : Cells) (verb : ParametricVerb) (setup new : Setup) (gain : Gain) (finding : Finding) →
+    ParametricRuns problem cells verb setup new gain finding → punched_by gain ≡ []
 no_cards_by problem cells verb setup new _ _ (unselected h) = refl
 no_cards_by problem cells verb setup new _ _ (too_large h) = refl
 no_cards_by problem cells verb setup new _ _ (not_asked ok h) = refl
@@ -82,11 +83,13 @@ module _ (verb : ParametricVerb) (card : ℕ) (state : State) (present : Present
   abbrev with_setup : StatementMove
   with_setup = or_selection_fault card (selected present.problem (choice_of state.cells present.options)) parametric_run_move
 
-  asked_gives : (lp : LinearProgram) (parametric_run : ParametricRun) → IsAsked verb present.problem state.cells parametric_run → (outcome : StatementOutcome) → Gives linear_programming_of_128_bits card (run_move lp parametric_run) outcome → Gives linear_programming_of_128_bits card (tested_move lp) outcome
+  asked_gives : (lp : LinearProgram) (parametric_run : ParametricRun) → IsAsked verb present.problem state.cells parametric_run → (outcome : StatementOutcome) →
+      Gives linear_programming_of_128_bits card (run_move lp parametric_run) outcome → Gives linear_programming_of_128_bits card (tested_move lp) outcome
   asked_gives lp parametric_run a outcome g =
       let same : parametric_run ≡ record { changing = parametric_run.changing; from = state.cells.xparam; to = parametric_run.to; limit = steps_allowed state.cells } =
       λ i. record { changing = parametric_run.changing; from = a.is_first i; to = parametric_run.to; limit = a.is_limit i } in
-      gives_found card (change_fault verb) (option_and_then (change_of verb present.problem) (name_moved verb state.cells)) (with_change lp) parametric_run.changing outcome a.changes
+      gives_found card (change_fault verb) (option_and_then (change_of verb present.problem) (name_moved verb state.cells))
+      (with_change lp) parametric_run.changing outcome a.changes
       (gives_found card NoParmax state.cells.xparmax (with_last lp parametric_run.changing) a.is_last.last outcome a.is_last.is_moved
       (gives_found card ParmaxBelow (not_less state.cells.xparam a.is_last.last) (up_to lp parametric_run.changing) parametric_run.to outcome a.is_last.is_last
       (subst (λ (s : ParametricRun). Gives linear_programming_of_128_bits card (run_move lp s) outcome) same g)))
@@ -94,17 +97,22 @@ module _ (verb : ParametricVerb) (card : ℕ) (state : State) (present : Present
   abbrev faulted : VerbFault → StatementOutcome
   faulted fault = stops (endings.VerbStop (record { fault = fault; card = card }))
 
-  refused_gives : (lp : LinearProgram) (fault : VerbFault) → IsAskFault verb present.problem state.cells fault → Gives linear_programming_of_128_bits card (tested_move lp) (faulted fault)
-  refused_gives lp _ (no_change none) = gives_fault card (change_fault verb) (option_and_then (change_of verb present.problem) (name_moved verb state.cells)) (with_change lp) none
+  refused_gives : (lp : LinearProgram) (fault : VerbFault) → IsAskFault verb present.problem state.cells fault →
+      Gives linear_programming_of_128_bits card (tested_move lp) (faulted fault)
+  refused_gives lp _ (no_change none) =
+      gives_fault card (change_fault verb) (option_and_then (change_of verb present.problem) (name_moved verb state.cells)) (with_change lp) none
   refused_gives lp _ (no_value {changing = changing} changes (no_last none)) =
-      gives_found card (change_fault verb) (option_and_then (change_of verb present.problem) (name_moved verb state.cells)) (with_change lp) changing (faulted NoParmax) changes
+      gives_found card (change_fault verb) (option_and_then (change_of verb present.problem) (name_moved verb state.cells)) (with_change lp) changing
+      (faulted NoParmax) changes
       (gives_fault card NoParmax state.cells.xparmax (with_last lp changing) none)
   refused_gives lp _ (no_value {changing = changing} changes (below {last = last} moved less)) =
-      gives_found card (change_fault verb) (option_and_then (change_of verb present.problem) (name_moved verb state.cells)) (with_change lp) changing (faulted ParmaxBelow) changes
+      gives_found card (change_fault verb) (option_and_then (change_of verb present.problem) (name_moved verb state.cells)) (with_change lp) changing
+      (faulted ParmaxBelow) changes
       (gives_found card NoParmax state.cells.xparmax (with_last lp changing) last (faulted ParmaxBelow) moved
       (gives_fault card ParmaxBelow (not_less state.cells.xparam last) (up_to lp changing) less))
 
-parametric_run_gives : (verb : ParametricVerb) (card : ℕ) (state : State) (outcome : StatementOutcome) → Gives linear_programming_of_128_bits card (or_fault card NoSetup state.setup (with_setup verb card state)) outcome →
+parametric_run_gives : (verb : ParametricVerb) (card : ℕ) (state : State) (outcome : StatementOutcome) →
+    Gives linear_programming_of_128_bits card (or_fault card NoSetup state.setup (with_setup verb card state)) outcome →
     Gives linear_programming_of_128_bits card (verb_move (verb_of verb) card state) outcome
 unfolding linear_programming_of_128_bits verb_move
 parametric_run_gives Paraobj card state outcome g = g
@@ -115,11 +123,13 @@ pub parametric_run_no_setup : (verb : ParametricVerb) (card : ℕ) (cards : List
 parametric_run_no_setup verb card cards machine print none =
     quietly IsPresent (Gives linear_programming_of_128_bits) (verb_of verb) card cards machine print (λ position executed state s.
     parametric_run_gives verb card state (stops (endings.VerbStop (record { fault = NoSetup; card = card })))
-    (gives_fault card NoSetup state.setup (with_setup verb card state) (subst (λ (kept : Option Setup). ShowsSetup machine.file kept state.setup) none s.setup)))
+    (gives_fault card NoSetup state.setup (with_setup verb card state)
+    (subst (λ (kept : Option Setup). ShowsSetup machine.file kept state.setup) none s.setup)))
 
 -- ---- with a setup, whose problem is on file
 
-module _ (verb : ParametricVerb) (card : ℕ) (cards : List (List ℕ)) (old : Machine) (setup new : Setup) (is_setup : old.setup ≡ Some setup) (problem : Problem ℕ) (on_file : filed_under setup.name old.file ≡ Some problem)
+module _ (verb : ParametricVerb) (card : ℕ) (cards : List (List ℕ)) (old : Machine) (setup new : Setup) (is_setup : old.setup ≡ Some setup)
+    (problem : Problem ℕ) (on_file : filed_under setup.name old.file ≡ Some problem)
     (demands : AreDemands old.cells) (position executed : ℕ) (state : State) (s : Represents cards old position executed state) where
   p : IsPresentOf problem setup state.setup
   p = present_at old.file setup state.setup problem on_file (subst (λ (kept : Option Setup). ShowsSetup old.file kept state.setup) is_setup s.setup)
@@ -130,50 +140,61 @@ module _ (verb : ParametricVerb) (card : ℕ) (cards : List (List ℕ)) (old : M
   abbrev after : Cells → Machine
   after cells = record old { setup = Some new; mark = None; cells = cells }
 
-  setup_gives : (outcome : StatementOutcome) → Gives linear_programming_of_128_bits card (with_setup verb card state present) outcome → Gives linear_programming_of_128_bits card (verb_move (verb_of verb) card state) outcome
-  setup_gives outcome g = parametric_run_gives verb card state outcome (gives_found card NoSetup state.setup (with_setup verb card state) present outcome p.is_viewed g)
+  setup_gives : (outcome : StatementOutcome) → Gives linear_programming_of_128_bits card (with_setup verb card state present) outcome →
+      Gives linear_programming_of_128_bits card (verb_move (verb_of verb) card state) outcome
+  setup_gives outcome g =
+      parametric_run_gives verb card state outcome (gives_found card NoSetup state.setup (with_setup verb card state) present outcome p.is_viewed g)
 
-  selected_gives : (lp : LinearProgram) → selected problem (choice_of old.cells setup.options) ≡ Ok lp → (outcome : StatementOutcome) → Gives linear_programming_of_128_bits card (parametric_run_move verb card state present lp) outcome →
+  selected_gives : (lp : LinearProgram) → selected problem (choice_of old.cells setup.options) ≡ Ok lp → (outcome : StatementOutcome) →
+      Gives linear_programming_of_128_bits card (parametric_run_move verb card state present lp) outcome →
       Gives linear_programming_of_128_bits card (verb_move (verb_of verb) card state) outcome
   selected_gives lp ok outcome g =
       setup_gives outcome (gives_selected card (selected problem (choice_of state.cells setup.options)) (parametric_run_move verb card state present) lp outcome
       (ap (λ (c : Cells). selected problem (choice_of c setup.options)) s.cells ∙ ok) g)
 
-  fault_gives : (fault : VerbFault) → HasSelectionFault problem (choice_of old.cells setup.options) fault → Gives linear_programming_of_128_bits card (verb_move (verb_of verb) card state) (faulted verb card state present fault)
+  fault_gives : (fault : VerbFault) → HasSelectionFault problem (choice_of old.cells setup.options) fault →
+      Gives linear_programming_of_128_bits card (verb_move (verb_of verb) card state) (faulted verb card state present fault)
   fault_gives fault h =
       setup_gives (faulted verb card state present fault)
       (gives_unselected card (selected problem (choice_of state.cells setup.options)) (parametric_run_move verb card state present) h.why fault
       (ap (λ (c : Cells). selected problem (choice_of c setup.options)) s.cells ∙ h.is_refused) h.is_fault)
 
   selection_gives : (e : Evidence) → HasSelectionOverflow problem (choice_of old.cells setup.options) e →
-      Gives linear_programming_of_128_bits card (verb_move (verb_of verb) card state) (stops (endings.OverflowStop (record { evidence = e; place = None; card = card })))
+      Gives linear_programming_of_128_bits card (verb_move (verb_of verb) card state)
+      (stops (endings.OverflowStop (record { evidence = e; place = None; card = card })))
   selection_gives e h =
       selected_gives h.lp h.is_selected (stops (endings.OverflowStop (record { evidence = e; place = None; card = card })))
       (inr (e, None, (subst (λ (c : Cells). SelectionOverflows problem (choice_of c setup.options) e None) (sym s.cells) (h.is_refusal, refl)), refl))
 
-  not_asked_gives : (lp : LinearProgram) → selected problem (choice_of old.cells setup.options) ≡ Ok lp → (fault : VerbFault) → IsAskFault verb problem old.cells fault →
+  not_asked_gives : (lp : LinearProgram) → selected problem (choice_of old.cells setup.options) ≡ Ok lp → (fault : VerbFault) →
+      IsAskFault verb problem old.cells fault →
       Gives linear_programming_of_128_bits card (verb_move (verb_of verb) card state) (faulted verb card state present fault)
   not_asked_gives lp ok fault h =
       selected_gives lp ok (faulted verb card state present fault)
       (inl (refused_gives verb card state present lp fault (subst (λ (c : Cells). IsAskFault verb problem c fault) (sym s.cells) h)))
 
-  module _ (lp : LinearProgram) (ok : selected problem (choice_of old.cells setup.options) ≡ Ok lp) (parametric_run : ParametricRun) (a : IsAsked verb problem old.cells parametric_run) where
+  module _ (lp : LinearProgram) (ok : selected problem (choice_of old.cells setup.options) ≡ Ok lp) (parametric_run : ParametricRun)
+      (a : IsAsked verb problem old.cells parametric_run) where
     abbrev sheet : Sheet
     sheet = record { problem = problem; lp = lp }
 
-    run_gives : (outcome : StatementOutcome) → Gives linear_programming_of_128_bits card (run_move verb card state present lp parametric_run) outcome → Gives linear_programming_of_128_bits card (verb_move (verb_of verb) card state) outcome
+    run_gives : (outcome : StatementOutcome) → Gives linear_programming_of_128_bits card (run_move verb card state present lp parametric_run) outcome →
+        Gives linear_programming_of_128_bits card (verb_move (verb_of verb) card state) outcome
     run_gives outcome g =
         selected_gives lp ok outcome
         (inl (asked_gives verb card state present lp parametric_run (subst (λ (c : Cells). IsAsked verb problem c parametric_run) (sym s.cells) a) outcome g))
 
-    run_through_gives : (answer : ParametricRunEnd) → IsParametricRun sheet setup.basis parametric_run answer → ParametricRunEndFits answer → Gives linear_programming_of_128_bits card (verb_move (verb_of verb) card state) (after_parametric_run card parametric_run present state answer)
+    run_through_gives : (answer : ParametricRunEnd) → IsParametricRun sheet setup.basis parametric_run answer → ParametricRunEndFits answer →
+        Gives linear_programming_of_128_bits card (verb_move (verb_of verb) card state) (after_parametric_run card parametric_run present state answer)
     unfolding linear_programming_of_128_bits
     run_through_gives answer right fit =
         run_gives (after_parametric_run card parametric_run present state answer)
         (inl (answer, (subst (λ (b : Basis). IsParametricRun sheet b parametric_run answer) (sym p.reached) right, fit), refl))
 
-    overflow_gives : (e : Evidence) (place : Option endings.Place) → ParametricRunOverflows sheet setup.basis new.basis parametric_run setup.engine.waypoints new.engine.waypoints e place → EvidenceFits e →
-        Gives linear_programming_of_128_bits card (verb_move (verb_of verb) card state) (stops (endings.OverflowStop (record { evidence = e; place = place; card = card })))
+    overflow_gives : (e : Evidence) (place : Option endings.Place) →
+        ParametricRunOverflows sheet setup.basis new.basis parametric_run setup.engine.waypoints new.engine.waypoints e place → EvidenceFits e →
+        Gives linear_programming_of_128_bits card (verb_move (verb_of verb) card state)
+        (stops (endings.OverflowStop (record { evidence = e; place = place; card = card })))
     unfolding linear_programming_of_128_bits
     overflow_gives e place h fit =
         run_gives (stops (endings.OverflowStop (record { evidence = e; place = place; card = card })))
@@ -188,8 +209,10 @@ module _ (verb : ParametricVerb) (card : ℕ) (cards : List (List ℕ)) (old : M
           refl,
         ))
 
-    after_stands : new.name ≡ setup.name → new.options ≡ setup.options → (bases : List Basis) (end : ParametricRunEnd) → ParametricRunReaches sheet setup.basis new.basis parametric_run setup.engine.waypoints new.engine.waypoints bases end →
-        (theirs own : Cells) → theirs ≡ own → Represents cards (after own) position executed (record state { setup = Some (gone_through bases present); mark = None; cells = theirs })
+    after_stands : new.name ≡ setup.name → new.options ≡ setup.options → (bases : List Basis) (end : ParametricRunEnd) →
+        ParametricRunReaches sheet setup.basis new.basis parametric_run setup.engine.waypoints new.engine.waypoints bases end →
+        (theirs own : Cells) → theirs ≡ own →
+        Represents cards (after own) position executed (record state { setup = Some (gone_through bases present); mark = None; cells = theirs })
     after_stands same_name same_options bases end r theirs own same_cells =
         let same = same_matrix problem (choice_of old.cells setup.options) lp ok in
         record {
@@ -198,47 +221,65 @@ module _ (verb : ParametricVerb) (card : ℕ) (cards : List (List ℕ)) (old : M
           cells = same_cells;
           file = s.file;
           decks = s.decks;
-          setup = goes_through problem setup state.setup p lp same old.file new bases on_file same_name same_options r.leads (r.lie p.initial (lie_up_to problem setup state.setup p lp same));
+          setup =
+              goes_through problem setup state.setup p lp same old.file new bases on_file same_name same_options r.leads
+              (r.lie p.initial (lie_up_to problem setup state.setup p lp same));
           mark = refl;
         }
 
   pub found_comes : (gain : Gain) (finding : Finding) → ParametricRuns problem old.cells verb setup new gain finding →
-      LeadsTo linear_programming_of_128_bits (verb_of verb) card cards position executed state (after (cells_left finding old.cells)) gain (act_of (cells_left finding old.cells) card finding)
+      LeadsTo linear_programming_of_128_bits (verb_of verb) card cards position executed state (after (cells_left finding old.cells)) gain
+      (act_of (cells_left finding old.cells) card finding)
   found_comes _ _ (unselected {fault = fault} h) = fault_gives fault h
   found_comes _ _ (too_large {e = e} h) = selection_gives e h
   found_comes _ _ (not_asked {lp = lp} {fault = fault} ok h) = not_asked_gives lp ok fault h
-  found_comes _ _ (run_through {lp = lp} {parametric_run = parametric_run} ok a same_name same_options (opened {bases = bases} {verdict = verdict} {check = check} r fit)) =
-      verdict_comes card cards (after old.cells) position executed (verb_move (verb_of verb) card state) (Solved (parametric_solver parametric_run.changing) verdict check) (record state { setup = Some (gone_through bases present); mark = None })
-      (after_stands lp ok parametric_run a same_name same_options bases (Opening bases verdict check) r state.cells old.cells s.cells) old.cells demands s.cells (mark_of verdict)
+  found_comes _ _
+      (run_through {lp = lp} {parametric_run = parametric_run} ok a same_name same_options (opened {bases = bases} {verdict = verdict} {check = check} r fit)) =
+      verdict_comes card cards (after old.cells) position executed (verb_move (verb_of verb) card state)
+      (Solved (parametric_solver parametric_run.changing) verdict check) (record state { setup = Some (gone_through bases present); mark = None })
+      (after_stands lp ok parametric_run a same_name same_options bases (Opening bases verdict check) r state.cells old.cells s.cells) old.cells demands s.cells
+      (mark_of verdict)
       (run_through_gives lp ok parametric_run a (Opening bases verdict check) r.reaches fit)
-  found_comes _ _ (run_through {lp = lp} {parametric_run = parametric_run} ok a same_name same_options (chained {bases = bases} {intervals = intervals} {end = end} r fit)) = (
-    record state { setup = Some (gone_through bases present); mark = None; cells = record (state.cells) { xparam = last_value end } },
-    run_through_gives lp ok parametric_run a (Chained bases intervals end) r.reaches fit,
-    after_stands lp ok parametric_run a same_name same_options bases (Chained bases intervals end) r (record (state.cells) { xparam = last_value end }) (record (old.cells) { xparam = last_value end })
-        (ap (λ (c : Cells). record c { xparam = last_value end }) s.cells),
-  )
+  found_comes _ _
+      (run_through {lp = lp} {parametric_run = parametric_run} ok a same_name same_options
+      (chained {bases = bases} {intervals = intervals} {end = end} r fit)) = (
+        record state { setup = Some (gone_through bases present); mark = None; cells = record (state.cells) { xparam = last_value end } },
+        run_through_gives lp ok parametric_run a (Chained bases intervals end) r.reaches fit,
+        after_stands lp ok parametric_run a same_name same_options bases (Chained bases intervals end) r (record (state.cells) { xparam = last_value end })
+            (record (old.cells) { xparam = last_value end })
+            (ap (λ (c : Cells). record c { xparam = last_value end }) s.cells),
+      )
   found_comes _ _ (run_through {lp = lp} {parametric_run = parametric_run} ok a same_name same_options (at_limit right)) =
-      subst (λ (c : Cells). Gives linear_programming_of_128_bits card (verb_move (verb_of verb) card state) (stops (endings.LimitStop (record { limit = steps_allowed c; card = card })))) s.cells (run_through_gives lp ok parametric_run a ParametricRunLimit right tt)
-  found_comes _ _ (run_through {lp = lp} {parametric_run = parametric_run} ok a same_name same_options (overflows {e = e} {place = place} h fit)) = overflow_gives lp ok parametric_run a e (option_map place_view place) h fit
+      subst (λ (c : Cells). Gives linear_programming_of_128_bits card (verb_move (verb_of verb) card state)
+      (stops (endings.LimitStop (record { limit = steps_allowed c; card = card })))) s.cells
+      (run_through_gives lp ok parametric_run a ParametricRunLimit right tt)
+  found_comes _ _ (run_through {lp = lp} {parametric_run = parametric_run} ok a same_name same_options (overflows {e = e} {place = place} h fit)) =
+      overflow_gives lp ok parametric_run a e (option_map place_view place) h fit
 
-module _ (verb : ParametricVerb) (card : ℕ) (print_old print_new : SinkState) (cards : List (List ℕ)) (old : Machine) (setup new : Setup) (is_setup : old.setup ≡ Some setup)
+module _ (verb : ParametricVerb) (card : ℕ) (print_old print_new : SinkState) (cards : List (List ℕ)) (old : Machine) (setup new : Setup)
+    (is_setup : old.setup ≡ Some setup)
     (ready : IsReady old.file setup) (demands : AreDemands old.cells) where
   abbrev left_by : Finding → Machine
   left_by finding = record old { setup = Some new; mark = None; cells = cells_left finding old.cells }
 
   pub parametric_run_found : (finding : Finding) (cells : Cells) (then : Act) → cells ≡ cells_left finding old.cells → then ≡ act_of cells card finding →
       ReportsFinding (ParametricRuns ready.problem old.cells verb setup new) print_old print_new (Ok finding) →
-      Executes linear_programming_of_128_bits (verb_of verb) card print_old print_new cards old (record old { setup = Some new; mark = None; cells = cells }) (Ok then)
+      Executes linear_programming_of_128_bits (verb_of verb) card print_old print_new cards old (record old { setup = Some new; mark = None; cells = cells })
+      (Ok then)
   parametric_run_found finding cells then e f t =
-      subst (λ (a : Act). Executes linear_programming_of_128_bits (verb_of verb) card print_old print_new cards old (record old { setup = Some new; mark = None; cells = cells }) (Ok a)) (sym f)
-      (subst (λ (c : Cells). Executes linear_programming_of_128_bits (verb_of verb) card print_old print_new cards old (record old { setup = Some new; mark = None; cells = c }) (Ok (act_of c card finding))) (sym e)
-      (reported_executes (verb_of verb) card cards old (ParametricRuns ready.problem old.cells verb setup new) left_by (λ found. act_of (cells_left found old.cells) card found)
+      subst (λ (a : Act). Executes linear_programming_of_128_bits (verb_of verb) card print_old print_new cards old
+      (record old { setup = Some new; mark = None; cells = cells }) (Ok a)) (sym f)
+      (subst (λ (c : Cells). Executes linear_programming_of_128_bits (verb_of verb) card print_old print_new cards old
+      (record old { setup = Some new; mark = None; cells = c }) (Ok (act_of c card finding))) (sym e)
+      (reported_executes (verb_of verb) card cards old (ParametricRuns ready.problem old.cells verb setup new) left_by
+      (λ found. act_of (cells_left found old.cells) card found)
       (no_cards_by ready.problem old.cells verb setup new)
       (λ gain found h position executed state s. found_comes verb card cards old setup new is_setup ready.problem ready.on_file demands position executed state s gain found h) print_old print_new finding t))
 
   pub parametric_run_cut : (any : Machine) (h : Halt) → ReportsFinding (ParametricRuns ready.problem old.cells verb setup new) print_old print_new (Err h) →
       Executes linear_programming_of_128_bits (verb_of verb) card print_old print_new cards old any (Err h)
   parametric_run_cut any h t =
-      cut_executes (verb_of verb) card cards old (ParametricRuns ready.problem old.cells verb setup new) left_by (λ found. act_of (cells_left found old.cells) card found)
+      cut_executes (verb_of verb) card cards old (ParametricRuns ready.problem old.cells verb setup new) left_by
+      (λ found. act_of (cells_left found old.cells) card found)
       (no_cards_by ready.problem old.cells verb setup new)
       (λ gain found h position executed state s. found_comes verb card cards old setup new is_setup ready.problem ready.on_file demands position executed state s gain found h) print_old print_new any h t

@@ -41,37 +41,48 @@ module _ (p : LinearProgram) (s : Basis) where
   at_free k e = rw e refl
 
   -- where another program fixes the same variables, it stands there too
-  stands_same : (q : LinearProgram) (k : ℕ) (st : Status) → status_of s k ≡ st → is_fixed p k ≡ is_fixed q k → printed.at_by (status_of s k) false (is_fixed q k) ≡ defined.standing p s k
+  stands_same : (q : LinearProgram) (k : ℕ) (st : Status) → status_of s k ≡ st → is_fixed p k ≡ is_fixed q k →
+      printed.at_by (status_of s k) false (is_fixed q k) ≡ defined.standing p s k
   stands_same q k Bs e fixed = rw e refl
-  stands_same q k Ll e fixed = ap (λ st. printed.at_by st false (is_fixed q k)) e ∙ ap (λ (b : Bool). if b then Equal else Lower) (sym fixed) ∙ sym (at_lower k e)
-  stands_same q k Ul e fixed = ap (λ st. printed.at_by st false (is_fixed q k)) e ∙ ap (λ (b : Bool). if b then Equal else Upper) (sym fixed) ∙ sym (at_upper k e)
+  stands_same q k Ll e fixed =
+      ap (λ st. printed.at_by st false (is_fixed q k)) e ∙ ap (λ (b : Bool). if b then Equal else Lower) (sym fixed) ∙ sym (at_lower k e)
+  stands_same q k Ul e fixed =
+      ap (λ st. printed.at_by st false (is_fixed q k)) e ∙ ap (λ (b : Bool). if b then Equal else Upper) (sym fixed) ∙ sym (at_upper k e)
   stands_same q k Fr e fixed = ap (λ st. printed.at_by st false (is_fixed q k)) e ∙ ap (λ (b : Bool). if b then Equal else Free) (sym fixed) ∙ sym (at_free k e)
 
 -- ---- intervals
 
 module _ (sheet : OwnSheet) (p : LinearProgram) (fixes : (k : ℕ) → IsVariable sheet.lp.now.matrix k → is_fixed p k ≡ is_fixed sheet.lp.now k) where
-  values_same : (part : ParaPart) (k : ℕ) → IsVariable sheet.lp.now.matrix k → printed.part_values sheet.lp.now part k ≡ defined_runs.part_values p (part_of part) k
+  values_same : (part : ParaPart) (k : ℕ) → IsVariable sheet.lp.now.matrix k →
+      printed.part_values sheet.lp.now part k ≡ defined_runs.part_values p (part_of part) k
   values_same part k is =
-      ap (λ (at : At). Code at ∷ Number (value_at part.value k) ∷ Number (value_at part.value_rate k) ∷ Number (value_at part.price k) ∷ Number (value_at part.price_rate k) ∷ [])
+      ap (λ (at : At). Code at ∷ Number (value_at part.value k) ∷ Number (value_at part.value_rate k) ∷ Number (value_at part.price k) ∷ Number
+      (value_at part.price_rate k) ∷ [])
       (stands_same p part.statuses sheet.lp.now k (status_of part.statuses k) refl (fixes k is))
 
   lines_same : (part : ParaPart) →
       printed.lines_of sheet.problem.now (printed.part_values sheet.lp.now part) (variables sheet.lp.now.matrix)
       ≡ defined.lines_of (record { problem = sheet.problem.now; lp = p }) (defined_runs.part_values p (part_of part)) (variables sheet.lp.now.matrix)
   lines_same part =
-      map_same (printed.line_of sheet.problem.now (printed.part_values sheet.lp.now part)) (printed.line_of sheet.problem.now (defined_runs.part_values p (part_of part))) (size sheet.lp.now.matrix) 1
-      (λ k low high. ap (λ (values : List Value). record { number = k; name = printed.name_of sheet.problem.now k; values = values }) (values_same part k (low, omega (arith, high))))
+      map_same (printed.line_of sheet.problem.now (printed.part_values sheet.lp.now part))
+      (printed.line_of sheet.problem.now (defined_runs.part_values p (part_of part))) (size sheet.lp.now.matrix) 1
+      (λ k low high. ap (λ (values : List Value). record { number = k; name = printed.name_of sheet.problem.now k; values = values })
+      (values_same part k (low, omega (arith, high))))
 
 module _ (sheet : OwnSheet) where
-  interval_same : (changing : Changing) (from : ℚ) (part : ParaPart) → interval_view sheet part ≡ interval_of (sheet_at (sheet_view sheet) changing from) (part_of part)
-  interval_same (Row name) from part = λ i. record { from = part.from; to = part.to; lines = lines_same sheet (family_of (sheet_view sheet) (Row name) from) (λ k is. refl) part i }
+  interval_same : (changing : Changing) (from : ℚ) (part : ParaPart) →
+      interval_view sheet part ≡ interval_of (sheet_at (sheet_view sheet) changing from) (part_of part)
+  interval_same (Row name) from part =
+      λ i. record { from = part.from; to = part.to; lines = lines_same sheet (family_of (sheet_view sheet) (Row name) from) (λ k is. refl) part i }
   interval_same (Set name) from part = λ i. record {
     from = part.from;
     to = part.to;
-    lines = lines_same sheet (family_of (sheet_view sheet) (Set name) from) (λ k is. fixed_same sheet.lp.now (shifts_of sheet.problem.now name) from k is) part i;
+    lines =
+        lines_same sheet (family_of (sheet_view sheet) (Set name) from) (λ k is. fixed_same sheet.lp.now (shifts_of sheet.problem.now name) from k is) part i;
   }
 
-  intervals_same : (changing : Changing) (from : ℚ) (parts : List ParaPart) → map (interval_view sheet) parts ≡ map (interval_of (sheet_at (sheet_view sheet) changing from)) (map part_of parts)
+  intervals_same : (changing : Changing) (from : ℚ) (parts : List ParaPart) →
+      map (interval_view sheet) parts ≡ map (interval_of (sheet_at (sheet_view sheet) changing from)) (map part_of parts)
   intervals_same changing from [] = refl
   intervals_same changing from (part ∷ parts) = ap₂ (λ x xs. x ∷ xs) (interval_same changing from part) (intervals_same changing from parts)
 
@@ -93,4 +104,5 @@ module _ (sheet : OwnSheet) where
         intervals = map (interval_of (sheet_at (sheet_view sheet) changing from)) (map part_of run.parts);
         end = defined_runs.end_of (sheet_view sheet) to (end_of run.end);
       }
-  chain_same changing change from to run = λ i. record { from = from; change = change; intervals = intervals_same changing from run.parts i; end = end_same to run.end i }
+  chain_same changing change from to run =
+      λ i. record { from = from; change = change; intervals = intervals_same changing from run.parts i; end = end_same to run.end i }

@@ -26,9 +26,11 @@ use Rattle.solving_verbs.specs.Found.{PathReaches}
 use Rattle.parametric_laws.proofs.Runs.{last_of-append}
 use Rattle.setup_verbs.proofs.Present.{IsPresentOf, present_with}
 
-module _ (problem : Problem ℕ) (setup : Setup) (viewed : Option Present) (p : IsPresentOf problem setup viewed) (lp : LinearProgram) (same : matrix_of problem ≡ lp.matrix) where
+module _ (problem : Problem ℕ) (setup : Setup) (viewed : Option Present) (p : IsPresentOf problem setup viewed) (lp : LinearProgram)
+    (same : matrix_of problem ≡ lp.matrix) where
   -- the present basis after a path
-  pub goes_through : (file : Filed) (new : Setup) (bases : List Basis) → filed_under setup.name file ≡ Some problem → new.name ≡ setup.name → new.options ≡ setup.options →
+  pub goes_through : (file : Filed) (new : Setup) (bases : List Basis) → filed_under setup.name file ≡ Some problem → new.name ≡ setup.name →
+      new.options ≡ setup.options →
       last_of setup.basis bases ≡ new.basis → LieIn lp.matrix new.engine.waypoints (p.initial ++ setup.basis ∷ bases) →
       ShowsSetup file (Some new) (Some (gone_through bases (present_with problem setup.options p.opening p.steps)))
   goes_through file new bases on_file same_name same_options leads lie = (
@@ -39,21 +41,30 @@ module _ (problem : Problem ℕ) (setup : Setup) (viewed : Option Present) (p : 
       has_options = sym same_options;
       reached = last_of-append p.opening p.steps bases ∙ ap (λ s. last_of s bases) p.reached ∙ leads;
       lie = subst (λ (a : Matrix). LieIn a new.engine.waypoints (p.opening ∷ p.steps ++ bases)) (sym same)
-          (subst (λ (bs : List Basis). LieIn lp.matrix new.engine.waypoints bs) (sym (append_assoc p.initial (setup.basis ∷ []) bases) ∙ ap (λ bs. bs ++ bases) (sym p.ends)) lie);
+          (subst (λ (bs : List Basis). LieIn lp.matrix new.engine.waypoints bs)
+          (sym (append_assoc p.initial (setup.basis ∷ []) bases) ∙ ap (λ bs. bs ++ bases) (sym p.ends)) lie);
     },
   )
 
 -- ---- the path that a verdict ends is the one that the waypoints follow
 
 module _ (rule : Rule) (sheet : Sheet) (s now : Basis) (limit : Option ℕ) (before after : List Basics) (report : PathReport)
-    (one : (bases others : List Basis) (ending : PathEnding) → RulePathEnds rule sheet.lp.now s bases ending → RulePathEnds rule sheet.lp.now s others ending → SameEnds bases others ending ending)
+    (one : (bases others : List Basis) (ending : PathEnding) → RulePathEnds rule sheet.lp.now s bases ending → RulePathEnds rule sheet.lp.now s others ending →
+    SameEnds bases others ending ending)
     (r : RuleIsReached rule sheet s now limit report) (w : RuleWaypointsFollow rule sheet.lp.now s now before after) where
   lie_reached : (earlier : List Basis) → LieIn sheet.lp.now.matrix before (earlier ++ s ∷ []) → LieIn sheet.lp.now.matrix after (earlier ++ s ∷ r.bases)
   lie_reached earlier lie =
-      let same = one w.bases r.bases r.reaches.ending (record { is_path = w.is_path; ends = subst (λ x. RuleEnd rule sheet.lp.now x r.reaches.ending) (r.leads ∙ sym w.reaches) r.reaches.ends.ends }) r.reaches.ends in
+      let same =
+      one w.bases r.bases r.reaches.ending
+      (record {
+        is_path = w.is_path;
+        ends = subst (λ x. RuleEnd rule sheet.lp.now x r.reaches.ending)
+            (r.leads ∙ sym w.reaches) r.reaches.ends.ends;
+      }) r.reaches.ends in
       subst (λ (bs : List Basis). LieIn sheet.lp.now.matrix after (earlier ++ s ∷ bs)) same.same_bases (w.lie earlier lie)
 
-module _ (sheet : Sheet) (s now : Basis) (before after : List Basics) (report : PathReport) (a : Matrix) (b : Basics) (lawful : IsLinearProgram sheet.lp.now) (has : HasRates a b sheet.lp.now s) where
+module _ (sheet : Sheet) (s now : Basis) (before after : List Basics) (report : PathReport) (a : Matrix) (b : Basics) (lawful : IsLinearProgram sheet.lp.now)
+    (has : HasRates a b sheet.lp.now s) where
   begins : IsNonsingularBasis sheet.lp.now s
   begins = record { is_basis = has.is_basis; nonsingular = has.nonsingular }
 
@@ -62,7 +73,9 @@ module _ (sheet : Sheet) (s now : Basis) (before after : List Basics) (report : 
   path_reached limit r w = record {
     reaches = r.reaches;
     leads = r.leads;
-    lie = lie_reached turn sheet s now limit before after report (λ bases others ending first second. one_path sheet.lp.now lawful s bases others ending ending begins first second) r w;
+    lie =
+        lie_reached turn sheet s now limit before after report
+        (λ bases others ending first second. one_path sheet.lp.now lawful s bases others ending ending begins first second) r w;
   }
 
   pub dual_reached : (limit : ℕ) (r : IsDualReached sheet s now limit report) → RuleWaypointsFollow dual_turn sheet.lp.now s now before after →
@@ -70,5 +83,7 @@ module _ (sheet : Sheet) (s now : Basis) (before after : List Basics) (report : 
   dual_reached limit r w = record {
     reaches = (r.0, r.1.reaches);
     leads = r.1.leads;
-    lie = lie_reached dual_turn sheet s now (Some limit) before after report (λ bases others ending first second. one_dual_path sheet.lp.now lawful s bases others ending ending begins first second) r.1 w;
+    lie =
+        lie_reached dual_turn sheet s now (Some limit) before after report
+        (λ bases others ending first second. one_dual_path sheet.lp.now lawful s bases others ending ending begins first second) r.1 w;
   }

@@ -13,7 +13,8 @@ use Rattle.setup_verbs.specs.Standing.{IsReady}
 use Rattle.setup_verbs.proofs.Present.{ready_rates}
 
 -- given is the setup with what was selected again, as the call leaves it, and mid is the same as its fields are read
-module _ (setup : Setup) {given mid : Setup} (seen : mid ≡ given) (others : given ≡ record setup { objective = given.objective; rhs = given.rhs; lp = given.lp }) where
+module _ (setup : Setup) {given mid : Setup} (seen : mid ≡ given)
+    (others : given ≡ record setup { objective = given.objective; rhs = given.rhs; lp = given.lp }) where
   pub name_kept : mid.name ≡ setup.name
   name_kept = ap (λ (s : Setup). s.name) seen ∙ ap (λ (s : Setup). s.name) others
 

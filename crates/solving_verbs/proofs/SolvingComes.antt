@@ -43,7 +43,8 @@ use Rattle.solving_verbs.proofs.Demanded.{verdict_comes}
 use Rattle.solving_verbs.proofs.Present.{goes_through}
 use Rattle.setup_verbs.proofs.Present.{IsPresentOf, lie_up_to, present_at, present_with}
 
-pub no_cards_by : (verb : SolvingVerb) (problem : Problem ℕ) (cells : Cells) (setup new : Setup) (gain : Gain) (finding : Finding) → Finds verb problem cells setup new gain finding → punched_by gain ≡ []
+pub no_cards_by : (verb : SolvingVerb) (problem : Problem ℕ) (cells : Cells) (setup new : Setup) (gain : Gain) (finding : Finding) →
+    Finds verb problem cells setup new gain finding → punched_by gain ≡ []
 no_cards_by verb problem cells setup new _ _ (unselected h) = refl
 no_cards_by verb problem cells setup new _ _ (too_large h) = refl
 no_cards_by verb problem cells setup new _ _ (solved ok e f (reached r fit)) = refl
@@ -63,16 +64,21 @@ path_move verb card state present lp =
 
 -- what the verb does with a setup
 abbrev with_setup : SolvingVerb → ℕ → State → Present → StatementMove
-with_setup verb card state present = or_selection_fault card (selected present.problem (choice_of state.cells present.options)) (path_move verb card state present)
+with_setup verb card state present =
+    or_selection_fault card (selected present.problem (choice_of state.cells present.options)) (path_move verb card state present)
 
-solving_gives : (verb : SolvingVerb) (card : ℕ) (state : State) (outcome : StatementOutcome) → Gives linear_programming_of_128_bits card (or_fault card NoSetup state.setup (with_setup verb card state)) outcome → Gives linear_programming_of_128_bits card (verb_move (verb_of verb) card state) outcome
+solving_gives : (verb : SolvingVerb) (card : ℕ) (state : State) (outcome : StatementOutcome) →
+    Gives linear_programming_of_128_bits card (or_fault card NoSetup state.setup (with_setup verb card state)) outcome →
+    Gives linear_programming_of_128_bits card (verb_move (verb_of verb) card state) outcome
 unfolding linear_programming_of_128_bits verb_move
 solving_gives Primal card state outcome g = g
 solving_gives Dual card state outcome g = g
 
-solving_without : (verb : SolvingVerb) (card : ℕ) (state : State) → state.setup ≡ None → Gives linear_programming_of_128_bits card (verb_move (verb_of verb) card state) (stops (endings.VerbStop (record { fault = NoSetup; card = card })))
+solving_without : (verb : SolvingVerb) (card : ℕ) (state : State) → state.setup ≡ None →
+    Gives linear_programming_of_128_bits card (verb_move (verb_of verb) card state) (stops (endings.VerbStop (record { fault = NoSetup; card = card })))
 solving_without verb card state none =
-    solving_gives verb card state (stops (endings.VerbStop (record { fault = NoSetup; card = card }))) (gives_fault card NoSetup state.setup (with_setup verb card state) none)
+    solving_gives verb card state (stops (endings.VerbStop (record { fault = NoSetup; card = card })))
+    (gives_fault card NoSetup state.setup (with_setup verb card state) none)
 
 pub solving_no_setup : (verb : SolvingVerb) (card : ℕ) (cards : List (List ℕ)) (machine : Machine) (print : SinkState) → machine.setup ≡ None →
     Executes linear_programming_of_128_bits (verb_of verb) card print print cards machine machine (refused_act card (Fault NoSetup))
@@ -81,7 +87,8 @@ solving_no_setup verb card cards machine print none =
     solving_without verb card state (subst (λ (kept : Option Setup). ShowsSetup machine.file kept state.setup) none s.setup))
 
 -- with a setup, whose problem is on file
-module _ (verb : SolvingVerb) (card : ℕ) (cards : List (List ℕ)) (old : Machine) (setup new : Setup) (is_setup : old.setup ≡ Some setup) (problem : Problem ℕ) (on_file : filed_under setup.name old.file ≡ Some problem)
+module _ (verb : SolvingVerb) (card : ℕ) (cards : List (List ℕ)) (old : Machine) (setup new : Setup) (is_setup : old.setup ≡ Some setup) (problem : Problem ℕ)
+    (on_file : filed_under setup.name old.file ≡ Some problem)
     (demands : AreDemands old.cells) (position executed : ℕ) (state : State) (s : Represents cards old position executed state) where
   p : IsPresentOf problem setup state.setup
   p = present_at old.file setup state.setup problem on_file (subst (λ (kept : Option Setup). ShowsSetup old.file kept state.setup) is_setup s.setup)
@@ -92,25 +99,31 @@ module _ (verb : SolvingVerb) (card : ℕ) (cards : List (List ℕ)) (old : Mach
   abbrev after : Option Mark → Machine
   after mark = record old { setup = Some new; mark = mark }
 
-  setup_gives : (outcome : StatementOutcome) → Gives linear_programming_of_128_bits card (with_setup verb card state present) outcome → Gives linear_programming_of_128_bits card (verb_move (verb_of verb) card state) outcome
-  setup_gives outcome g = solving_gives verb card state outcome (gives_found card NoSetup state.setup (with_setup verb card state) present outcome p.is_viewed g)
+  setup_gives : (outcome : StatementOutcome) → Gives linear_programming_of_128_bits card (with_setup verb card state present) outcome →
+      Gives linear_programming_of_128_bits card (verb_move (verb_of verb) card state) outcome
+  setup_gives outcome g =
+      solving_gives verb card state outcome (gives_found card NoSetup state.setup (with_setup verb card state) present outcome p.is_viewed g)
 
-  selected_gives : (lp : LinearProgram) → selected problem (choice_of old.cells setup.options) ≡ Ok lp → (outcome : StatementOutcome) → Gives linear_programming_of_128_bits card (path_move verb card state present lp) outcome →
+  selected_gives : (lp : LinearProgram) → selected problem (choice_of old.cells setup.options) ≡ Ok lp → (outcome : StatementOutcome) →
+      Gives linear_programming_of_128_bits card (path_move verb card state present lp) outcome →
       Gives linear_programming_of_128_bits card (verb_move (verb_of verb) card state) outcome
   selected_gives lp ok outcome g =
       setup_gives outcome (gives_selected card (selected problem (choice_of state.cells setup.options)) (path_move verb card state present) lp outcome
       (ap (λ (c : Cells). selected problem (choice_of c setup.options)) s.cells ∙ ok) g)
 
   path_gives : (lp : LinearProgram) → selected problem (choice_of old.cells setup.options) ≡ Ok lp → (answer : PathEnd) →
-      IsSolvedBy (solver_of verb) (record { problem = problem; lp = lp }) setup.basis (limit_of verb old.cells) answer → PathEndFits answer → Gives linear_programming_of_128_bits card (verb_move (verb_of verb) card state) (after_path (solver_of verb) card present state answer)
+      IsSolvedBy (solver_of verb) (record { problem = problem; lp = lp }) setup.basis (limit_of verb old.cells) answer → PathEndFits answer →
+      Gives linear_programming_of_128_bits card (verb_move (verb_of verb) card state) (after_path (solver_of verb) card present state answer)
   unfolding linear_programming_of_128_bits
   path_gives lp ok answer right fit =
       selected_gives lp ok (after_path (solver_of verb) card present state answer)
       (inl (inl (
         answer,
         (
-          subst (λ (c : Cells). IsSolvedBy (solver_of verb) (record { problem = problem; lp = lp }) (present_basis present) (limit_of verb c) answer) (sym s.cells)
-              (subst (λ (b : Basis). IsSolvedBy (solver_of verb) (record { problem = problem; lp = lp }) b (limit_of verb old.cells) answer) (sym p.reached) right),
+          subst (λ (c : Cells). IsSolvedBy (solver_of verb) (record { problem = problem; lp = lp }) (present_basis present) (limit_of verb c) answer)
+              (sym s.cells)
+              (subst (λ (b : Basis). IsSolvedBy (solver_of verb) (record { problem = problem; lp = lp }) b (limit_of verb old.cells) answer)
+              (sym p.reached) right),
           fit,
         ),
         refl,
@@ -124,14 +137,17 @@ module _ (verb : SolvingVerb) (card : ℕ) (cards : List (List ℕ)) (old : Mach
       (ap (λ (c : Cells). selected problem (choice_of c setup.options)) s.cells ∙ h.is_refused) h.is_fault)
 
   selection_gives : (e : Evidence) → HasSelectionOverflow problem (choice_of old.cells setup.options) e →
-      Gives linear_programming_of_128_bits card (verb_move (verb_of verb) card state) (stops (endings.OverflowStop (record { evidence = e; place = None; card = card })))
+      Gives linear_programming_of_128_bits card (verb_move (verb_of verb) card state)
+      (stops (endings.OverflowStop (record { evidence = e; place = None; card = card })))
   selection_gives e h =
       selected_gives h.lp h.is_selected (stops (endings.OverflowStop (record { evidence = e; place = None; card = card })))
       (inr (e, None, (subst (λ (c : Cells). SelectionOverflows problem (choice_of c setup.options) e None) (sym s.cells) (h.is_refusal, refl)), refl))
 
   overflow_gives : (lp : LinearProgram) → selected problem (choice_of old.cells setup.options) ≡ Ok lp → (e : Evidence) (place : Option endings.Place) →
-      PathOverflows (solver_of verb) (record { problem = problem; lp = lp }) setup.basis new.basis (limit_of verb old.cells) setup.engine.waypoints new.engine.waypoints e place → EvidenceFits e →
-      Gives linear_programming_of_128_bits card (verb_move (verb_of verb) card state) (stops (endings.OverflowStop (record { evidence = e; place = place; card = card })))
+      PathOverflows (solver_of verb) (record { problem = problem; lp = lp }) setup.basis new.basis
+      (limit_of verb old.cells) setup.engine.waypoints new.engine.waypoints e place → EvidenceFits e →
+      Gives linear_programming_of_128_bits card (verb_move (verb_of verb) card state)
+      (stops (endings.OverflowStop (record { evidence = e; place = place; card = card })))
   unfolding linear_programming_of_128_bits
   overflow_gives lp ok e place h fit =
       selected_gives lp ok (stops (endings.OverflowStop (record { evidence = e; place = place; card = card })))
@@ -140,7 +156,8 @@ module _ (verb : SolvingVerb) (card : ℕ) (cards : List (List ℕ)) (old : Mach
         place,
         (
           subst (λ (c : Cells). OverflowsBy (solver_of verb) (record { problem = problem; lp = lp }) (path_of present) (limit_of verb c) e place) (sym s.cells)
-              (subst (λ (bs : List Basis). OverflowsBy (solver_of verb) (record { problem = problem; lp = lp }) bs (limit_of verb old.cells) e place) (sym p.ends)
+              (subst (λ (bs : List Basis). OverflowsBy (solver_of verb) (record { problem = problem; lp = lp }) bs (limit_of verb old.cells) e place)
+              (sym p.ends)
               (h p.initial (lie_up_to problem setup state.setup p lp (same_matrix problem (choice_of old.cells setup.options) lp ok)))),
           fit,
         ),
@@ -148,7 +165,9 @@ module _ (verb : SolvingVerb) (card : ℕ) (cards : List (List ℕ)) (old : Mach
       )))
 
   after_stands : (lp : LinearProgram) → selected problem (choice_of old.cells setup.options) ≡ Ok lp → new.name ≡ setup.name → new.options ≡ setup.options →
-      (bases : List Basis) (verdict : PathVerdict) (check : Check) → PathReaches (solver_of verb) (record { problem = problem; lp = lp }) setup.basis new.basis (limit_of verb old.cells) setup.engine.waypoints new.engine.waypoints bases verdict check →
+      (bases : List Basis) (verdict : PathVerdict) (check : Check) →
+      PathReaches (solver_of verb) (record { problem = problem; lp = lp }) setup.basis new.basis
+      (limit_of verb old.cells) setup.engine.waypoints new.engine.waypoints bases verdict check →
       (mark : Mark) → Represents cards (after (Some mark)) position executed (record state { setup = Some (gone_through bases present); mark = Some mark })
   after_stands lp ok same_name same_options bases verdict check r mark =
       let same = same_matrix problem (choice_of old.cells setup.options) lp ok in
@@ -158,7 +177,9 @@ module _ (verb : SolvingVerb) (card : ℕ) (cards : List (List ℕ)) (old : Mach
         cells = s.cells;
         file = s.file;
         decks = s.decks;
-        setup = goes_through problem setup state.setup p lp same old.file new bases on_file same_name same_options r.leads (r.lie p.initial (lie_up_to problem setup state.setup p lp same));
+        setup =
+            goes_through problem setup state.setup p lp same old.file new bases on_file same_name same_options r.leads
+            (r.lie p.initial (lie_up_to problem setup state.setup p lp same));
         mark = refl;
       }
 
@@ -167,28 +188,37 @@ module _ (verb : SolvingVerb) (card : ℕ) (cards : List (List ℕ)) (old : Mach
   found_comes _ _ (unselected {fault = fault} h) = fault_gives fault h
   found_comes _ _ (too_large {e = e} h) = selection_gives e h
   found_comes _ _ (solved {lp = lp} ok same_name same_options (reached {bases = bases} {verdict = verdict} {check = check} r fit)) =
-      verdict_comes card cards (after (Some (mark_of verdict))) position executed (verb_move (verb_of verb) card state) (Solved (solver_of verb) verdict check) (record state { setup = Some (gone_through bases present); mark = Some (mark_of verdict) })
-      (after_stands lp ok same_name same_options bases verdict check r (mark_of verdict)) old.cells demands s.cells (mark_of verdict) (path_gives lp ok (Reached bases verdict check) r.reaches fit)
+      verdict_comes card cards (after (Some (mark_of verdict))) position executed (verb_move (verb_of verb) card state) (Solved (solver_of verb) verdict check)
+      (record state { setup = Some (gone_through bases present); mark = Some (mark_of verdict) })
+      (after_stands lp ok same_name same_options bases verdict check r (mark_of verdict)) old.cells demands s.cells (mark_of verdict)
+      (path_gives lp ok (Reached bases verdict check) r.reaches fit)
   found_comes _ _ (solved {lp = lp} ok same_name same_options (wrong_prices {variable = variable} right)) = path_gives lp ok (PricesWrong variable) right tt
   found_comes _ _ (solved {lp = lp} ok same_name same_options (at_limit right)) =
-      subst (λ (c : Cells). Gives linear_programming_of_128_bits card (verb_move (verb_of verb) card state) (stops (endings.LimitStop (record { limit = steps_allowed c; card = card })))) s.cells (path_gives lp ok PathLimit right tt)
-  found_comes _ _ (solved {lp = lp} ok same_name same_options (overflows {e = e} {place = place} h fit)) = overflow_gives lp ok e (option_map place_view place) h fit
+      subst (λ (c : Cells). Gives linear_programming_of_128_bits card (verb_move (verb_of verb) card state)
+      (stops (endings.LimitStop (record { limit = steps_allowed c; card = card })))) s.cells (path_gives lp ok PathLimit right tt)
+  found_comes _ _ (solved {lp = lp} ok same_name same_options (overflows {e = e} {place = place} h fit)) =
+      overflow_gives lp ok e (option_map place_view place) h fit
 
-module _ (verb : SolvingVerb) (card : ℕ) (print_old print_new : SinkState) (cards : List (List ℕ)) (old : Machine) (setup new : Setup) (is_setup : old.setup ≡ Some setup)
+module _ (verb : SolvingVerb) (card : ℕ) (print_old print_new : SinkState) (cards : List (List ℕ)) (old : Machine) (setup new : Setup)
+    (is_setup : old.setup ≡ Some setup)
     (ready : IsReady old.file setup) (demands : AreDemands old.cells) where
   pub solving_found : (finding : Finding) (mark : Option Mark) (then : Act) → mark ≡ mark_left finding → then ≡ act_of old.cells card finding →
       ReportsFinding (Finds verb ready.problem old.cells setup new) print_old print_new (Ok finding) →
       Executes linear_programming_of_128_bits (verb_of verb) card print_old print_new cards old (record old { setup = Some new; mark = mark }) (Ok then)
   solving_found finding mark then e f t =
-      subst (λ (m : Option Mark). Executes linear_programming_of_128_bits (verb_of verb) card print_old print_new cards old (record old { setup = Some new; mark = m }) (Ok then)) (sym e)
-      (subst (λ (a : Act). Executes linear_programming_of_128_bits (verb_of verb) card print_old print_new cards old (record old { setup = Some new; mark = mark_left finding }) (Ok a)) (sym f)
-      (reported_executes (verb_of verb) card cards old (Finds verb ready.problem old.cells setup new) (λ found. record old { setup = Some new; mark = mark_left found }) (act_of old.cells card)
+      subst (λ (m : Option Mark). Executes linear_programming_of_128_bits (verb_of verb) card print_old print_new cards old
+      (record old { setup = Some new; mark = m }) (Ok then)) (sym e)
+      (subst (λ (a : Act). Executes linear_programming_of_128_bits (verb_of verb) card print_old print_new cards old
+      (record old { setup = Some new; mark = mark_left finding }) (Ok a)) (sym f)
+      (reported_executes (verb_of verb) card cards old (Finds verb ready.problem old.cells setup new)
+      (λ found. record old { setup = Some new; mark = mark_left found }) (act_of old.cells card)
       (no_cards_by verb ready.problem old.cells setup new)
       (λ gain found h position executed state s. found_comes verb card cards old setup new is_setup ready.problem ready.on_file demands position executed state s gain found h) print_old print_new finding t))
 
   pub solving_cut : (any : Machine) (h : Halt) → ReportsFinding (Finds verb ready.problem old.cells setup new) print_old print_new (Err h) →
       Executes linear_programming_of_128_bits (verb_of verb) card print_old print_new cards old any (Err h)
   solving_cut any h t =
-      cut_executes (verb_of verb) card cards old (Finds verb ready.problem old.cells setup new) (λ found. record old { setup = Some new; mark = mark_left found }) (act_of old.cells card)
+      cut_executes (verb_of verb) card cards old (Finds verb ready.problem old.cells setup new)
+      (λ found. record old { setup = Some new; mark = mark_left found }) (act_of old.cells card)
       (no_cards_by verb ready.problem old.cells setup new)
       (λ gain found h position executed state s. found_comes verb card cards old setup new is_setup ready.problem ready.on_file demands position executed state s gain found h) print_old print_new any h t

@@ -112,7 +112,8 @@ module _ (sheet : Sheet) (s now : Basis) (parametric_run : ParametricRun) (befor
     chained : {bases : List Basis} {intervals : List ParametricInterval} {end : ChainEnd} →
         ParametricRunReaches bases (Chained bases intervals end) → IntervalsFit intervals × EndFits end →
         ParametricRunFinds
-        (Prints (Parametric (parametric_solver parametric_run.changing) (record { from = parametric_run.from; change = changing_name parametric_run.changing; intervals = intervals; end = end })))
+        (Prints (Parametric (parametric_solver parametric_run.changing)
+        (record { from = parametric_run.from; change = changing_name parametric_run.changing; intervals = intervals; end = end })))
         (RanThrough (last_value end))
     at_limit : IsParametricRun sheet s parametric_run ParametricRunLimit → ParametricRunFinds Nothing Limit
     overflows : {e : Evidence} {place : Option OwnPlace} →

@@ -81,7 +81,9 @@ fn print_opening<P: Sink>(
     ensures { (s reached : answers.Basis) (before after : List Basics) →
         IsAnswered sheet.entry (parametric_run_view parametric_run.now) s reached before after
         (record { report = para_reports.Opening outcome.now; refused = refused }) →
-        ReportsFinding (ParametricRunFinds (sheet_view sheet.entry) s reached (parametric_run_view parametric_run.now) before after)
+        ReportsFinding
+        (ParametricRunFinds (sheet_view sheet.entry) s reached
+        (parametric_run_view parametric_run.now) before after)
         (P.taken print.old) (P.taken print.new) result }
 {
     recall_verdict(sheet, outcome, &refused);
@@ -117,7 +119,9 @@ fn print_chain<P: Sink>(
         (refused : Option RefusedOperation) →
         IsAnswered sheet.entry (parametric_run_view parametric_run.now) s reached before after
         (record { report = para_reports.Run run.now; refused = refused }) →
-        ReportsFinding (ParametricRunFinds (sheet_view sheet.entry) s reached (parametric_run_view parametric_run.now) before after)
+        ReportsFinding
+        (ParametricRunFinds (sheet_view sheet.entry) s reached
+        (parametric_run_view parametric_run.now) before after)
         (P.taken print.old) (P.taken print.new) result }
 {
     let to = parametric_run.to();
@@ -143,8 +147,11 @@ fn print_run<P: Sink>(
 ) -> Result<Finding, Halt>
     requires { IsPrintable sheet answer.now.report }
     ensures { (s reached : answers.Basis) (before after : List Basics) →
-        IsAnswered sheet.entry (parametric_run_view parametric_run.now) s reached before after answer.now →
-        ReportsFinding (ParametricRunFinds (sheet_view sheet.entry) s reached (parametric_run_view parametric_run.now) before after)
+        IsAnswered sheet.entry
+        (parametric_run_view parametric_run.now) s reached before after answer.now →
+        ReportsFinding
+        (ParametricRunFinds (sheet_view sheet.entry) s reached
+        (parametric_run_view parametric_run.now) before after)
         (P.taken print.old) (P.taken print.new) result }
 {
     match &answer.report {

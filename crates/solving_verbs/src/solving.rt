@@ -185,7 +185,8 @@ fn find<E: Engine, P: Sink>(
         (P.taken print.new) result }
     ensures ready { IsReady file.now setup.new }
     ensures solved { IfOk result
-        (λ finding. IfEnded finding (λ mark. IsSolved mark cells.now.xobj cells.now.xrhs file.now setup.new)) }
+        (λ finding. IfEnded finding
+        (λ mark. IsSolved mark cells.now.xobj cells.now.xrhs file.now setup.new)) }
 {
     let problem = problem_on_file(file, &setup.name);
     if let Err(refusal) = select_again(alloc, problem, cells, setup) {

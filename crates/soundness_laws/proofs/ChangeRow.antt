@@ -18,7 +18,8 @@ use Rattle.soundness_laws.specs.Truth.{IsOfProblem, named_by}
 
 -- ---- parametric runs
 
-pub changes_freely : (sheet : Sheet) (choice : Choice) (changing : Changing) → IsProblem sheet.problem → selected sheet.problem choice ≡ Ok sheet.lp → IsOfProblem changing sheet.problem → ChangesFreely sheet changing
+pub changes_freely : (sheet : Sheet) (choice : Choice) (changing : Changing) → IsProblem sheet.problem → selected sheet.problem choice ≡ Ok sheet.lp →
+    IsOfProblem changing sheet.problem → ChangesFreely sheet changing
 changes_freely sheet choice (RowChange name) is e free = row_is_free sheet.problem choice sheet.lp name is e free
 changes_freely sheet choice (Set name) is e there = tt
 
@@ -37,7 +38,8 @@ set_of_problem problem name changing e = by (has_group problem.rhs name) refl e
     by true is e = subst (λ x. IsOfProblem x problem) (same_Some (Set name) changing e) is
     by false is e = absurd (cc e)
 
-pub changes_part : (change : Problem ℕ → Name → Option Changing) → ((problem : Problem ℕ) (name : Name) (changing : Changing) → change problem name ≡ Some changing → IsOfProblem changing problem) →
+pub changes_part : (change : Problem ℕ → Name → Option Changing) →
+    ((problem : Problem ℕ) (name : Name) (changing : Changing) → change problem name ≡ Some changing → IsOfProblem changing problem) →
     (problem : Problem ℕ) (moved : Option Name) (changing : Changing) → option_and_then (change problem) moved ≡ Some changing → IsOfProblem changing problem
 changes_part change of_problem problem None changing e = absurd (cc e)
 changes_part change of_problem problem (Some name) changing e = of_problem problem name changing e

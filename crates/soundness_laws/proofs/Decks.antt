@@ -29,7 +29,8 @@ printable_cards (card ∷ cards) none = (printable_card card none.0, printable_c
 
 printable_job : (bytes : List ℕ) → job_fault bytes ≡ None → ArePrintableCards (numbered_cards (cards_of bytes))
 unfolding job_fault
-printable_job bytes none = printable_cards (numbered_cards (cards_of bytes)) (passes ((is_too_long bytes ⟹ TooLong) ∷ map card_fault (numbered_cards (cards_of bytes))) none).1
+printable_job bytes none =
+    printable_cards (numbered_cards (cards_of bytes)) (passes ((is_too_long bytes ⟹ TooLong) ∷ map card_fault (numbered_cards (cards_of bytes))) none).1
 
 -- ---- what holds of each element of a list holds of each of its parts
 
@@ -55,7 +56,8 @@ module _ {X : Type 0} (P : X → Type 0) where
   in_parts p [] each = tt
   in_parts p (x ∷ xs) each = by (p x) (in_parts p xs each.1)
     where
-      by : (b : Bool) → AllByRecursion (AllByRecursion P) (parts_ended_by p xs) → AllByRecursion (AllByRecursion P) (cond b ((x ∷ []) ∷ parts_ended_by p xs) (onto_first x (parts_ended_by p xs)))
+      by : (b : Bool) → AllByRecursion (AllByRecursion P) (parts_ended_by p xs) →
+          AllByRecursion (AllByRecursion P) (cond b ((x ∷ []) ∷ parts_ended_by p xs) (onto_first x (parts_ended_by p xs)))
       by true rest = ((each.0, tt), rest)
       by false rest = put_first x (parts_ended_by p xs) each.0 rest
 
@@ -76,16 +78,21 @@ IsPrintable card = list_all is_printable card.bytes ≡ true
 decks_printable : (cards : List Card) → ArePrintableCards cards → AllByRecursion ArePrintableCards (decks_of cards)
 unfolding decks_of
 decks_printable cards printable =
-    passing ArePrintableCards (λ deck. not (is_empty deck)) (map (without_leading (λ (card : Card). is_skipped card.bytes)) (parts_ended_by (begins Endata) cards))
+    passing ArePrintableCards (λ deck. not (is_empty deck))
+    (map (without_leading (λ (card : Card). is_skipped card.bytes)) (parts_ended_by (begins Endata) cards))
     (trimmed IsPrintable (λ (card : Card). is_skipped card.bytes) (parts_ended_by (begins Endata) cards) (in_parts IsPrintable (begins Endata) cards printable))
 
 -- the decks of a job whose cards have no fault
 pub job_printable : (bytes : List ℕ) (program : Program) → job_fault bytes ≡ None → AllByRecursion ArePrintableCards (job_decks program bytes)
-job_printable bytes program none = decks_printable (drop (program.decks_from - 1) (numbered_cards (cards_of bytes))) (dropped IsPrintable (program.decks_from - 1) (numbered_cards (cards_of bytes)) (printable_job bytes none))
+job_printable bytes program none =
+    decks_printable (drop (program.decks_from - 1) (numbered_cards (cards_of bytes)))
+    (dropped IsPrintable (program.decks_from - 1) (numbered_cards (cards_of bytes)) (printable_job bytes none))
 
 -- a deck that is taken, and those that are left
-pub taken_printable : (name : Option Name) (decks : List (List Card)) (taken : List Card × List (List Card)) → AllByRecursion ArePrintableCards decks → deck_taken name decks ≡ Some taken →
+pub taken_printable : (name : Option Name) (decks : List (List Card)) (taken : List Card × List (List Card)) → AllByRecursion ArePrintableCards decks →
+    deck_taken name decks ≡ Some taken →
     ArePrintableCards taken.0 × AllByRecursion ArePrintableCards taken.1
 unfolding deck_taken
 taken_printable name decks taken printable e =
-    first_of ArePrintableCards (without_leading (λ deck. not (is_wanted name deck)) decks) taken (dropped ArePrintableCards (prefix_len (λ deck. not (is_wanted name deck)) decks) decks printable) e
+    first_of ArePrintableCards (without_leading (λ deck. not (is_wanted name deck)) decks) taken
+    (dropped ArePrintableCards (prefix_len (λ deck. not (is_wanted name deck)) decks) decks printable) e

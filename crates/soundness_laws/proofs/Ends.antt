@@ -28,7 +28,8 @@ pub record IsProvedBest (p : LinearProgram) (s : Basis) (t : Tableau) : Type 0 w
 ends_optimal : (p : LinearProgram) (s : Basis) (t : Tableau) (z y : List ℚ) → turn p s t ≡ Ends (EndsOptimal z y) → IsOptimalTurn p s t (Ends (EndsOptimal z y))
 ends_optimal p s t z y turns = optimal_turn p s t z y (rule_of p s t (Ends (EndsOptimal z y)) turns)
 
-abbrev optimal_basis : (p : LinearProgram) (s : Basis) (t : Tableau) (z y : List ℚ) → IsNonsingularBasis p s → IsTableau p s t → turn p s t ≡ Ends (EndsOptimal z y) → IsOptimalBasis p s
+abbrev optimal_basis : (p : LinearProgram) (s : Basis) (t : Tableau) (z y : List ℚ) → IsNonsingularBasis p s → IsTableau p s t →
+    turn p s t ≡ Ends (EndsOptimal z y) → IsOptimalBasis p s
 optimal_basis p s t z y at tab turns = record {
   is_basis = at.is_basis;
   nonsingular = at.nonsingular;
@@ -41,7 +42,12 @@ optimal_basis p s t z y at tab turns = record {
 -- a tableau at which the path ends optimal makes the basis optimal
 optimal_at : (p : LinearProgram) (s : Basis) (t : Tableau) (z y : List ℚ) → IsNonsingularBasis p s → IsTableau p s t → turn p s t ≡ Ends (EndsOptimal z y) →
     IsLinearProgram p → IsProvedBest p s t
-optimal_at p s t z y at tab turns lawful = record { best = best_by_basis p lawful s (optimal_basis p s t z y at tab turns); certificate = prices_prove_optimal p lawful s (optimal_basis p s t z y at tab turns) }
+optimal_at p s t z y at tab turns lawful =
+    record {
+      best = best_by_basis p lawful s (optimal_basis p s t z y at tab turns);
+      certificate = prices_prove_optimal p lawful s
+          (optimal_basis p s t z y at tab turns);
+    }
 
 same_tableau : (p : LinearProgram) (s : Basis) (t u : Tableau) → IsNonsingularBasis p s → IsTableau p s t → IsTableau p s u → SameTableau p s t u
 same_tableau p s t u at first second = record {
@@ -50,7 +56,8 @@ same_tableau p s t u at first second = record {
 }
 
 -- where the path ends optimal, every tableau of the basis shows what is best
-pub reported_is_best : (p : LinearProgram) (s : Basis) (t : Tableau) (z y : List ℚ) → IsTableau p s t → EndsAt p s (EndsOptimal z y) → IsNonsingularBasis p s → IsLinearProgram p → IsProvedBest p s t
+pub reported_is_best : (p : LinearProgram) (s : Basis) (t : Tableau) (z y : List ℚ) → IsTableau p s t → EndsAt p s (EndsOptimal z y) → IsNonsingularBasis p s →
+    IsLinearProgram p → IsProvedBest p s t
 reported_is_best p s t z y tab ends at lawful =
     let same = turn_same p s t ends.tableau lawful at.is_basis (same_tableau p s t ends.tableau at tab ends.is_tableau) in
     optimal_at p s t z y at tab (same ∙ ends.turns) lawful
@@ -74,7 +81,8 @@ module _ (sheet : Sheet) (s : Basis) (steps : ℕ) (lawful : IsLinearProgram she
       (record { point = z; direction = d; proves = proves; is_objective = plain (value_at z); are_lines = refl }, unbounded_by_direction sheet.lp _ _ proves)
 
 -- and so is the verdict of a path
-pub path_is_true : (sheet : Sheet) (s : Basis) (bases : List Basis) (ending : PathEnding) (steps : ℕ) (verdict : PathVerdict) → IsLinearProgram sheet.lp → HasNoChange sheet.lp → IsNonsingularBasis sheet.lp s →
+pub path_is_true : (sheet : Sheet) (s : Basis) (bases : List Basis) (ending : PathEnding) (steps : ℕ) (verdict : PathVerdict) → IsLinearProgram sheet.lp →
+    HasNoChange sheet.lp → IsNonsingularBasis sheet.lp s →
     PathEnds sheet.lp s bases ending → verdict ≡ verdict_of sheet steps ending → IsTrueOf sheet verdict
 path_is_true sheet s bases ending steps verdict lawful plain at path is =
     subst (IsTrueOf sheet) (sym is) (end_is_true sheet (last_of s bases) steps lawful plain (path_leads sheet.lp s bases at path.is_path) ending path.ends)

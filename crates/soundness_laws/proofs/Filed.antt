@@ -81,22 +81,27 @@ may_stop S card refusals move led = record { by = at }
     at given (inl gives) = led.by given gives
     at given (inr stop) = subst Leads (sym stop.3) tt
 
-answered : (S : Solving) (card : ℕ) (question : Question) (sheet : Sheet) (s : Basis) (go : AnswerTo question → StatementOutcome) → ((answer : AnswerTo question) → Leads (go answer)) → IsLed S card (Asks question sheet s go)
+answered : (S : Solving) (card : ℕ) (question : Question) (sheet : Sheet) (s : Basis) (go : AnswerTo question → StatementOutcome) →
+    ((answer : AnswerTo question) → Leads (go answer)) → IsLed S card (Asks question sheet s go)
 answered S card question sheet s go leads = record { by = λ given a. subst Leads (sym a.2) (leads a.0) }
 
-unless_fault : {X : Type 0} (S : Solving) (card : ℕ) (fault : VerbFault) (o : Option X) (go : X → StatementMove) → ((x : X) → o ≡ Some x → IsLed S card (go x)) → IsLed S card (or_fault card fault o go)
+unless_fault : {X : Type 0} (S : Solving) (card : ℕ) (fault : VerbFault) (o : Option X) (go : X → StatementMove) →
+    ((x : X) → o ≡ Some x → IsLed S card (go x)) → IsLed S card (or_fault card fault o go)
 unless_fault S card fault None go led = does S card _ tt
 unless_fault S card fault (Some x) go led = led x refl
 
-unless_deck_fault : {X : Type 0} (S : Solving) (card : ℕ) (r : Result X DeckFault) (go : X → StatementMove) → ((x : X) → r ≡ Ok x → IsLed S card (go x)) → IsLed S card (or_deck_fault r go)
+unless_deck_fault : {X : Type 0} (S : Solving) (card : ℕ) (r : Result X DeckFault) (go : X → StatementMove) → ((x : X) → r ≡ Ok x → IsLed S card (go x)) →
+    IsLed S card (or_deck_fault r go)
 unless_deck_fault S card (Err fault) go led = does S card _ tt
 unless_deck_fault S card (Ok x) go led = led x refl
 
-unless_selection_fault : (S : Solving) (card : ℕ) (r : Result LinearProgram SelectionFault) (go : LinearProgram → StatementMove) → ((lp : LinearProgram) → IsLed S card (go lp)) → IsLed S card (or_selection_fault card r go)
+unless_selection_fault : (S : Solving) (card : ℕ) (r : Result LinearProgram SelectionFault) (go : LinearProgram → StatementMove) →
+    ((lp : LinearProgram) → IsLed S card (go lp)) → IsLed S card (or_selection_fault card r go)
 unless_selection_fault S card (Err fault) go led = does S card _ tt
 unless_selection_fault S card (Ok lp) go led = led lp
 
-selecting : (S : Solving) (card : ℕ) (problem : Problem ℕ) (choice : Choice) (go : LinearProgram → StatementMove) → ((lp : LinearProgram) → IsLed S card (go lp)) → IsLed S card (selects card problem choice go)
+selecting : (S : Solving) (card : ℕ) (problem : Problem ℕ) (choice : Choice) (go : LinearProgram → StatementMove) →
+    ((lp : LinearProgram) → IsLed S card (go lp)) → IsLed S card (selects card problem choice go)
 selecting S card problem choice go led = unless_selection_fault S card (selected problem choice) _ (λ lp. may_stop S card _ (go lp) (led lp))
 
 -- ---- states
@@ -118,7 +123,8 @@ found p (first ∷ file) problem each e = by (p first) e (found p file problem e
     by true e rest = subst IsProblem (same_Some first problem e) each.0
     by false e rest = rest e
 
-filed : (name : Option Name) (file : List (Problem ℕ)) (problem : Problem ℕ) → AllByRecursion IsProblem file → problem_of name file ≡ Some problem → IsProblem problem
+filed : (name : Option Name) (file : List (Problem ℕ)) (problem : Problem ℕ) → AllByRecursion IsProblem file → problem_of name file ≡ Some problem →
+    IsProblem problem
 filed (Some name) file problem each e = found (λ (other : Problem ℕ). same name other.name) file problem each e
 filed None [] problem each e = absurd (cc e)
 filed None (first ∷ file) problem each e = subst IsProblem (same_Some first problem e) each.0
@@ -147,7 +153,8 @@ converts_led S card state lawful =
     unless_fault {X = List Card × List (List Card)} S card VerbFault.DeckNotFound (deck_taken state.cells.xdata state.decks) _ (λ taken e.
     unless_deck_fault S card (conversion taken.0 state.cells.xpbname) (files Converted taken.1 state) (λ problem is. files_problem taken e problem is))
   where
-    files_problem : (taken : List Card × List (List Card)) → deck_taken state.cells.xdata state.decks ≡ Some taken → (problem : Problem ℕ) → conversion taken.0 state.cells.xpbname ≡ Ok problem →
+    files_problem : (taken : List Card × List (List Card)) → deck_taken state.cells.xdata state.decks ≡ Some taken → (problem : Problem ℕ) →
+        conversion taken.0 state.cells.xpbname ≡ Ok problem →
         IsLed S card (files Converted taken.1 state problem)
     files_problem taken e problem is =
         let printable = taken_printable state.cells.xdata state.decks taken lawful.decks e in
@@ -165,7 +172,8 @@ revises_led S card state lawful =
     unless_deck_fault S card (revision old taken.0 state.cells.xpbname) (files Revised taken.1 state) (λ problem is.
     files_revised old (filed state.cells.xoldname state.file old lawful.file o) taken e problem is)))
   where
-    files_revised : (old : Problem ℕ) → IsProblem old → (taken : List Card × List (List Card)) → deck_taken state.cells.xdata state.decks ≡ Some taken → (problem : Problem ℕ) →
+    files_revised : (old : Problem ℕ) → IsProblem old → (taken : List Card × List (List Card)) → deck_taken state.cells.xdata state.decks ≡ Some taken →
+        (problem : Problem ℕ) →
         revision old taken.0 state.cells.xpbname ≡ Ok problem → IsLed S card (files Revised taken.1 state problem)
     files_revised old was taken e problem is =
         let printable = taken_printable state.cells.xdata state.decks taken lawful.decks e in
@@ -188,22 +196,26 @@ sets_up_led S card options state lawful =
 
 punches_led : (S : Solving) (card : ℕ) (state : State) → AreLawful state → IsLed S card (punches card state)
 punches_led S card state lawful =
-    unless_fault S card VerbFault.NoProblem (problem_of state.cells.xpbname state.file) _ (λ problem e. does S card _ (record { file = lawful.file; setup = lawful.setup; decks = lawful.decks; name = lawful.name }))
+    unless_fault S card VerbFault.NoProblem (problem_of state.cells.xpbname state.file) _
+    (λ problem e. does S card _ (record { file = lawful.file; setup = lawful.setup; decks = lawful.decks; name = lawful.name }))
 
 module _ (S : Solving) where
-  pathed : (solver : Solver) (card : ℕ) (present : Present) (state : State) → AreLawful state → IsProblem present.problem → (end : PathEnd) → Leads (after_path solver card present state end)
+  pathed : (solver : Solver) (card : ℕ) (present : Present) (state : State) → AreLawful state → IsProblem present.problem → (end : PathEnd) →
+      Leads (after_path solver card present state end)
   pathed solver card present state lawful is (Reached bases verdict check) =
       by_verdict_leads _ _ _ (record { file = lawful.file; setup = with_setup (gone_through bases present) is; decks = lawful.decks; name = lawful.name })
   pathed solver card present state lawful is PathLimit = tt
   pathed solver card present state lawful is (PricesWrong j) = tt
 
-  installed : (card : ℕ) (lp : LinearProgram) (s : Basis) (taken : List Card × List (List Card)) (present : Present) (state : State) → AreLawful state → AllByRecursion ArePrintableCards taken.1 →
+  installed : (card : ℕ) (lp : LinearProgram) (s : Basis) (taken : List Card × List (List Card)) (present : Present) (state : State) → AreLawful state →
+      AllByRecursion ArePrintableCards taken.1 →
       IsProblem present.problem → (end : InstallEnd) → Leads (after_install card lp s taken present state end)
   installed card lp s taken present state lawful printable is Installed =
       record { file = lawful.file; setup = with_setup (record present { opening = s; steps = [] }) is; decks = printable; name = lawful.name }
   installed card lp s taken present state lawful printable is (DependsBy lines) = tt
 
-  run_through : (card : ℕ) (parametric_run : ParametricRun) (present : Present) (state : State) → AreLawful state → IsProblem present.problem → (end : ParametricRunEnd) → Leads (after_parametric_run card parametric_run present state end)
+  run_through : (card : ℕ) (parametric_run : ParametricRun) (present : Present) (state : State) → AreLawful state → IsProblem present.problem →
+      (end : ParametricRunEnd) → Leads (after_parametric_run card parametric_run present state end)
   run_through card parametric_run present state lawful is (Opening bases verdict check) =
       by_verdict_leads _ _ _ (record { file = lawful.file; setup = with_setup (gone_through bases present) is; decks = lawful.decks; name = lawful.name })
   run_through card parametric_run present state lawful is (Chained bases intervals end) =
@@ -220,7 +232,8 @@ module _ (S : Solving) where
       IsLed S card (shows_present card state present question report)
   showing_led card state present question report lawful =
       unless_selection_fault S card (selected present.problem (choice_of state.cells present.options)) _ (λ lp.
-      may_stop S card _ _ (answered S card question _ _ _ (λ lines. record { file = lawful.file; setup = lawful.setup; decks = lawful.decks; name = lawful.name })))
+      may_stop S card _ _
+      (answered S card question _ _ _ (λ lines. record { file = lawful.file; setup = lawful.setup; decks = lawful.decks; name = lawful.name })))
 
   shows_led : (card : ℕ) (state : State) → AreLawful state → IsLed S card (shows card state)
   shows_led card state lawful =
@@ -235,18 +248,24 @@ module _ (S : Solving) where
       unless_fault {X = Mark} S card VerbFault.NotOptimal (if_optimal mark) _ (λ optimal o.
       showing_led card state present OfRanges Ranges lawful)))
 
-  asked_led : (card : ℕ) (present : Present) (state : State) (lp : LinearProgram) (parametric_run : ParametricRun) → AreLawful state → IsProblem present.problem →
-      IsLed S card (asks (OfParametricRun parametric_run) (record { problem = present.problem; lp = lp }) present (after_parametric_run card parametric_run present state))
-  asked_led card present state lp parametric_run lawful is = may_stop S card _ _ (answered S card (OfParametricRun parametric_run) _ _ _ (run_through card parametric_run present state lawful is))
+  asked_led : (card : ℕ) (present : Present) (state : State) (lp : LinearProgram) (parametric_run : ParametricRun) → AreLawful state →
+      IsProblem present.problem →
+      IsLed S card
+      (asks (OfParametricRun parametric_run) (record { problem = present.problem; lp = lp }) present
+      (after_parametric_run card parametric_run present state))
+  asked_led card present state lp parametric_run lawful is =
+      may_stop S card _ _ (answered S card (OfParametricRun parametric_run) _ _ _ (run_through card parametric_run present state lawful is))
 
-  parametric_runs_led : (card : ℕ) (fault : VerbFault) (change : Problem ℕ → Name → Option Changing) (moved : Option Name) (state : State) → AreLawful state → IsLed S card (parametric_runs card fault change moved state)
+  parametric_runs_led : (card : ℕ) (fault : VerbFault) (change : Problem ℕ → Name → Option Changing) (moved : Option Name) (state : State) → AreLawful state →
+      IsLed S card (parametric_runs card fault change moved state)
   parametric_runs_led card fault change moved state lawful =
       unless_fault S card VerbFault.NoSetup state.setup _ (λ present e.
       selecting S card present.problem _ _ (λ lp.
       unless_fault {X = Changing} S card fault (option_and_then (change present.problem) moved) _ (λ changing c.
       unless_fault {X = ℚ} S card VerbFault.NoParmax state.cells.xparmax _ (λ last l.
       unless_fault {X = ℚ} S card VerbFault.ParmaxBelow (not_less state.cells.xparam last) _ (λ to t.
-      asked_led card present state lp (record { changing = changing; from = state.cells.xparam; to = to; limit = steps_allowed state.cells }) lawful (lawful.setup present e))))))
+      asked_led card present state lp (record { changing = changing; from = state.cells.xparam; to = to; limit = steps_allowed state.cells }) lawful
+      (lawful.setup present e))))))
 
   punches_basis_led : (card : ℕ) (state : State) → AreLawful state → IsLed S card (punches_basis card state)
   punches_basis_led card state lawful =
@@ -267,11 +286,16 @@ module _ (S : Solving) where
   unfolding verb_move
   verb_led Initialz card state names lawful = does S card _ (record { file = lawful.file; setup = lawful.setup; decks = lawful.decks; name = tt })
   verb_led (Title text) card state names lawful = does S card _ (record { file = lawful.file; setup = lawful.setup; decks = lawful.decks; name = lawful.name })
-  verb_led (MoveName cell name) card state names lawful = does S card _ (record { file = lawful.file; setup = lawful.setup; decks = lawful.decks; name = named cell name state.cells names lawful.name })
-  verb_led (MoveNumber cell value) card state names lawful = does S card _ (record { file = lawful.file; setup = lawful.setup; decks = lawful.decks; name = numbered cell value state.cells lawful.name })
-  verb_led (MoveLimit limit) card state names lawful = does S card _ (record { file = lawful.file; setup = lawful.setup; decks = lawful.decks; name = lawful.name })
-  verb_led (Mvadr demand position) card state names lawful = does S card _ (record { file = lawful.file; setup = lawful.setup; decks = lawful.decks; name = demanding demand position state.cells lawful.name })
-  verb_led (Goto position) card state names lawful = does S card _ (record { file = lawful.file; setup = lawful.setup; decks = lawful.decks; name = lawful.name })
+  verb_led (MoveName cell name) card state names lawful =
+      does S card _ (record { file = lawful.file; setup = lawful.setup; decks = lawful.decks; name = named cell name state.cells names lawful.name })
+  verb_led (MoveNumber cell value) card state names lawful =
+      does S card _ (record { file = lawful.file; setup = lawful.setup; decks = lawful.decks; name = numbered cell value state.cells lawful.name })
+  verb_led (MoveLimit limit) card state names lawful =
+      does S card _ (record { file = lawful.file; setup = lawful.setup; decks = lawful.decks; name = lawful.name })
+  verb_led (Mvadr demand position) card state names lawful =
+      does S card _ (record { file = lawful.file; setup = lawful.setup; decks = lawful.decks; name = demanding demand position state.cells lawful.name })
+  verb_led (Goto position) card state names lawful =
+      does S card _ (record { file = lawful.file; setup = lawful.setup; decks = lawful.decks; name = lawful.name })
   verb_led Convert card state names lawful = converts_led S card state lawful
   verb_led Revise card state names lawful = revises_led S card state lawful
   verb_led (Setup options) card state names lawful = sets_up_led S card options state lawful
@@ -288,20 +312,24 @@ module _ (S : Solving) where
 
   -- ---- runs
 
-  step_leads : (program : Program) (state : State) (outcome : StatementOutcome) → HasNames program → AreLawful state → Step S program state outcome → Leads outcome
+  step_leads : (program : Program) (state : State) (outcome : StatementOutcome) → HasNames program → AreLawful state → Step S program state outcome →
+      Leads outcome
   step_leads program state outcome names lawful step =
       (verb_led step.statement.verb step.statement.card (counted state) (statement_at program _ step.statement names step.is_at_position)
       (record { file = lawful.file; setup = lawful.setup; decks = lawful.decks; name = lawful.name })).by outcome step.gives
 
-  reaching : (program : Program) (decks : List (List Card)) (reports : List Report) (cards : List (List ℕ)) (state : State) → HasNames program → AllByRecursion ArePrintableCards decks →
+  reaching : (program : Program) (decks : List (List Card)) (reports : List Report) (cards : List (List ℕ)) (state : State) → HasNames program →
+      AllByRecursion ArePrintableCards decks →
       Reaches S program decks reports cards state → AreLawful state
   reaching program decks _ _ _ names printable begun = record { file = tt; setup = without_setup; decks = printable; name = tt }
   reaching program decks _ _ _ names printable (stepped {reports} {cards} {state} gain after before step) =
       step_leads program state (Goes gain after) names (reaching program decks reports cards state names printable before) step
 
-  pub job_reaching : (bytes : List ℕ) (program : Program) (reports : List Report) (cards : List (List ℕ)) (state : State) → IsSoFar S bytes reports cards program state → AreLawful state
+  pub job_reaching : (bytes : List ℕ) (program : Program) (reports : List Report) (cards : List (List ℕ)) (state : State) →
+      IsSoFar S bytes reports cards program state → AreLawful state
   job_reaching bytes program reports cards state so_far =
-      reaching program _ reports cards state (compiled_named _ program so_far.is_program.is_compiled) (job_printable bytes program so_far.is_program.is_read) so_far.reaches
+      reaching program _ reports cards state (compiled_named _ program so_far.is_program.is_compiled)
+      (job_printable bytes program so_far.is_program.is_read) so_far.reaches
 
   pub files_problems : FilesProblems S
   files_problems = record {

@@ -41,7 +41,8 @@ KnowsMark mark setup objective rhs = mark ≡ Some Optimal → EndsOptimally set
 
 -- whatever the cells select of the setup's problem, the present basis is a nonsingular basis of it
 pub record HasBases (present : Present) : Type 0 where
-  pub in_each : (objective rhs : Option Name) (lp : LinearProgram) → selected present.problem (record { objective = objective; rhs = rhs; options = present.options }) ≡ Ok lp →
+  pub in_each : (objective rhs : Option Name) (lp : LinearProgram) →
+      selected present.problem (record { objective = objective; rhs = rhs; options = present.options }) ≡ Ok lp →
       IsNonsingularBasis lp (present_basis present)
 
 abbrev pub KnowsBases : Option Present → Type 0
@@ -64,7 +65,8 @@ abbrev pub HasProblem : Option Present → Type 0
 HasProblem setup = (present : Present) → setup ≡ Some present → IsProblem present.problem
 
 -- a nonsingular basis of what is selected now is one of all that may be selected
-pub with_basis : (present : Present) (objective rhs : Option Name) (lp : LinearProgram) → selected present.problem (record { objective = objective; rhs = rhs; options = present.options }) ≡ Ok lp →
+pub with_basis : (present : Present) (objective rhs : Option Name) (lp : LinearProgram) →
+    selected present.problem (record { objective = objective; rhs = rhs; options = present.options }) ≡ Ok lp →
     IsNonsingularBasis lp (present_basis present) → KnowsBases (Some present)
 with_basis present objective rhs lp is at other e = subst HasBases same (record {
   in_each = λ objective' rhs' lp' is'. basis_of_either present.problem present.options objective rhs objective' rhs' lp lp' (present_basis present) is is' at;
@@ -88,7 +90,8 @@ pub record IsKept (S : Solving) (at : State) (card : ℕ) (move : StatementMove)
 pub does : (S : Solving) (at : State) (card : ℕ) (outcome : StatementOutcome) → Keeps at outcome → IsKept S at card (Does outcome)
 does S at card outcome keeps = record { by = λ given e. subst (Keeps at) (sym e) keeps }
 
-pub may_stop : (S : Solving) (at : State) (card : ℕ) (refusals : Refusals) (move : StatementMove) → IsKept S at card move → IsKept S at card (MayStop refusals move)
+pub may_stop : (S : Solving) (at : State) (card : ℕ) (refusals : Refusals) (move : StatementMove) → IsKept S at card move →
+    IsKept S at card (MayStop refusals move)
 may_stop S at card refusals move kept = record { by = gives_so }
   where
     gives_so : (given : StatementOutcome) → Gives S card (MayStop refusals move) given → Keeps at given
@@ -99,19 +102,23 @@ pub answered : (S : Solving) (at : State) (card : ℕ) (question : Question) (sh
     ((answer : AnswerTo question) → IsRight S question sheet s answer → Keeps at (go answer)) → IsKept S at card (Asks question sheet s go)
 answered S at card question sheet s go kept = record { by = λ given a. subst (Keeps at) (sym a.2) (kept a.0 a.1) }
 
-pub unless_fault : {X : Type 0} (S : Solving) (at : State) (card : ℕ) (fault : VerbFault) (o : Option X) (go : X → StatementMove) → ((x : X) → o ≡ Some x → IsKept S at card (go x)) → IsKept S at card (or_fault card fault o go)
+pub unless_fault : {X : Type 0} (S : Solving) (at : State) (card : ℕ) (fault : VerbFault) (o : Option X) (go : X → StatementMove) →
+    ((x : X) → o ≡ Some x → IsKept S at card (go x)) → IsKept S at card (or_fault card fault o go)
 unless_fault S at card fault None go kept = does S at card _ (tt, tt)
 unless_fault S at card fault (Some x) go kept = kept x refl
 
-pub unless_deck_fault : {X : Type 0} (S : Solving) (at : State) (card : ℕ) (r : Result X DeckFault) (go : X → StatementMove) → ((x : X) → r ≡ Ok x → IsKept S at card (go x)) → IsKept S at card (or_deck_fault r go)
+pub unless_deck_fault : {X : Type 0} (S : Solving) (at : State) (card : ℕ) (r : Result X DeckFault) (go : X → StatementMove) →
+    ((x : X) → r ≡ Ok x → IsKept S at card (go x)) → IsKept S at card (or_deck_fault r go)
 unless_deck_fault S at card (Err fault) go kept = does S at card _ (tt, tt)
 unless_deck_fault S at card (Ok x) go kept = kept x refl
 
-pub unless_selection_fault : (S : Solving) (at : State) (card : ℕ) (r : Result LinearProgram SelectionFault) (go : LinearProgram → StatementMove) → ((lp : LinearProgram) → r ≡ Ok lp → IsKept S at card (go lp)) →
+pub unless_selection_fault : (S : Solving) (at : State) (card : ℕ) (r : Result LinearProgram SelectionFault) (go : LinearProgram → StatementMove) →
+    ((lp : LinearProgram) → r ≡ Ok lp → IsKept S at card (go lp)) →
     IsKept S at card (or_selection_fault card r go)
 unless_selection_fault S at card (Err fault) go kept = does S at card _ (tt, tt)
 unless_selection_fault S at card (Ok lp) go kept = kept lp refl
 
-pub selecting : (S : Solving) (at : State) (card : ℕ) (problem : Problem ℕ) (choice : Choice) (go : LinearProgram → StatementMove) → ((lp : LinearProgram) → selected problem choice ≡ Ok lp → IsKept S at card (go lp)) →
+pub selecting : (S : Solving) (at : State) (card : ℕ) (problem : Problem ℕ) (choice : Choice) (go : LinearProgram → StatementMove) →
+    ((lp : LinearProgram) → selected problem choice ≡ Ok lp → IsKept S at card (go lp)) →
     IsKept S at card (selects card problem choice go)
 selecting S at card problem choice go kept = unless_selection_fault S at card (selected problem choice) _ (λ lp e. may_stop S at card _ (go lp) (kept lp e))

@@ -47,11 +47,13 @@ element_holds P [] i x each e = absurd (cc e)
 element_holds P (y ∷ xs) zero x each e = subst P (same_Some y x e) each.0
 element_holds P (y ∷ xs) (suc i) x each e = element_holds P xs i x each.1 e
 
-line_holds : {X : Type 0} (P : X → Type 0) (table : List (List ℕ × X)) (word : List ℕ) → AllByRecursion (λ (line : List ℕ × X). P line.1) table → IfSome (named table word) P
+line_holds : {X : Type 0} (P : X → Type 0) (table : List (List ℕ × X)) (word : List ℕ) → AllByRecursion (λ (line : List ℕ × X). P line.1) table →
+    IfSome (named table word) P
 line_holds P [] word each = tt
 line_holds P (line ∷ table) word each = by (bytes_eq line.0 word) (line_holds P table word each.1)
   where
-    by : (b : Bool) → IfSome (named table word) P → IfSome (option_map (λ (l : List ℕ × _). l.1) (cond b (Some line) (find (λ (l : List ℕ × _). bytes_eq l.0 word) table))) P
+    by : (b : Bool) → IfSome (named table word) P →
+        IfSome (option_map (λ (l : List ℕ × _). l.1) (cond b (Some line) (find (λ (l : List ℕ × _). bytes_eq l.0 word) table))) P
     by true rest = each.0
     by false rest = rest
 
@@ -81,7 +83,8 @@ AloneNamed (Alone verb) = MovesName verb
 AloneNamed _ = Unit {0}
 
 words_named : (word : List ℕ) → IfSome (named verb_words word) AloneNamed
-words_named word = line_holds AloneNamed verb_words word (tt, (tt, (tt, (tt, (tt, (tt, (tt, (tt, (tt, (tt, (tt, (tt, (tt, (tt, (tt, (tt, (tt, (tt, (tt, tt)))))))))))))))))))
+words_named word =
+    line_holds AloneNamed verb_words word (tt, (tt, (tt, (tt, (tt, (tt, (tt, (tt, (tt, (tt, (tt, (tt, (tt, (tt, (tt, (tt, (tt, (tt, (tt, tt)))))))))))))))))))
 
 with_named : (word : VerbWord) (arguments : Arguments) → AloneNamed word → IfSome (verb_with word arguments) MovesName
 with_named (Alone verb) Without alone = alone
@@ -96,14 +99,16 @@ with_named TakesCell Without alone = tt
 with_named TakesCell Malformed alone = tt
 with_named TakesCell (With []) alone = tt
 with_named TakesCell (With (cell ∷ [])) alone = tt
-with_named TakesCell (With (cell ∷ value ∷ [])) alone = then_holds MovesName (λ known. moved known value) (named cell_words cell) (λ known. moved_named known value)
+with_named TakesCell (With (cell ∷ value ∷ [])) alone =
+    then_holds MovesName (λ known. moved known value) (named cell_words cell) (λ known. moved_named known value)
 with_named TakesCell (With (cell ∷ value ∷ next ∷ parts)) alone = tt
 with_named TakesDemand Without alone = tt
 with_named TakesDemand Malformed alone = tt
 with_named TakesDemand (With []) alone = tt
 with_named TakesDemand (With (demand ∷ [])) alone = tt
 with_named TakesDemand (With (demand ∷ label ∷ [])) alone =
-    then_holds MovesName (λ known. option_map (λ text. Mvadr known text) (label_text label)) (named demand_words demand) (λ known. mapped MovesName (λ text. Mvadr known text) (label_text label) (λ text. tt))
+    then_holds MovesName (λ known. option_map (λ text. Mvadr known text) (label_text label)) (named demand_words demand)
+    (λ known. mapped MovesName (λ text. Mvadr known text) (label_text label) (λ text. tt))
 with_named TakesDemand (With (demand ∷ label ∷ next ∷ parts)) alone = tt
 with_named TakesLabel Without alone = tt
 with_named TakesLabel Malformed alone = tt
@@ -152,7 +157,8 @@ by_named f Exit holds = tt
 statement_named : (cards : List Card) (card : Card) → IfSome (statement_on cards card) (λ (statement : Statement ℕ). MovesName statement.verb)
 statement_named cards card = by (verb_of card.bytes) (said_named card.bytes)
   where
-    by : (o : Option (Verb (List ℕ))) → IfSome o MovesName → IfSome (option_map (λ verb. record { card = card.number; verb = positioned cards verb }) o) (λ (statement : Statement ℕ). MovesName statement.verb)
+    by : (o : Option (Verb (List ℕ))) → IfSome o MovesName →
+        IfSome (option_map (λ verb. record { card = card.number; verb = positioned cards verb }) o) (λ (statement : Statement ℕ). MovesName statement.verb)
     by None holds = tt
     by (Some verb) holds = by_named _ verb holds
 
@@ -167,8 +173,10 @@ made (Some fault) program value e = cc
 pub compiled_named : (cards : List (List ℕ)) (program : Program) → compiled cards ≡ Ok program → HasNames program
 unfolding compiled
 compiled_named cards program e =
-    subst HasNames (made (control_fault cards) program (program_of (cards_to_pend (live (numbered_cards cards)))) e) (program_named (cards_to_pend (live (numbered_cards cards))))
+    subst HasNames (made (control_fault cards) program (program_of (cards_to_pend (live (numbered_cards cards)))) e)
+    (program_named (cards_to_pend (live (numbered_cards cards))))
 
 -- and its statements
-pub statement_at : (program : Program) (place : ℕ) (statement : Statement ℕ) → HasNames program → slice_get program.statements place ≡ Some statement → MovesName statement.verb
+pub statement_at : (program : Program) (place : ℕ) (statement : Statement ℕ) → HasNames program → slice_get program.statements place ≡ Some statement →
+    MovesName statement.verb
 statement_at program place statement names e = element_holds (λ (s : Statement ℕ). MovesName s.verb) program.statements place statement names e

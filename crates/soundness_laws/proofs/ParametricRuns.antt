@@ -14,16 +14,21 @@ runs_of : (sheet : Sheet) (changing : Changing) → LeadsToBases sheet.lp (famil
 runs_of sheet (Row name) = objective_runs sheet.lp (row_of sheet.problem name)
 runs_of sheet (Set name) = rhs_runs sheet.lp (shifts_of sheet.problem name)
 
-pub run_through_leads : (sheet : Sheet) (s : Basis) (parametric_run : ParametricRun) (end : ParametricRunEnd) → IsParametricRun sheet s parametric_run end → IsNonsingularBasis sheet.lp s → IsNonsingularBasis sheet.lp (last_of s (gone_over end))
-run_through_leads sheet s parametric_run (Opening bases verdict check) fails at = (runs_of sheet parametric_run.changing).last parametric_run.from parametric_run.to s (FailedOpening fails.ending) bases at fails.opens
-run_through_leads sheet s parametric_run (Chained bases intervals end) chained at = (runs_of sheet parametric_run.changing).last parametric_run.from parametric_run.to s (Chain chained.parts chained.past) bases at chained.is_run
+pub run_through_leads : (sheet : Sheet) (s : Basis) (parametric_run : ParametricRun) (end : ParametricRunEnd) → IsParametricRun sheet s parametric_run end →
+    IsNonsingularBasis sheet.lp s → IsNonsingularBasis sheet.lp (last_of s (gone_over end))
+run_through_leads sheet s parametric_run (Opening bases verdict check) fails at =
+    (runs_of sheet parametric_run.changing).last parametric_run.from parametric_run.to s (FailedOpening fails.ending) bases at fails.opens
+run_through_leads sheet s parametric_run (Chained bases intervals end) chained at =
+    (runs_of sheet parametric_run.changing).last parametric_run.from parametric_run.to s (Chain chained.parts chained.past) bases at chained.is_run
 run_through_leads sheet s parametric_run ParametricRunLimit on at = at
 
-true_of : (sheet : Sheet) (changing : Changing) → IsLinearProgram sheet.lp → ChangesFreely sheet changing → HasTrueRuns sheet.lp (family_of sheet changing) (IsFace sheet changing)
+true_of : (sheet : Sheet) (changing : Changing) → IsLinearProgram sheet.lp → ChangesFreely sheet changing →
+    HasTrueRuns sheet.lp (family_of sheet changing) (IsFace sheet changing)
 true_of sheet (Row name) lawful free = objective_true sheet.lp (row_of sheet.problem name) lawful free.0 free.1
 true_of sheet (Set name) lawful free = rhs_true sheet.lp (shifts_of sheet.problem name) lawful
 
-pub run_through_true : (sheet : Sheet) (s : Basis) (parametric_run : ParametricRun) (end : ParametricRunEnd) → IsLinearProgram sheet.lp → ChangesFreely sheet parametric_run.changing → IsNonsingularBasis sheet.lp s →
+pub run_through_true : (sheet : Sheet) (s : Basis) (parametric_run : ParametricRun) (end : ParametricRunEnd) → IsLinearProgram sheet.lp →
+    ChangesFreely sheet parametric_run.changing → IsNonsingularBasis sheet.lp s →
     IsParametricRun sheet s parametric_run end → IsTrueParametricRun sheet parametric_run end
 run_through_true sheet s parametric_run (Opening bases verdict check) lawful free at fails = record {
   ending = fails.ending;
@@ -33,7 +38,8 @@ run_through_true sheet s parametric_run (Opening bases verdict check) lawful fre
 run_through_true sheet s parametric_run (Chained bases intervals end) lawful free at chained = record {
   parts = chained.parts;
   past = chained.past;
-  is_true = true_of sheet parametric_run.changing lawful free parametric_run.from parametric_run.to s (Chain chained.parts chained.past) bases at chained.is_run;
+  is_true =
+      true_of sheet parametric_run.changing lawful free parametric_run.from parametric_run.to s (Chain chained.parts chained.past) bases at chained.is_run;
   are_intervals = chained.are_intervals;
   is_end = chained.is_end;
 }

@@ -68,12 +68,15 @@ outcome_holds state (Goes gain after) keeps = printed_holds state gain keeps.0
 outcome_holds state (Ends gain ending) keeps = printed_holds state gain keeps.0
 
 module _ (S : Solving) (solving : KnowsSolving S) where
-  step_keeps : (program : Program) (state : State) (outcome : StatementOutcome) → HasProblem state.setup → Knows state → Step S program state outcome → Keeps (counted state) outcome
+  step_keeps : (program : Program) (state : State) (outcome : StatementOutcome) → HasProblem state.setup → Knows state → Step S program state outcome →
+      Keeps (counted state) outcome
   step_keeps program state outcome lawful knows step =
-      (verb_kept S solving step.statement.verb step.statement.card (counted state) lawful (record { marked = knows.marked; bases = knows.bases })).by outcome step.gives
+      (verb_kept S solving step.statement.verb step.statement.card (counted state) lawful
+      (record { marked = knows.marked; bases = knows.bases })).by outcome step.gives
 
   module _ (bytes : List ℕ) (program : Program) (is_program : IsProgramOf bytes program) where
-    pub has_problem : (reports : List Report) (cards : List (List ℕ)) (state : State) → Reaches S program (job_decks program bytes) reports cards state → HasProblem state.setup
+    pub has_problem : (reports : List Report) (cards : List (List ℕ)) (state : State) → Reaches S program (job_decks program bytes) reports cards state →
+        HasProblem state.setup
     has_problem reports cards state reaches = (job_reaching S bytes program reports cards state (record { is_program = is_program; reaches = reaches })).setup
 
     pub known : (reports : List Report) (cards : List (List ℕ)) (state : State) → Reaches S program (job_decks program bytes) reports cards state → Knows state
@@ -81,32 +84,43 @@ module _ (S : Solving) (solving : KnowsSolving S) where
     known _ _ _ (stepped {reports} {cards} {state} gain after before step) =
         (step_keeps program state (Goes gain after) (has_problem reports cards state before) (known reports cards state before) step).1
 
-    step_holds : (reports : List Report) (cards : List (List ℕ)) (state : State) (outcome : StatementOutcome) → Reaches S program (job_decks program bytes) reports cards state → Step S program state outcome →
+    step_holds : (reports : List Report) (cards : List (List ℕ)) (state : State) (outcome : StatementOutcome) →
+        Reaches S program (job_decks program bytes) reports cards state → Step S program state outcome →
         All (Holds state) (reports_of outcome)
     step_holds reports cards state outcome reaches step =
         outcome_holds state outcome (step_keeps program state outcome (has_problem reports cards state reaches) (known reports cards state reaches) step)
 
-    end_of_step_holds : (reports : List Report) (cards : List (List ℕ)) (state : State) (gain : Gain) (ending : Ending) → Reaches S program (job_decks program bytes) reports cards state →
+    end_of_step_holds : (reports : List Report) (cards : List (List ℕ)) (state : State) (gain : Gain) (ending : Ending) →
+        Reaches S program (job_decks program bytes) reports cards state →
         Step S program state (Ends gain ending) → HoldsAtEnd state ending
     end_of_step_holds reports cards state gain ending reaches step =
-        uncounted_end state ending (step_keeps program state (Ends gain ending) (has_problem reports cards state reaches) (known reports cards state reaches) step).1
+        uncounted_end state ending
+        (step_keeps program state (Ends gain ending) (has_problem reports cards state reaches) (known reports cards state reaches) step).1
 
-    so_far_holds : (reports : List Report) (cards : List (List ℕ)) (state : State) (reaches : Reaches S program (job_decks program bytes) reports cards state) → HoldSoFar S Holds program (job_decks program bytes) reaches
+    so_far_holds : (reports : List Report) (cards : List (List ℕ)) (state : State) (reaches : Reaches S program (job_decks program bytes) reports cards state) →
+        HoldSoFar S Holds program (job_decks program bytes) reaches
     so_far_holds _ _ _ begun = tt
     so_far_holds _ _ _ (stepped {reports} {cards} {state} gain after before step) =
         (so_far_holds reports cards state before, step_holds reports cards state (Goes gain after) before step)
 
-    run_holds : (reports : List Report) (cards : List (List ℕ)) (ending : Ending) (runs : IsRun S program (job_decks program bytes) reports cards ending) → HoldInRun S Holds HoldsAtEnd program (job_decks program bytes) runs
+    run_holds : (reports : List Report) (cards : List (List ℕ)) (ending : Ending) (runs : IsRun S program (job_decks program bytes) reports cards ending) →
+        HoldInRun S Holds HoldsAtEnd program (job_decks program bytes) runs
     run_holds _ _ _ (is_over {reports} {cards} {state} before over) = so_far_holds reports cards state before
-    run_holds _ _ ending (is_ended {reports} {cards} {state} gain before step) =
-        (so_far_holds reports cards state before, step_holds reports cards state (Ends gain ending) before step, end_of_step_holds reports cards state gain ending before step)
+    run_holds _ _ ending (is_ended {reports} {cards} {state} gain before step) = (
+      so_far_holds reports cards state before,
+      step_holds reports cards state
+          (Ends gain ending) before step,
+      end_of_step_holds reports cards state gain ending before step,
+    )
 
-  job_holds : (bytes : List ℕ) (reports : List Report) (cards : List (List ℕ)) (ending : Ending) (runs : IsJobRun S bytes reports cards ending) → HoldInJob S Holds HoldsAtEnd runs
+  job_holds : (bytes : List ℕ) (reports : List Report) (cards : List (List ℕ)) (ending : Ending) (runs : IsJobRun S bytes reports cards ending) →
+      HoldInJob S Holds HoldsAtEnd runs
   job_holds bytes _ _ _ (card_fault fault is) = tt
   job_holds bytes _ _ _ (control_fault fault is compiled) = tt
   job_holds bytes reports cards ending (run program is runs) = run_holds bytes program is reports cards ending runs
 
-  end_holds : {job : Job} {failures : Failures} (reports : List Report) (cards deck : List (List ℕ)) (ending : Ending) (may_end : MayEnd S job failures reports cards deck ending) → HoldInEnd S may_end
+  end_holds : {job : Job} {failures : Failures} (reports : List Report) (cards deck : List (List ℕ)) (ending : Ending)
+      (may_end : MayEnd S job failures reports cards deck ending) → HoldInEnd S may_end
   end_holds _ _ _ _ (words_refused is) = tt
   end_holds _ _ _ _ (read_fails bytes is failed) = tt
   end_holds reports cards _ ending (by_itself bytes is runs) = job_holds bytes reports cards ending runs
@@ -129,7 +143,8 @@ module _ (S : Solving) (solving : KnowsSolving S) where
   pub tells_truth : ReportsTheTruth S
   tells_truth = record {
     step = λ bytes program reports cards state outcome so_far step. step_holds bytes program so_far.is_program reports cards state outcome so_far.reaches step;
-    stop = λ bytes program reports cards state gain ending so_far step. end_of_step_holds bytes program so_far.is_program reports cards state gain ending so_far.reaches step;
+    stop =
+        λ bytes program reports cards state gain ending so_far step. end_of_step_holds bytes program so_far.is_program reports cards state gain ending so_far.reaches step;
     job = job_holds;
   }
 

@@ -43,13 +43,15 @@ alike_row E rhs other (Some range) = alike_range _ rhs other _
 
 -- lists of limits that are alike in their places
 lower_alike : {A : Type 0} (f g : A → Limits) (rest : List Limits) → ((x : A) → AlikeLimits (f x) (g x)) → (xs : List A) (k : ℕ) →
-    is_some (slice_index_or (map (λ (l : Limits). l.lower) (map f xs ++ rest)) k None) ≡ is_some (slice_index_or (map (λ (l : Limits). l.lower) (map g xs ++ rest)) k None)
+    is_some (slice_index_or (map (λ (l : Limits). l.lower) (map f xs ++ rest)) k None) ≡ is_some
+    (slice_index_or (map (λ (l : Limits). l.lower) (map g xs ++ rest)) k None)
 lower_alike f g rest h [] k = refl
 lower_alike f g rest h (x ∷ xs) zero = (h x).lower
 lower_alike f g rest h (x ∷ xs) (suc k) = lower_alike f g rest h xs k
 
 upper_alike : {A : Type 0} (f g : A → Limits) (rest : List Limits) → ((x : A) → AlikeLimits (f x) (g x)) → (xs : List A) (k : ℕ) →
-    is_some (slice_index_or (map (λ (l : Limits). l.upper) (map f xs ++ rest)) k None) ≡ is_some (slice_index_or (map (λ (l : Limits). l.upper) (map g xs ++ rest)) k None)
+    is_some (slice_index_or (map (λ (l : Limits). l.upper) (map f xs ++ rest)) k None) ≡ is_some
+    (slice_index_or (map (λ (l : Limits). l.upper) (map g xs ++ rest)) k None)
 upper_alike f g rest h [] k = refl
 upper_alike f g rest h (x ∷ xs) zero = (h x).upper
 upper_alike f g rest h (x ∷ xs) (suc k) = upper_alike f g rest h xs k
@@ -74,7 +76,8 @@ basis_of_shape p q s same at = record {
 }
 
 same_shape : (problem : Problem ℕ) (options : SetupOptions) (objective rhs other_objective other_rhs : Option Name) →
-    SameShape (program_of_choice problem (record { objective = objective; rhs = rhs; options = options })) (program_of_choice problem (record { objective = other_objective; rhs = other_rhs; options = options }))
+    SameShape (program_of_choice problem (record { objective = objective; rhs = rhs; options = options }))
+    (program_of_choice problem (record { objective = other_objective; rhs = other_rhs; options = options }))
 same_shape problem options objective rhs other_objective other_rhs = record {
   matrix = refl;
   lower = λ k. lower_alike _ _ _ (λ entry. alike_row entry.1.kind _ _ _) (enumerate_from 1 problem.rows) (k - 1);
@@ -86,4 +89,5 @@ pub basis_of_either : (problem : Problem ℕ) (options : SetupOptions) (objectiv
     selected problem (record { objective = other_objective; rhs = other_rhs; options = options }) ≡ Ok q → IsNonsingularBasis p s → IsNonsingularBasis q s
 basis_of_either problem options objective rhs other_objective other_rhs p q s first second at =
     subst (λ x. IsNonsingularBasis x s) (is_chosen problem _ q second).1
-    (basis_of_shape _ _ s (same_shape problem options objective rhs other_objective other_rhs) (subst (λ x. IsNonsingularBasis x s) (sym (is_chosen problem _ p first).1) at))
+    (basis_of_shape _ _ s (same_shape problem options objective rhs other_objective other_rhs)
+    (subst (λ x. IsNonsingularBasis x s) (sym (is_chosen problem _ p first).1) at))

@@ -36,15 +36,18 @@ module _ (S : Solving) (card : ℕ) where
       gives_so given (inl gives) = never.by given gives
       gives_so given (inr stop) = subst IsNoLimitStop (sym stop.3) tt
 
-  unless_fault : {X : Type 0} (fault : VerbFault) (o : Option X) (go : X → StatementMove) → ((x : X) → NeverLimited (go x)) → NeverLimited (or_fault card fault o go)
+  unless_fault : {X : Type 0} (fault : VerbFault) (o : Option X) (go : X → StatementMove) → ((x : X) → NeverLimited (go x)) →
+      NeverLimited (or_fault card fault o go)
   unless_fault fault None go never = does _ tt
   unless_fault fault (Some x) go never = never x
 
-  unless_selection_fault : (r : Result LinearProgram SelectionFault) (go : LinearProgram → StatementMove) → ((lp : LinearProgram) → NeverLimited (go lp)) → NeverLimited (or_selection_fault card r go)
+  unless_selection_fault : (r : Result LinearProgram SelectionFault) (go : LinearProgram → StatementMove) → ((lp : LinearProgram) → NeverLimited (go lp)) →
+      NeverLimited (or_selection_fault card r go)
   unless_selection_fault (Err fault) go never = does _ tt
   unless_selection_fault (Ok lp) go never = never lp
 
-  selecting : (problem : Problem ℕ) (choice : Choice) (go : LinearProgram → StatementMove) → ((lp : LinearProgram) → NeverLimited (go lp)) → NeverLimited (selects card problem choice go)
+  selecting : (problem : Problem ℕ) (choice : Choice) (go : LinearProgram → StatementMove) → ((lp : LinearProgram) → NeverLimited (go lp)) →
+      NeverLimited (selects card problem choice go)
   selecting problem choice go never = unless_selection_fault (selected problem choice) _ (λ lp. may_stop _ (go lp) (never lp))
 
 demanded_other : (set : Option ℕ) (code : ℕ) (report : Report) (state : State) → IsNoLimitStop (demanded set code report state)
@@ -57,9 +60,11 @@ verdict_other Infeasible report state = demanded_other state.cells.xdonfs 1 repo
 verdict_other Unbounded report state = demanded_other state.cells.xdounb 2 report state
 
 module _ (card : ℕ) (state : State) where
-  path_other : (present : Present) (sheet : Sheet) (limit : Option ℕ) → limit ≡ None → (end : PathEnd) → IsSolved sheet (present_basis present) limit end → IsNoLimitStop (after_path ByPrimal card present state end)
+  path_other : (present : Present) (sheet : Sheet) (limit : Option ℕ) → limit ≡ None → (end : PathEnd) → IsSolved sheet (present_basis present) limit end →
+      IsNoLimitStop (after_path ByPrimal card present state end)
   path_other present sheet limit none (Reached bases verdict check) solved =
-      verdict_other (mark_of verdict) (Solved ByPrimal verdict check) (record state { setup = Some (gone_through bases present); mark = Some (mark_of verdict) })
+      verdict_other (mark_of verdict) (Solved ByPrimal verdict check)
+      (record state { setup = Some (gone_through bases present); mark = Some (mark_of verdict) })
   path_other present sheet None none PathLimit solved = absurd solved
   path_other present sheet (Some most) none PathLimit solved = absurd (cc none)
   path_other present sheet limit none (PricesWrong j) solved = absurd solved

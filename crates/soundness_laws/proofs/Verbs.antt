@@ -56,8 +56,10 @@ use Rattle.parametric_laws.proofs.Runs.{last_of-append}
 
 -- a path that leaves the mark OPTIMAL has ended optimal at the basis that it reached
 marks : (present : Present) (lp : LinearProgram) (objective rhs : Option Name) (bases : List Basis) (verdict : PathVerdict) (steps : ℕ) (ending : PathEnding) →
-    selected present.problem (record { objective = objective; rhs = rhs; options = present.options }) ≡ Ok lp → EndsAt lp (last_of (present_basis present) bases) ending →
-    verdict ≡ verdict_of (record { problem = present.problem; lp = lp }) steps ending → KnowsMark (Some (mark_of verdict)) (Some (gone_through bases present)) objective rhs
+    selected present.problem (record { objective = objective; rhs = rhs; options = present.options }) ≡ Ok lp →
+    EndsAt lp (last_of (present_basis present) bases) ending →
+    verdict ≡ verdict_of (record { problem = present.problem; lp = lp }) steps ending →
+    KnowsMark (Some (mark_of verdict)) (Some (gone_through bases present)) objective rhs
 marks present lp objective rhs bases verdict steps (EndsOptimal z y) is ends gives marked = record {
   present = gone_through bases present;
   is_setup = refl;
@@ -75,13 +77,15 @@ marks present lp objective rhs bases verdict steps (EndsUnbounded z d) is ends g
     let h : Some Unbounded ≡ Some Optimal = subst (λ v. Some (mark_of v) ≡ Some Optimal) gives marked in absurd (cc h)
 
 -- the setup after a path that has led to a nonsingular basis
-goes_to : (present : Present) (objective rhs : Option Name) (lp : LinearProgram) (bases : List Basis) → selected present.problem (record { objective = objective; rhs = rhs; options = present.options }) ≡ Ok lp →
+goes_to : (present : Present) (objective rhs : Option Name) (lp : LinearProgram) (bases : List Basis) →
+    selected present.problem (record { objective = objective; rhs = rhs; options = present.options }) ≡ Ok lp →
     IsNonsingularBasis lp (last_of (present_basis present) bases) → KnowsBases (Some (gone_through bases present))
 goes_to present objective rhs lp bases is at =
     with_basis (gone_through bases present) objective rhs lp is (subst (IsNonsingularBasis lp) (sym (last_of-append present.opening present.steps bases)) at)
 
 module _ (at : State) where
-  demanded_keeps : (position : Option ℕ) (code : ℕ) (report : Report) (state : State) → Holds at report → Knows state → Keeps at (demanded position code report state)
+  demanded_keeps : (position : Option ℕ) (code : ℕ) (report : Report) (state : State) → Holds at report → Knows state →
+      Keeps at (demanded position code report state)
   demanded_keeps (Some position) code report state holds knows = (holds, record { marked = knows.marked; bases = knows.bases })
   demanded_keeps None code report state holds knows = (holds, tt)
 
@@ -91,7 +95,8 @@ module _ (at : State) where
   by_verdict_keeps Unbounded report state holds knows = demanded_keeps state.cells.xdounb 2 report state holds knows
 
 -- what the cells select of the setup is lawful
-abbrev present_program : (setup : Option Present) (cells : Cells) (present : Present) (lp : LinearProgram) → HasProblem setup → setup ≡ Some present → selected present.problem (choice_of cells present.options) ≡ Ok lp →
+abbrev present_program : (setup : Option Present) (cells : Cells) (present : Present) (lp : LinearProgram) → HasProblem setup → setup ≡ Some present →
+    selected present.problem (choice_of cells present.options) ≡ Ok lp →
     PresentProgram setup cells
 present_program setup cells present lp lawful is_setup is = record {
   present = present;
@@ -105,14 +110,17 @@ present_program setup cells present lp lawful is_setup is = record {
 -- ---- SOLUTION and RANGE
 
 -- where the mark is OPTIMAL, the path has ended at the present basis, in what the cells select now
-module _ (present : Present) (lp : LinearProgram) (cells : Cells) (setup : Option Present) (known : EndsOptimally setup cells.xobj cells.xrhs) (is_setup : setup ≡ Some present)
+module _ (present : Present) (lp : LinearProgram) (cells : Cells) (setup : Option Present) (known : EndsOptimally setup cells.xobj cells.xrhs)
+    (is_setup : setup ≡ Some present)
     (is : selected present.problem (choice_of cells present.options) ≡ Ok lp) where
   same_present : known.present ≡ present
   same_present = let e = sym known.is_setup ∙ is_setup in cc
 
-  moved : (selected present.problem (choice_of cells present.options) ≡ Ok known.lp) × EndsAt known.lp (present_basis present) (EndsOptimal known.point known.prices)
+  moved : (selected present.problem (choice_of cells present.options) ≡ Ok known.lp) × EndsAt known.lp (present_basis present)
+      (EndsOptimal known.point known.prices)
   moved =
-      subst (λ (x : Present). (selected x.problem (choice_of cells x.options) ≡ Ok known.lp) × EndsAt known.lp (present_basis x) (EndsOptimal known.point known.prices))
+      subst (λ (x : Present). (selected x.problem (choice_of cells x.options) ≡ Ok known.lp) × EndsAt known.lp (present_basis x)
+      (EndsOptimal known.point known.prices))
       same_present (known.is_selected, known.ends)
 
   same_lp : known.lp ≡ lp
@@ -123,12 +131,14 @@ module _ (present : Present) (lp : LinearProgram) (cells : Cells) (setup : Optio
 
 -- what is shown where the path ended optimal at the present basis is best
 best_view : (present : Present) (lp : LinearProgram) (cells : Cells) (setup : Option Present) (lines : SolutionLines) → HasProblem setup →
-    EndsOptimally setup cells.xobj cells.xrhs → IsNonsingularBasis lp (present_basis present) → setup ≡ Some present → selected present.problem (choice_of cells present.options) ≡ Ok lp →
+    EndsOptimally setup cells.xobj cells.xrhs → IsNonsingularBasis lp (present_basis present) → setup ≡ Some present →
+    selected present.problem (choice_of cells present.options) ≡ Ok lp →
     IsSolutionOf (record { problem = present.problem; lp = lp }) (present_basis present) lines → ShowsBest setup cells lines
 best_view present lp cells setup lines lawful known at is_setup is viewed =
     let program : PresentProgram setup cells = present_program setup cells present lp lawful is_setup is in
     let proved : IsProvedBest lp (present_basis present) viewed.tableau =
-    reported_is_best lp (present_basis present) viewed.tableau known.point known.prices viewed.is_tableau (ends_here present lp cells setup known is_setup is) at program.is_linear_program in
+    reported_is_best lp (present_basis present) viewed.tableau known.point known.prices viewed.is_tableau
+    (ends_here present lp cells setup known is_setup is) at program.is_linear_program in
     record {
       program = program;
       is_basis = at;
@@ -141,13 +151,16 @@ best_view present lp cells setup lines lawful known at is_setup is viewed =
 
 -- the basis is optimal, whose intervals are shown
 ranges_view : (present : Present) (lp : LinearProgram) (cells : Cells) (setup : Option Present) (lines : RangeLines) → HasProblem setup →
-    EndsOptimally setup cells.xobj cells.xrhs → IsNonsingularBasis lp (present_basis present) → setup ≡ Some present → selected present.problem (choice_of cells present.options) ≡ Ok lp →
+    EndsOptimally setup cells.xobj cells.xrhs → IsNonsingularBasis lp (present_basis present) → setup ≡ Some present →
+    selected present.problem (choice_of cells present.options) ≡ Ok lp →
     IsRanged (record { problem = present.problem; lp = lp }) (present_basis present) lines → ShowsRanges setup cells lines
 ranges_view present lp cells setup lines lawful known at is_setup is ranged =
     let program : PresentProgram setup cells = present_program setup cells present lp lawful is_setup is in
     record {
       program = program;
-      optimal = (optimal_end lp (present_basis present) known.point known.prices program.is_linear_program at (ends_here present lp cells setup known is_setup is)).optimal;
+      optimal =
+          (optimal_end lp (present_basis present) known.point known.prices program.is_linear_program at
+          (ends_here present lp cells setup known is_setup is)).optimal;
       tableau = ranged.tableau;
       is_tableau = ranged.is_tableau;
       report = ranged.report;
@@ -186,7 +199,9 @@ moved_demand Xdounb position cells mark setup knows = knows
 -- ---- parametric runs
 
 -- what the opening path of a run prints holds, and so do its intervals
-opening_holds : (state : State) (changing : Changing) (verdict : PathVerdict) (check : Check) → ReportsOfRun state.setup state.cells (parametric_solver changing) (ShowsOpening verdict check) → Holds state (Solved (parametric_solver changing) verdict check)
+opening_holds : (state : State) (changing : Changing) (verdict : PathVerdict) (check : Check) →
+    ReportsOfRun state.setup state.cells (parametric_solver changing) (ShowsOpening verdict check) →
+    Holds state (Solved (parametric_solver changing) verdict check)
 opening_holds state (Row name) verdict check reported = reported
 opening_holds state (Set name) verdict check reported = reported
 
@@ -197,8 +212,10 @@ pub record IsAskedFor (state : State) (present : Present) (parametric_run : Para
   pub from_first : parametric_run.from ≡ state.cells.xparam
   pub to_last : state.cells.xparmax ≡ Some parametric_run.to
 
-reported_of : (state : State) (present : Present) (lp : LinearProgram) (parametric_run : ParametricRun) (lawful : HasProblem state.setup) (set : state.setup ≡ Some present) (is : selected present.problem (choice_of state.cells present.options) ≡ Ok lp) →
-    IsAskedFor state present parametric_run → (Tells : Sheet → ParametricRun → Type 0) → Tells (record { problem = present.problem; lp = lp }) parametric_run → ReportsOfRun state.setup state.cells (parametric_solver parametric_run.changing) Tells
+reported_of : (state : State) (present : Present) (lp : LinearProgram) (parametric_run : ParametricRun) (lawful : HasProblem state.setup)
+    (set : state.setup ≡ Some present) (is : selected present.problem (choice_of state.cells present.options) ≡ Ok lp) →
+    IsAskedFor state present parametric_run → (Tells : Sheet → ParametricRun → Type 0) → Tells (record { problem = present.problem; lp = lp }) parametric_run →
+    ReportsOfRun state.setup state.cells (parametric_solver parametric_run.changing) Tells
 reported_of state present lp parametric_run lawful set is asked Tells tells = record {
   program = present_program state.setup state.cells present lp lawful set is;
   parametric_run = parametric_run;
@@ -218,25 +235,34 @@ bounded_verdict sheet s steps (EndsInfeasible w) ends = tt
 bounded_verdict sheet s steps (EndsUnbounded z d) ends = absurd (never_unbounded sheet.lp s z d ends)
 
 module _ (S : Solving) (solving : KnowsSolving S) where
-  pathed : (card : ℕ) (present : Present) (state : State) (lp : LinearProgram) → HasProblem state.setup → selected present.problem (choice_of state.cells present.options) ≡ Ok lp → state.setup ≡ Some present → HasBases present →
-      (end : PathEnd) → S.Solves ByPrimal (record { problem = present.problem; lp = lp }) (present_basis present) state.cells.xiterlim end → Keeps state (after_path ByPrimal card present state end)
+  pathed : (card : ℕ) (present : Present) (state : State) (lp : LinearProgram) → HasProblem state.setup →
+      selected present.problem (choice_of state.cells present.options) ≡ Ok lp → state.setup ≡ Some present → HasBases present →
+      (end : PathEnd) → S.Solves ByPrimal (record { problem = present.problem; lp = lp }) (present_basis present) state.cells.xiterlim end →
+      Keeps state (after_path ByPrimal card present state end)
   pathed card present state lp lawful is set has (Reached bases verdict check) solved =
-      let reaches = solving.solves ByPrimal (record { problem = present.problem; lp = lp }) (present_basis present) state.cells.xiterlim (Reached bases verdict check) solved in
+      let reaches =
+      solving.solves ByPrimal (record { problem = present.problem; lp = lp }) (present_basis present) state.cells.xiterlim
+      (Reached bases verdict check) solved in
       let at = has.in_each state.cells.xobj state.cells.xrhs lp is in
       let program = present_program state.setup state.cells present lp lawful set is in
       let plain = selected_has_no_change present.problem (choice_of state.cells present.options) lp is in
-      let holds = path_is_true (record { problem = present.problem; lp = lp }) (present_basis present) bases reaches.ending _ verdict program.is_linear_program plain at reaches.ends reaches.is_verdict.is_verdict in
+      let holds =
+      path_is_true (record { problem = present.problem; lp = lp })
+      (present_basis present) bases reaches.ending _ verdict program.is_linear_program plain at reaches.ends reaches.is_verdict.is_verdict in
       by_verdict_keeps state (mark_of verdict) (Solved ByPrimal verdict check) _ (program, holds)
       (record {
         marked = marks present lp state.cells.xobj state.cells.xrhs bases verdict _ reaches.ending is reaches.ends.ends reaches.is_verdict.is_verdict;
         bases = goes_to present state.cells.xobj state.cells.xrhs lp bases is (path_leads lp (present_basis present) bases at reaches.ends.is_path);
       })
   pathed card present state lp lawful is set has PathLimit solved = (tt, tt)
-  pathed card present state lp lawful is set has (PricesWrong j) solved = absurd (solving.solves ByPrimal (record { problem = present.problem; lp = lp }) (present_basis present) state.cells.xiterlim (PricesWrong j) solved)
+  pathed card present state lp lawful is set has (PricesWrong j) solved =
+      absurd (solving.solves ByPrimal (record { problem = present.problem; lp = lp }) (present_basis present) state.cells.xiterlim (PricesWrong j) solved)
 
   -- an end of the dual path is one of the simplex path, since prices stay right
-  dual_pathed : (limit : Option ℕ) (card : ℕ) (present : Present) (state : State) (lp : LinearProgram) → HasProblem state.setup → selected present.problem (choice_of state.cells present.options) ≡ Ok lp → state.setup ≡ Some present → HasBases present →
-      (end : PathEnd) → S.Solves ByDual (record { problem = present.problem; lp = lp }) (present_basis present) limit end → Keeps state (after_path ByDual card present state end)
+  dual_pathed : (limit : Option ℕ) (card : ℕ) (present : Present) (state : State) (lp : LinearProgram) → HasProblem state.setup →
+      selected present.problem (choice_of state.cells present.options) ≡ Ok lp → state.setup ≡ Some present → HasBases present →
+      (end : PathEnd) → S.Solves ByDual (record { problem = present.problem; lp = lp }) (present_basis present) limit end →
+      Keeps state (after_path ByDual card present state end)
   dual_pathed limit card present state lp lawful is set has (Reached bases verdict check) solved =
       let sheet : Sheet = record { problem = present.problem; lp = lp } in
       let found = solving.solves ByDual sheet (present_basis present) limit (Reached bases verdict check) solved in
@@ -248,8 +274,12 @@ module _ (S : Solving) (solving : KnowsSolving S) where
       let there = dual_path_leads lp (present_basis present) bases at reaches.ends.is_path in
       let right = path_right lp program.is_linear_program still (present_basis present) bases at found.0 reaches.ends.is_path in
       let ends = dual_end lp (last_of (present_basis present) bases) reaches.ending program.is_linear_program there right reaches.ends.ends in
-      let holds = subst (IsTrueOf sheet) (sym reaches.is_verdict.is_verdict) (end_is_true sheet (last_of (present_basis present) bases) _ program.is_linear_program plain there reaches.ending ends) in
-      let bounded = subst IsNotUnbounded (sym reaches.is_verdict.is_verdict) (bounded_verdict sheet (last_of (present_basis present) bases) _ reaches.ending reaches.ends.ends) in
+      let holds =
+      subst (IsTrueOf sheet) (sym reaches.is_verdict.is_verdict)
+      (end_is_true sheet (last_of (present_basis present) bases) _ program.is_linear_program plain there reaches.ending ends) in
+      let bounded =
+      subst IsNotUnbounded (sym reaches.is_verdict.is_verdict)
+      (bounded_verdict sheet (last_of (present_basis present) bases) _ reaches.ending reaches.ends.ends) in
       by_verdict_keeps state (mark_of verdict) (Solved ByDual verdict check) _ (program, holds, bounded)
       (record {
         marked = marks present lp state.cells.xobj state.cells.xrhs bases verdict _ reaches.ending is ends reaches.is_verdict.is_verdict;
@@ -268,7 +298,8 @@ module _ (S : Solving) (solving : KnowsSolving S) where
   dual_kept limit card state lawful knows =
       unless_fault S state card VerbFault.NoSetup state.setup _ (λ present e.
       selecting S state card present.problem _ _ (λ lp is.
-      may_stop S state card _ _ (answered S state card (OfPath ByDual limit) _ _ _ (dual_pathed limit card present state lp lawful is e (knows.bases present e)))))
+      may_stop S state card _ _
+      (answered S state card (OfPath ByDual limit) _ _ _ (dual_pathed limit card present state lp lawful is e (knows.bases present e)))))
 
   -- ---- PUNCH and INSERT
 
@@ -281,13 +312,17 @@ module _ (S : Solving) (solving : KnowsSolving S) where
           program = present_program state.setup state.cells present lp lawful e is;
           is_basis = (knows.bases present e).in_each state.cells.xobj state.cells.xrhs lp is;
           is_name = refl;
-          is_count = ap (λ (deck : List (List ℕ)). min (length deck) max_counted) (solving.punches (record { problem = present.problem; lp = lp }) (present_basis present) cards punched);
+          is_count =
+              ap (λ (deck : List (List ℕ)). min (length deck) max_counted)
+              (solving.punches (record { problem = present.problem; lp = lp }) (present_basis present) cards punched);
         },
         record { marked = knows.marked; bases = knows.bases },
       ))))
 
-  installed : (card : ℕ) (lp : LinearProgram) (s : Basis) (taken : List Card × List (List Card)) (present : Present) (state : State) → HasProblem state.setup → state.setup ≡ Some present →
-      selected present.problem (choice_of state.cells present.options) ≡ Ok lp → deck_taken state.cells.xdata state.decks ≡ Some taken → basis_reading present.problem lp taken.0 ≡ Ok s →
+  installed : (card : ℕ) (lp : LinearProgram) (s : Basis) (taken : List Card × List (List Card)) (present : Present) (state : State) → HasProblem state.setup →
+      state.setup ≡ Some present →
+      selected present.problem (choice_of state.cells present.options) ≡ Ok lp → deck_taken state.cells.xdata state.decks ≡ Some taken →
+      basis_reading present.problem lp taken.0 ≡ Ok s →
       (end : InstallEnd) → S.Installs (record { problem = present.problem; lp = lp }) s end → Keeps state (after_install card lp s taken present state end)
   installed card lp s taken present state held set is took read Installed installs =
       let gives : GivesBasis state.setup state.cells state.decks = record {
@@ -334,19 +369,25 @@ module _ (S : Solving) (solving : KnowsSolving S) where
   solving_kept card state lawful knows =
       unless_fault S state card VerbFault.NoSetup state.setup _ (λ present e.
       selecting S state card present.problem _ _ (λ lp is.
-      may_stop S state card _ _ (answered S state card (OfPath ByPrimal state.cells.xiterlim) _ _ _ (pathed card present state lp lawful is e (knows.bases present e)))))
+      may_stop S state card _ _
+      (answered S state card (OfPath ByPrimal state.cells.xiterlim) _ _ _ (pathed card present state lp lawful is e (knows.bases present e)))))
 
   showing : (card : ℕ) (state : State) (present : Present) (question : Question) (report : AnswerTo question → Report) → Knows state →
-      ((lp : LinearProgram) → selected present.problem (choice_of state.cells present.options) ≡ Ok lp → (lines : AnswerTo question) → IsRight S question (record { problem = present.problem; lp = lp }) (present_basis present) lines →
+      ((lp : LinearProgram) → selected present.problem (choice_of state.cells present.options) ≡ Ok lp → (lines : AnswerTo question) →
+      IsRight S question (record { problem = present.problem; lp = lp }) (present_basis present) lines →
       Holds state (report lines)) → IsKept S state card (shows_present card state present question report)
   showing card state present question report knows holds =
       unless_selection_fault S state card (selected present.problem (choice_of state.cells present.options)) _ (λ lp is.
-      may_stop S state card _ _ (answered S state card question _ _ _ (λ lines viewed. (holds lp is lines viewed, record { marked = knows.marked; bases = knows.bases }))))
+      may_stop S state card _ _
+      (answered S state card question _ _ _ (λ lines viewed. (holds lp is lines viewed, record { marked = knows.marked; bases = knows.bases }))))
 
-  solution_holds : (mark : Mark) (state : State) (present : Present) (lp : LinearProgram) (lines : SolutionLines) → HasProblem state.setup → Knows state → state.mark ≡ Some mark → state.setup ≡ Some present →
-      selected present.problem (choice_of state.cells present.options) ≡ Ok lp → IsSolutionOf (record { problem = present.problem; lp = lp }) (present_basis present) lines → Holds state (Solution mark lines)
+  solution_holds : (mark : Mark) (state : State) (present : Present) (lp : LinearProgram) (lines : SolutionLines) → HasProblem state.setup → Knows state →
+      state.mark ≡ Some mark → state.setup ≡ Some present →
+      selected present.problem (choice_of state.cells present.options) ≡ Ok lp →
+      IsSolutionOf (record { problem = present.problem; lp = lp }) (present_basis present) lines → Holds state (Solution mark lines)
   solution_holds Optimal state present lp lines lawful knows m e is viewed =
-      best_view present lp state.cells state.setup lines lawful (knows.marked m) ((knows.bases present e).in_each state.cells.xobj state.cells.xrhs lp is) e is viewed
+      best_view present lp state.cells state.setup lines lawful (knows.marked m)
+      ((knows.bases present e).in_each state.cells.xobj state.cells.xrhs lp is) e is viewed
   solution_holds Infeasible state present lp lines lawful knows m e is viewed = tt
   solution_holds Unbounded state present lp lines lawful knows m e is viewed = tt
 
@@ -354,7 +395,8 @@ module _ (S : Solving) (solving : KnowsSolving S) where
   shows_kept card state lawful knows =
       unless_fault S state card VerbFault.NoSetup state.setup _ (λ present e.
       unless_fault S state card VerbFault.NotSolved state.mark _ (λ mark m.
-      showing card state present (OfSolution mark) (Solution mark) knows (λ lp is lines viewed. solution_holds mark state present lp lines lawful knows m e is (solving.shows _ _ _ lines viewed))))
+      showing card state present (OfSolution mark) (Solution mark) knows
+      (λ lp is lines viewed. solution_holds mark state present lp lines lawful knows m e is (solving.shows _ _ _ lines viewed))))
 
   ranges_kept : (card : ℕ) (state : State) → HasProblem state.setup → Knows state → IsKept S state card (ranges card state)
   ranges_kept card state lawful knows =
@@ -362,34 +404,46 @@ module _ (S : Solving) (solving : KnowsSolving S) where
       unless_fault S state card VerbFault.NotSolved state.mark _ (λ mark m.
       unless_fault {X = Mark} S state card VerbFault.NotOptimal (if_optimal mark) _ (λ left o.
       showing card state present OfRanges Ranges knows (λ lp is lines viewed.
-      ranges_view present lp state.cells state.setup lines lawful (knows.marked (m ∙ ap (λ (own : Mark). Some own) (optimal_alone mark left o))) ((knows.bases present e).in_each state.cells.xobj state.cells.xrhs lp is) e is (solving.ranges _ _ lines viewed)))))
+      ranges_view present lp state.cells state.setup lines lawful (knows.marked (m ∙ ap (λ (own : Mark). Some own) (optimal_alone mark left o)))
+      ((knows.bases present e).in_each state.cells.xobj state.cells.xrhs lp is) e is (solving.ranges _ _ lines viewed)))))
 
-  run_through : (card : ℕ) (parametric_run : ParametricRun) (present : Present) (state : State) (lp : LinearProgram) → HasProblem state.setup → state.setup ≡ Some present → selected present.problem (choice_of state.cells present.options) ≡ Ok lp →
-      IsAskedFor state present parametric_run → (end : ParametricRunEnd) → IsNonsingularBasis lp (last_of (present_basis present) (gone_over end)) → IsTrueParametricRun (record { problem = present.problem; lp = lp }) parametric_run end →
+  run_through : (card : ℕ) (parametric_run : ParametricRun) (present : Present) (state : State) (lp : LinearProgram) → HasProblem state.setup →
+      state.setup ≡ Some present → selected present.problem (choice_of state.cells present.options) ≡ Ok lp →
+      IsAskedFor state present parametric_run → (end : ParametricRunEnd) → IsNonsingularBasis lp (last_of (present_basis present) (gone_over end)) →
+      IsTrueParametricRun (record { problem = present.problem; lp = lp }) parametric_run end →
       Keeps state (after_parametric_run card parametric_run present state end)
   run_through card parametric_run present state lp lawful set is asked (Opening bases verdict check) at truth =
       by_verdict_keeps state (mark_of verdict) (Solved (parametric_solver parametric_run.changing) verdict check) _
-      (opening_holds state parametric_run.changing verdict check (reported_of state present lp parametric_run lawful set is asked (ShowsOpening verdict check) (record { bases = bases; is_true = truth })))
+      (opening_holds state parametric_run.changing verdict check
+      (reported_of state present lp parametric_run lawful set is asked (ShowsOpening verdict check) (record { bases = bases; is_true = truth })))
       (record { marked = unmarked _ _ _; bases = goes_to present state.cells.xobj state.cells.xrhs lp bases is at })
   run_through card parametric_run present state lp lawful set is asked (Chained bases intervals end) at truth = (
-    reported_of state present lp parametric_run lawful set is asked (ShowsChain (record { from = parametric_run.from; change = changing_name parametric_run.changing; intervals = intervals; end = end })) (record { is_from = refl; is_change = refl; is_true = truth }),
+    reported_of state present lp parametric_run lawful set is asked
+        (ShowsChain (record { from = parametric_run.from; change = changing_name parametric_run.changing; intervals = intervals; end = end }))
+        (record { is_from = refl; is_change = refl; is_true = truth }),
     record { marked = unmarked _ _ _; bases = goes_to present state.cells.xobj state.cells.xrhs lp bases is at },
   )
   run_through card parametric_run present state lp lawful set is asked ParametricRunLimit at truth = (tt, tt)
 
-  asked_kept : (card : ℕ) (present : Present) (state : State) (lp : LinearProgram) (parametric_run : ParametricRun) → HasProblem state.setup → HasBases present → state.setup ≡ Some present →
+  asked_kept : (card : ℕ) (present : Present) (state : State) (lp : LinearProgram) (parametric_run : ParametricRun) → HasProblem state.setup →
+      HasBases present → state.setup ≡ Some present →
       selected present.problem (choice_of state.cells present.options) ≡ Ok lp → IsAskedFor state present parametric_run →
-      IsKept S state card (asks (OfParametricRun parametric_run) (record { problem = present.problem; lp = lp }) present (after_parametric_run card parametric_run present state))
-  asked_kept card present state lp parametric_run lawful has set is asked = may_stop S state card _ _ (answered S state card (OfParametricRun parametric_run) _ _ _ (λ end right.
+      IsKept S state card
+      (asks (OfParametricRun parametric_run) (record { problem = present.problem; lp = lp }) present
+      (after_parametric_run card parametric_run present state))
+  asked_kept card present state lp parametric_run lawful has set is asked =
+      may_stop S state card _ _ (answered S state card (OfParametricRun parametric_run) _ _ _ (λ end right.
       let sheet : Sheet = record { problem = present.problem; lp = lp } in
       let at = has.in_each state.cells.xobj state.cells.xrhs lp is in
       let ran = solving.parametric_runs sheet (present_basis present) parametric_run end right in
       let free = changes_freely sheet (choice_of state.cells present.options) parametric_run.changing (lawful present set) is asked.is_part in
       run_through card parametric_run present state lp lawful set is asked end (run_through_leads sheet (present_basis present) parametric_run end ran at)
-      (run_through_true sheet (present_basis present) parametric_run end (selected_is_lawful present.problem (choice_of state.cells present.options) lp (lawful present set) is) free at ran)))
+      (run_through_true sheet (present_basis present) parametric_run end
+      (selected_is_lawful present.problem (choice_of state.cells present.options) lp (lawful present set) is) free at ran)))
 
   parametric_runs_kept : (card : ℕ) (fault : VerbFault) (change : Problem ℕ → Name → Option Changing) (moved : Option Name) (state : State) →
-      ((problem : Problem ℕ) (changing : Changing) → option_and_then (change problem) moved ≡ Some changing → IsOfProblem changing problem × (named_by state.cells changing ≡ Some (changing_name changing))) →
+      ((problem : Problem ℕ) (changing : Changing) → option_and_then (change problem) moved ≡ Some changing →
+      IsOfProblem changing problem × (named_by state.cells changing ≡ Some (changing_name changing))) →
       HasProblem state.setup → Knows state → IsKept S state card (parametric_runs card fault change moved state)
   parametric_runs_kept card fault change moved state named lawful knows =
       unless_fault S state card VerbFault.NoSetup state.setup _ (λ present e.
@@ -397,31 +451,46 @@ module _ (S : Solving) (solving : KnowsSolving S) where
       unless_fault {X = Changing} S state card fault (option_and_then (change present.problem) moved) _ (λ changing c.
       unless_fault {X = ℚ} S state card VerbFault.NoParmax state.cells.xparmax _ (λ last l.
       unless_fault {X = ℚ} S state card VerbFault.ParmaxBelow (not_less state.cells.xparam last) _ (λ to t.
-      asked_kept card present state lp (record { changing = changing; from = state.cells.xparam; to = to; limit = steps_allowed state.cells }) lawful (knows.bases present e) e is
-      (record { is_part = (named present.problem changing c).0; is_named = (named present.problem changing c).1; from_first = refl; to_last = l ∙ ap (λ (x : ℚ). Some x) (last_is state.cells.xparam last to t) }))))))
+      asked_kept card present state lp (record { changing = changing; from = state.cells.xparam; to = to; limit = steps_allowed state.cells }) lawful
+      (knows.bases present e) e is
+      (record {
+        is_part = (named present.problem changing c).0;
+        is_named = (named present.problem changing c).1;
+        from_first = refl;
+        to_last = l
+            ∙ ap (λ (x : ℚ). Some x) (last_is state.cells.xparam last to t);
+      }))))))
 
-  files_kept : (card : ℕ) (report : Filed → Report) (decks : List (List Card)) (state : State) → ((filed : Filed) → Holds state (report filed)) → (problem : Problem ℕ) →
+  files_kept : (card : ℕ) (report : Filed → Report) (decks : List (List Card)) (state : State) → ((filed : Filed) → Holds state (report filed)) →
+      (problem : Problem ℕ) →
       IsKept S state card (files report decks state problem)
   files_kept card report decks state holds problem = does S state card _ (holds (size_of problem), record { marked = unmarked _ _ _; bases = without_setup })
 
   converts_kept : (card : ℕ) (state : State) → IsKept S state card (converts card state)
   converts_kept card state =
       unless_fault {X = List Card × List (List Card)} S state card VerbFault.DeckNotFound (deck_taken state.cells.xdata state.decks) _ (λ taken e.
-      unless_deck_fault S state card (conversion taken.0 state.cells.xpbname) (files Converted taken.1 state) (λ problem is. files_kept card Converted taken.1 state (λ filed. tt) problem))
+      unless_deck_fault S state card (conversion taken.0 state.cells.xpbname) (files Converted taken.1 state)
+      (λ problem is. files_kept card Converted taken.1 state (λ filed. tt) problem))
 
   revises_kept : (card : ℕ) (state : State) → IsKept S state card (revises card state)
   revises_kept card state =
       unless_fault S state card VerbFault.NoProblem (problem_of state.cells.xoldname state.file) _ (λ old e.
       unless_fault {X = List Card × List (List Card)} S state card VerbFault.DeckNotFound (deck_taken state.cells.xdata state.decks) _ (λ taken f.
-      unless_deck_fault S state card (revision old taken.0 state.cells.xpbname) (files Revised taken.1 state) (λ problem is. files_kept card Revised taken.1 state (λ filed. tt) problem)))
+      unless_deck_fault S state card (revision old taken.0 state.cells.xpbname) (files Revised taken.1 state)
+      (λ problem is. files_kept card Revised taken.1 state (λ filed. tt) problem)))
 
-  opened : (card : ℕ) (options : SetupOptions) (state : State) (problem : Problem ℕ) (lp : LinearProgram) → selected problem (choice_of state.cells options) ≡ Ok lp →
-      IsKept S state card (Does (next (Prints (SetUp problem.name options.sense)) (record state { setup = Some (record { problem = problem; options = options; opening = opening_statuses lp; steps = [] }); mark = None })))
+  opened : (card : ℕ) (options : SetupOptions) (state : State) (problem : Problem ℕ) (lp : LinearProgram) →
+      selected problem (choice_of state.cells options) ≡ Ok lp →
+      IsKept S state card
+      (Does (next (Prints (SetUp problem.name options.sense))
+      (record state { setup = Some (record { problem = problem; options = options; opening = opening_statuses lp; steps = [] }); mark = None })))
   opened card options state problem lp is = does S state card _ (
     tt,
     record {
       marked = unmarked _ _ _;
-      bases = with_basis (record { problem = problem; options = options; opening = opening_statuses lp; steps = [] }) state.cells.xobj state.cells.xrhs lp is (opening_is lp);
+      bases =
+          with_basis (record { problem = problem; options = options; opening = opening_statuses lp; steps = [] }) state.cells.xobj state.cells.xrhs lp is
+          (opening_is lp);
     },
   )
 
@@ -430,20 +499,25 @@ module _ (S : Solving) (solving : KnowsSolving S) where
       unless_fault S state card VerbFault.NoProblem (problem_of state.cells.xpbname state.file) _ (λ problem e.
       selecting S state card problem (choice_of state.cells options) _ (λ lp is. opened card options state problem lp is))
 
-  punched : (card : ℕ) (state : State) (name : Name) (count : ℕ) (cards : List (List ℕ)) → Knows state → IsKept S state card (Does (next (Punches (BcdOut name count) cards) state))
+  punched : (card : ℕ) (state : State) (name : Name) (count : ℕ) (cards : List (List ℕ)) → Knows state →
+      IsKept S state card (Does (next (Punches (BcdOut name count) cards) state))
   punched card state name count cards knows = does S state card _ (tt, record { marked = knows.marked; bases = knows.bases })
 
   punches_kept : (card : ℕ) (state : State) → Knows state → IsKept S state card (punches card state)
-  punches_kept card state knows = unless_fault S state card VerbFault.NoProblem (problem_of state.cells.xpbname state.file) _ (λ problem e. punched card state problem.name _ _ knows)
+  punches_kept card state knows =
+      unless_fault S state card VerbFault.NoProblem (problem_of state.cells.xpbname state.file) _ (λ problem e. punched card state problem.name _ _ knows)
 
   pub verb_kept : (verb : Verb ℕ) (card : ℕ) (state : State) → HasProblem state.setup → Knows state → IsKept S state card (verb_move verb card state)
   unfolding verb_move
   verb_kept Initialz card state lawful knows = does S state card _ (tt, record { marked = unmarked _ _ _; bases = knows.bases })
   verb_kept (Title text) card state lawful knows = does S state card _ (tt, record { marked = knows.marked; bases = knows.bases })
-  verb_kept (MoveName cell name) card state lawful knows = does S state card _ (tt, record { marked = named cell name state.cells state.mark state.setup knows.marked; bases = knows.bases })
-  verb_kept (MoveNumber cell value) card state lawful knows = does S state card _ (tt, record { marked = moved_number cell value state.cells state.mark state.setup knows.marked; bases = knows.bases })
+  verb_kept (MoveName cell name) card state lawful knows =
+      does S state card _ (tt, record { marked = named cell name state.cells state.mark state.setup knows.marked; bases = knows.bases })
+  verb_kept (MoveNumber cell value) card state lawful knows =
+      does S state card _ (tt, record { marked = moved_number cell value state.cells state.mark state.setup knows.marked; bases = knows.bases })
   verb_kept (MoveLimit limit) card state lawful knows = does S state card _ (tt, record { marked = knows.marked; bases = knows.bases })
-  verb_kept (Mvadr demand position) card state lawful knows = does S state card _ (tt, record { marked = moved_demand demand position state.cells state.mark state.setup knows.marked; bases = knows.bases })
+  verb_kept (Mvadr demand position) card state lawful knows =
+      does S state card _ (tt, record { marked = moved_demand demand position state.cells state.mark state.setup knows.marked; bases = knows.bases })
   verb_kept (Goto position) card state lawful knows = does S state card _ (tt, record { marked = knows.marked; bases = knows.bases })
   verb_kept Convert card state lawful knows = converts_kept card state
   verb_kept Revise card state lawful knows = revises_kept card state
@@ -452,8 +526,10 @@ module _ (S : Solving) (solving : KnowsSolving S) where
   verb_kept Dual card state lawful knows = dual_kept (Some (steps_allowed state.cells)) card state lawful knows
   verb_kept SolutionVerb card state lawful knows = shows_kept card state lawful knows
   verb_kept Ranging card state lawful knows = ranges_kept card state lawful knows
-  verb_kept Paraobj card state lawful knows = parametric_runs_kept card VerbFault.NoChangeRow change_row state.cells.xchrow state (row_named state.cells) lawful knows
-  verb_kept Pararhs card state lawful knows = parametric_runs_kept card VerbFault.NoChangeSet change_set state.cells.xchcol state (set_named state.cells) lawful knows
+  verb_kept Paraobj card state lawful knows =
+      parametric_runs_kept card VerbFault.NoChangeRow change_row state.cells.xchrow state (row_named state.cells) lawful knows
+  verb_kept Pararhs card state lawful knows =
+      parametric_runs_kept card VerbFault.NoChangeSet change_set state.cells.xchcol state (set_named state.cells) lawful knows
   verb_kept Bcdout card state lawful knows = punches_kept card state knows
   verb_kept Punch card state lawful knows = punches_basis_kept card state lawful knows
   verb_kept Insert card state lawful knows = inserts_kept card state lawful knows

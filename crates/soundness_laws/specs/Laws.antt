@@ -33,10 +33,12 @@ use Rattle.soundness_laws.specs.Headline.{HoldInJob}
 -- the ends of paths and of parametric runs, the lines of SOLUTION and RANGE, the cards of PUNCH and what
 -- comes of the basis that INSERT reads are those of the linear program
 pub record KnowsSolving (S : Solving) : Type 0 where
-  pub solves : (solver : Solver) (sheet : Sheet) (s : Basis) (limit : Option ℕ) (end : PathEnd) → S.Solves solver sheet s limit end → IsSolvedBy solver sheet s limit end
+  pub solves : (solver : Solver) (sheet : Sheet) (s : Basis) (limit : Option ℕ) (end : PathEnd) → S.Solves solver sheet s limit end →
+      IsSolvedBy solver sheet s limit end
   pub shows : (mark : Mark) (sheet : Sheet) (s : Basis) (lines : SolutionLines) → S.Shows mark sheet s lines → IsSolutionOf sheet s lines
   pub ranges : (sheet : Sheet) (s : Basis) (lines : RangeLines) → S.Ranges sheet s lines → IsRanged sheet s lines
-  pub parametric_runs : (sheet : Sheet) (s : Basis) (parametric_run : ParametricRun) (end : ParametricRunEnd) → S.ParametricRuns sheet s parametric_run end → IsParametricRun sheet s parametric_run end
+  pub parametric_runs : (sheet : Sheet) (s : Basis) (parametric_run : ParametricRun) (end : ParametricRunEnd) → S.ParametricRuns sheet s parametric_run end →
+      IsParametricRun sheet s parametric_run end
   pub punches : (sheet : Sheet) (s : Basis) (cards : List (List ℕ)) → S.Punches sheet s cards → ArePunched sheet s cards
   pub installs : (sheet : Sheet) (t : Basis) (end : InstallEnd) → S.Installs sheet t end → IsInstalled sheet t end
 

@@ -45,7 +45,8 @@ pigeonhole (suc m) (suc n) f below one = let rest = pigeonhole m n g g_below g_o
     g_one : (i j : ℕ) → i < n → j < n → g i ≡ g j → i ≡ j
     g_one i j low_i low_j e = at (eqb_tells (f i) m) (eqb_tells (f j) m)
       where
-        at : (((eqb (f i) m ≡ true) × (f i ≡ m)) ⊎ ((eqb (f i) m ≡ false) × (f i ≢ m))) → (((eqb (f j) m ≡ true) × (f j ≡ m)) ⊎ ((eqb (f j) m ≡ false) × (f j ≢ m))) → i ≡ j
+        at : (((eqb (f i) m ≡ true) × (f i ≡ m)) ⊎ ((eqb (f i) m ≡ false) × (f i ≢ m))) →
+            (((eqb (f j) m ≡ true) × (f j ≡ m)) ⊎ ((eqb (f j) m ≡ false) × (f j ≢ m))) → i ≡ j
         at (inl same) (inl too) = one i j (omega (arith, low_i)) (omega (arith, low_j)) (same.1 ∙ sym too.1)
         at (inl same) (inr other) = absurd (last j low_j (sym (kept j other.0) ∙ sym e ∙ moved i same.0))
         at (inr other) (inl same) = absurd (last i low_i (sym (kept i other.0) ∙ e ∙ moved j same.0))
@@ -112,13 +113,16 @@ same_list (x ∷ s) [] low high lengths first second e = absurd (omega (arith, l
 same_list (x ∷ s) (y ∷ r) low high lengths first second e =
     let parts = first_digit (digit x) (code s) (digit y) (code r) (digit_below x) (digit_below y) e in
     ap₂ (λ z zs. z ∷ zs) (same_status x y (low 0) (high 0) (first 0 (omega arith)) (second 0 (omega arith)) parts.0)
-    (same_list s r (λ k. low (suc k)) (λ k. high (suc k)) (omega (arith, lengths)) (λ k below. first (suc k) (omega (arith, below))) (λ k below. second (suc k) (omega (arith, below))) parts.1)
+    (same_list s r (λ k. low (suc k)) (λ k. high (suc k)) (omega (arith, lengths)) (λ k below. first (suc k) (omega (arith, below)))
+    (λ k below. second (suc k) (omega (arith, below))) parts.1)
 
 fits : (p : LinearProgram) (s : List Status) → IsBasis p s → Fits s (λ k. lower_of p (suc k)) (λ k. upper_of p (suc k))
 fits p s basis k below =
     let place : suc k - 1 ≡ k = omega arith in
-    subst (λ i. IsAllowed (get_or s i Bs) (lower_of p (suc k)) (upper_of p (suc k))) place (basis.allowed (suc k) (omega arith, omega (arith, below, basis.counted)))
+    subst (λ i. IsAllowed (get_or s i Bs) (lower_of p (suc k)) (upper_of p (suc k))) place
+    (basis.allowed (suc k) (omega arith, omega (arith, below, basis.counted)))
 
 -- two bases with one number are one
 pub code_tells : (p : LinearProgram) (s r : List Status) → IsBasis p s → IsBasis p r → code s ≡ code r → s ≡ r
-code_tells p s r first second e = same_list s r (λ k. lower_of p (suc k)) (λ k. upper_of p (suc k)) (first.counted ∙ sym second.counted) (fits p s first) (fits p r second) e
+code_tells p s r first second e =
+    same_list s r (λ k. lower_of p (suc k)) (λ k. upper_of p (suc k)) (first.counted ∙ sym second.counted) (fits p s first) (fits p r second) e

@@ -72,7 +72,9 @@ module _ (p : LinearProgram) (lawful : IsLinearProgram p) (no_change : p.change 
 
   module _ (v : Visit) (h : IsDualVisit v) where
     is_right : entering_variable p v.basis v.tableau None ≡ None
-    is_right = wrong_same p v.basis v.tableau h.at.1.tableau lawful h.at.0 (same_tableau p v.basis h.at.0 v.tableau h.at.1.tableau h.is_tableau h.at.1.is_tableau) ∙ h.at.1.right
+    is_right =
+        wrong_same p v.basis v.tableau h.at.1.tableau lawful h.at.0 (same_tableau p v.basis h.at.0 v.tableau h.at.1.tableau h.is_tableau h.at.1.is_tableau)
+        ∙ h.at.1.right
 
     abbrev back : IsReturn p v.basis v.tableau v.move
     back = return_of p v.basis v.tableau v.move h.turns
@@ -92,7 +94,8 @@ module _ (p : LinearProgram) (lawful : IsLinearProgram p) (no_change : p.change 
     right_prices : (k : ℕ) → IsVariable p.matrix k → lowers p v.basis (worth_rate p v.basis v.tableau) k ≡ false
     right_prices = right_at p no_change v.basis h.at.0 v.tableau h.is_tableau is_right v.move back
 
-    least : (j : ℕ) → IsVariable p.matrix j → restores_feasibility p v.basis v.tableau back.r below j ≡ true → ratio p v.basis v.tableau back.r back.q ≤ℚ ratio p v.basis v.tableau back.r j
+    least : (j : ℕ) → IsVariable p.matrix j → restores_feasibility p v.basis v.tableau back.r below j ≡ true →
+        ratio p v.basis v.tableau back.r back.q ≤ℚ ratio p v.basis v.tableau back.r j
     least = least_ratio p no_change v.basis h.at.0 v.tableau h.is_tableau is_right v.move back
 
     leaves : IsBasic p.matrix (basics_of v.basis) back.r
@@ -102,7 +105,8 @@ module _ (p : LinearProgram) (lawful : IsLinearProgram p) (no_change : p.change 
     q_enters = enters p no_change v.basis h.at.0 v.tableau h.is_tableau right_prices back.r back.q below leaves is_q brings_q least
 
     dual_returning : IsReturning p v
-    dual_returning = record { at = h.at.0; is_tableau = h.is_tableau; r = back.r; q = back.q; phase = back.phase; is_q = is_q; lowers_it = brings_q; gives = back.gives }
+    dual_returning =
+        record { at = h.at.0; is_tableau = h.is_tableau; r = back.r; q = back.q; phase = back.phase; is_q = is_q; lowers_it = brings_q; gives = back.gives }
 
     -- the loss for each unit, and how far r goes
     module _ (z : Vector) (point : IsPointOf p (after v.basis v.move) z) where
@@ -112,7 +116,8 @@ module _ (p : LinearProgram) (lawful : IsLinearProgram p) (no_change : p.change 
       far : zero_ℚ <ℚ signed below (z back.r -ℚ v.tableau.point back.r)
       far = goes p v.basis h.at.0 v.tableau h.is_tableau back.r back.q below leaves q_enters z there (broken_limit p v.basis v.tableau back.r back.phase)
 
-      loses : for_min p.sense (z p.objective -ℚ v.tableau.point p.objective) ≡ ratio p v.basis v.tableau back.r back.q *ℚ signed below (z back.r -ℚ v.tableau.point back.r)
+      loses : for_min p.sense (z p.objective -ℚ v.tableau.point p.objective) ≡ ratio p v.basis v.tableau back.r back.q *ℚ signed below
+          (z back.r -ℚ v.tableau.point back.r)
       loses =
           gain_is p v.basis h.at.0 v.tableau h.is_tableau back.r back.q below leaves q_enters z there (ratio p v.basis v.tableau back.r back.q) objective_row
           (own p no_change v.basis h.at.0 v.tableau h.is_tableau right_prices back.r back.q below leaves is_q brings_q least)
@@ -123,11 +128,14 @@ module _ (p : LinearProgram) (lawful : IsLinearProgram p) (no_change : p.change 
           no_improvement p.sense (v.tableau.point p.objective) (z p.objective)
           (subst (λ y. zero_ℚ ≤ℚ y) (sym loses)
           (le_by_product (some p no_change v.basis h.at.0 v.tableau h.is_tableau right_prices back.r back.q below leaves is_q brings_q least) (le_of_lt far)
-          (by_ring2 (ratio p v.basis v.tableau back.r back.q) (signed below (z back.r -ℚ v.tableau.point back.r)) (λ m d. m ⊗ d ≐ number (pos 0) ⊕ (m ⊖ number (pos 0)) ⊗ (d ⊖ number (pos 0))) refl)))
+          (by_ring2 (ratio p v.basis v.tableau back.r back.q) (signed below (z back.r -ℚ v.tableau.point back.r))
+          (λ m d. m ⊗ d ≐ number (pos 0) ⊕ (m ⊖ number (pos 0)) ⊗ (d ⊖ number (pos 0))) refl)))
 
       -- and where it is as good after the step, the price of what enters is 0
       no_price : for_min p.sense (z p.objective) ≤ℚ for_min p.sense (v.tableau.point p.objective) → v.tableau.rate p.objective back.q ≡ zero_ℚ
-      no_price good = by_factor (zero_product x_q (v.tableau.rate p.objective back.q) (sym (moved p v.basis h.at.0 v.tableau h.is_tableau back.r back.q below leaves q_enters z there p.objective objective_row) ∙ unmoved))
+      no_price good =
+          by_factor (zero_product x_q (v.tableau.rate p.objective back.q)
+          (sym (moved p v.basis h.at.0 v.tableau h.is_tableau back.r back.q below leaves q_enters z there p.objective objective_row) ∙ unmoved))
         where
           x_q : ℚ
           x_q = z back.q -ℚ v.tableau.point back.q
@@ -138,7 +146,8 @@ module _ (p : LinearProgram) (lawful : IsLinearProgram p) (no_change : p.change 
               (le_antisymm (as_good p.sense (v.tableau.point p.objective) (z p.objective) good)
               (subst (λ y. zero_ℚ ≤ℚ y) (sym loses)
               (le_by_product (some p no_change v.basis h.at.0 v.tableau h.is_tableau right_prices back.r back.q below leaves is_q brings_q least) (le_of_lt far)
-              (by_ring2 (ratio p v.basis v.tableau back.r back.q) (signed below (z back.r -ℚ v.tableau.point back.r)) (λ m d. m ⊗ d ≐ number (pos 0) ⊕ (m ⊖ number (pos 0)) ⊗ (d ⊖ number (pos 0))) refl))))
+              (by_ring2 (ratio p v.basis v.tableau back.r back.q) (signed below (z back.r -ℚ v.tableau.point back.r))
+              (λ m d. m ⊗ d ≐ number (pos 0) ⊕ (m ⊖ number (pos 0)) ⊗ (d ⊖ number (pos 0))) refl))))
 
           infeasible_end : x_q ≡ zero_ℚ → z back.r -ℚ v.tableau.point back.r ≡ zero_ℚ
           infeasible_end e =
@@ -163,7 +172,8 @@ module _ (p : LinearProgram) (lawful : IsLinearProgram p) (no_change : p.change 
           subst (λ m. AreRates p.matrix (basics_of (after v.basis m)) (exchanged_rate v.tableau.rate back.r back.q)) (sym back.gives)
           (rates_after p no_change v.basis h.at.0 v.tableau h.is_tableau right_prices back.r back.q below leaves is_q brings_q least)
 
-      rate_there : (k : ℕ) → IsNonbasic p.matrix (basics_of (after v.basis v.move)) k → objective_rate p u.rate k ≡ exchanged_rate v.tableau.rate back.r back.q p.objective k
+      rate_there : (k : ℕ) → IsNonbasic p.matrix (basics_of (after v.basis v.move)) k →
+          objective_rate p u.rate k ≡ exchanged_rate v.tableau.rate back.r back.q p.objective k
       rate_there k out =
           objective_is u.rate k
           ∙ (same_tableau p (after v.basis v.move) right_next.0 u (record { point = u.point; rate = exchanged_rate v.tableau.rate back.r back.q }) tab
@@ -176,13 +186,15 @@ module _ (p : LinearProgram) (lawful : IsLinearProgram p) (no_change : p.change 
       in_here k is = is_in-basics_of v.basis k is.0 (omega (arith, is.1, h.at.0.is_basis.counted))
 
       -- a price by whether the variable is basic
-      priced : (b : Basics) (rate : ℕ → ℕ → ℚ) (k : ℕ) (mark : Bool) → is_in b k ≡ mark → price_at p b rate k ≡ (if mark then zero_ℚ else objective_rate p rate k)
+      priced : (b : Basics) (rate : ℕ → ℕ → ℚ) (k : ℕ) (mark : Bool) → is_in b k ≡ mark →
+          price_at p b rate k ≡ (if mark then zero_ℚ else objective_rate p rate k)
       priced b rate k mark e = ap (λ m. if m then zero_ℚ else objective_rate p rate k) e
 
       at_q : price_at p (basics_of (after v.basis v.move)) u.rate back.q ≡ price_at p (basics_of v.basis) v.tableau.rate back.q
       at_q =
           priced (basics_of (after v.basis v.move)) u.rate back.q true
-          (in_next back.q is_q ∙ ap (λ j. is_basic (status_of (after v.basis v.move) j)) (sym (ap (λ m. m.enters) back.gives)) ∙ ap is_basic (entered p v exchanges))
+          (in_next back.q is_q ∙ ap (λ j. is_basic (status_of (after v.basis v.move) j)) (sym (ap (λ m. m.enters) back.gives))
+          ∙ ap is_basic (entered p v exchanges))
           ∙ sym (priced (basics_of v.basis) v.tableau.rate back.q false q_enters.1 ∙ objective_is v.tableau.rate back.q ∙ none)
 
       at_r : price_at p (basics_of (after v.basis v.move)) u.rate back.r ≡ price_at p (basics_of v.basis) v.tableau.rate back.r
@@ -190,7 +202,8 @@ module _ (p : LinearProgram) (lawful : IsLinearProgram p) (no_change : p.change 
           priced (basics_of (after v.basis v.move)) u.rate back.r false out
           ∙ rate_there back.r (leaves.0, out)
           ∙ ap (λ b. if b then (one_ℚ /ℚ v.tableau.rate back.r back.q) *ℚ v.tableau.rate p.objective back.q else
-          v.tableau.rate p.objective back.r -ℚ (v.tableau.rate back.r back.r /ℚ v.tableau.rate back.r back.q) *ℚ v.tableau.rate p.objective back.q) (same_number back.r)
+          v.tableau.rate p.objective back.r -ℚ (v.tableau.rate back.r back.r /ℚ v.tableau.rate back.r back.q) *ℚ v.tableau.rate p.objective back.q)
+          (same_number back.r)
           ∙ ap (λ y. (one_ℚ /ℚ v.tableau.rate back.r back.q) *ℚ y) none ∙ mul-zero (one_ℚ /ℚ v.tableau.rate back.r back.q)
           ∙ sym (priced (basics_of v.basis) v.tableau.rate back.r true leaves.1)
         where
@@ -206,7 +219,8 @@ module _ (p : LinearProgram) (lawful : IsLinearProgram p) (no_change : p.change 
               in_next back.r leaves.0 ∙ ap (λ j. is_basic (status_of (after v.basis v.move) j)) (sym (ap (λ m. m.leaves) back.gives))
               ∙ ap is_basic (left p v exchanges) ∙ nonbasic_from v.move.to exchanges.stands
 
-      at_other : (k : ℕ) → IsVariable p.matrix k → k ≢ back.q → ((eqb k back.r ≡ false) × (k ≢ back.r)) → price_at p (basics_of (after v.basis v.move)) u.rate k ≡ price_at p (basics_of v.basis) v.tableau.rate k
+      at_other : (k : ℕ) → IsVariable p.matrix k → k ≢ back.q → ((eqb k back.r ≡ false) × (k ≢ back.r)) →
+          price_at p (basics_of (after v.basis v.move)) u.rate k ≡ price_at p (basics_of v.basis) v.tableau.rate k
       at_other k is not_q not_r = by_mark (is_in (basics_of v.basis) k) refl
         where
           same : is_in (basics_of (after v.basis v.move)) k ≡ is_in (basics_of v.basis) k
@@ -215,8 +229,10 @@ module _ (p : LinearProgram) (lawful : IsLinearProgram p) (no_change : p.change 
               ∙ ap is_basic (stayed p v exchanges k is (λ e. not_q (e ∙ ap (λ m. m.enters) back.gives)) (λ e. not_r.1 (e ∙ ap (λ m. m.leaves) back.gives)))
               ∙ sym (in_here k is)
 
-          by_mark : (mark : Bool) → is_in (basics_of v.basis) k ≡ mark → price_at p (basics_of (after v.basis v.move)) u.rate k ≡ price_at p (basics_of v.basis) v.tableau.rate k
-          by_mark true mark = priced (basics_of (after v.basis v.move)) u.rate k true (same ∙ mark) ∙ sym (priced (basics_of v.basis) v.tableau.rate k true mark)
+          by_mark : (mark : Bool) → is_in (basics_of v.basis) k ≡ mark →
+              price_at p (basics_of (after v.basis v.move)) u.rate k ≡ price_at p (basics_of v.basis) v.tableau.rate k
+          by_mark true mark =
+              priced (basics_of (after v.basis v.move)) u.rate k true (same ∙ mark) ∙ sym (priced (basics_of v.basis) v.tableau.rate k true mark)
           by_mark false mark =
               priced (basics_of (after v.basis v.move)) u.rate k false (same ∙ mark)
               ∙ rate_there k (is, same ∙ mark)
@@ -229,29 +245,40 @@ module _ (p : LinearProgram) (lawful : IsLinearProgram p) (no_change : p.change 
       same_prices : (k : ℕ) → IsVariable p.matrix k → price_at p (basics_of (after v.basis v.move)) u.rate k ≡ price_at p (basics_of v.basis) v.tableau.rate k
       same_prices k is = by_number (eqb_tells k back.q) (eqb_tells k back.r)
         where
-          by_number : (((eqb k back.q ≡ true) × (k ≡ back.q)) ⊎ ((eqb k back.q ≡ false) × (k ≢ back.q))) → (((eqb k back.r ≡ true) × (k ≡ back.r)) ⊎ ((eqb k back.r ≡ false) × (k ≢ back.r))) →
+          by_number : (((eqb k back.q ≡ true) × (k ≡ back.q)) ⊎ ((eqb k back.q ≡ false) × (k ≢ back.q))) →
+              (((eqb k back.r ≡ true) × (k ≡ back.r)) ⊎ ((eqb k back.r ≡ false) × (k ≢ back.r))) →
               price_at p (basics_of (after v.basis v.move)) u.rate k ≡ price_at p (basics_of v.basis) v.tableau.rate k
-          by_number (inl q) other = subst (λ j. price_at p (basics_of (after v.basis v.move)) u.rate j ≡ price_at p (basics_of v.basis) v.tableau.rate j) (sym q.1) at_q
-          by_number (inr not_q) (inl r) = subst (λ j. price_at p (basics_of (after v.basis v.move)) u.rate j ≡ price_at p (basics_of v.basis) v.tableau.rate j) (sym r.1) at_r
+          by_number (inl q) other =
+              subst (λ j. price_at p (basics_of (after v.basis v.move)) u.rate j ≡ price_at p (basics_of v.basis) v.tableau.rate j) (sym q.1) at_q
+          by_number (inr not_q) (inl r) =
+              subst (λ j. price_at p (basics_of (after v.basis v.move)) u.rate j ≡ price_at p (basics_of v.basis) v.tableau.rate j) (sym r.1) at_r
           by_number (inr not_q) (inr not_r) = at_other k is not_q.1 not_r
 
     -- ---- what might bring r back, and isn't chosen though it has a smaller number, has a price
 
-    passed_over : (k : ℕ) → IsVariable p.matrix k → k < back.q → is_in (basics_of v.basis) k ≡ false → restores_feasibility p v.basis v.tableau back.r below k ≡ true → objective_rate p v.tableau.rate k ≢ zero_ℚ
+    passed_over : (k : ℕ) → IsVariable p.matrix k → k < back.q → is_in (basics_of v.basis) k ≡ false →
+        restores_feasibility p v.basis v.tableau back.r below k ≡ true → objective_rate p v.tableau.rate k ≢ zero_ℚ
     passed_over k is before out brings_k zero =
         clash (sym (ap₂ (λ a b. a && b) brings_k cheap)
-        ∙ find_before (λ q. restores_feasibility p v.basis v.tableau back.r below q && is_cheapest p v.basis v.tableau back.r below q) (size p.matrix) 1 back.q back.is_cheapest_of k is.0 before)
+        ∙ find_before (λ q. restores_feasibility p v.basis v.tableau back.r below q && is_cheapest p v.basis v.tableau back.r below q)
+        (size p.matrix) 1 back.q back.is_cheapest_of k is.0 before)
       where
         cheap : is_cheapest p v.basis v.tableau back.r below k ≡ true
         cheap =
-            list_all_from (λ j. not (restores_feasibility p v.basis v.tableau back.r below j) || le_ℚ (ratio p v.basis v.tableau back.r k) (ratio p v.basis v.tableau back.r j)) (size p.matrix) 1
-            (λ j low high. or_right (not (restores_feasibility p v.basis v.tableau back.r below j)) (le_ℚ (ratio p v.basis v.tableau back.r k) (ratio p v.basis v.tableau back.r j))
-            (sym (zero_first (v.tableau.rate p.objective k) (v.tableau.rate back.r k) (v.tableau.rate p.objective j) (v.tableau.rate back.r j) (sym (objective_is v.tableau.rate k) ∙ zero))))
+            list_all_from
+            (λ j. not (restores_feasibility p v.basis v.tableau back.r below j) || le_ℚ (ratio p v.basis v.tableau back.r k)
+            (ratio p v.basis v.tableau back.r j)) (size p.matrix) 1
+            (λ j low high. or_right (not (restores_feasibility p v.basis v.tableau back.r below j))
+            (le_ℚ (ratio p v.basis v.tableau back.r k) (ratio p v.basis v.tableau back.r j))
+            (sym (zero_first (v.tableau.rate p.objective k) (v.tableau.rate back.r k) (v.tableau.rate p.objective j) (v.tableau.rate back.r j)
+            (sym (objective_is v.tableau.rate k) ∙ zero))))
 
     -- at its own basis a nonbasic stands where its price puts it
-    stands_by_price : (k : ℕ) → IsNonbasic p.matrix (basics_of v.basis) k → StopsAt (lower_of p k) (upper_of p k) (v.tableau.point k) (worth_rate p v.basis v.tableau k)
+    stands_by_price : (k : ℕ) → IsNonbasic p.matrix (basics_of v.basis) k →
+        StopsAt (lower_of p k) (upper_of p k) (v.tableau.point k) (worth_rate p v.basis v.tableau k)
     stands_by_price k out =
-        idle_stops (status_of v.basis k) (lower_of p k) (upper_of p k) (v.tableau.point k) (worth_rate p v.basis v.tableau k) (status_of_nonbasic p v.basis h.at.0.is_basis k out)
+        idle_stops (status_of v.basis k) (lower_of p k) (upper_of p k) (v.tableau.point k) (worth_rate p v.basis v.tableau k)
+        (status_of_nonbasic p v.basis h.at.0.is_basis k out)
         (h.at.0.is_basis.allowed k out.0) (h.is_tableau.is_point.placed k out.0)
         (right (status_of v.basis k) (lower_of p k) (upper_of p k) (worth_rate p v.basis v.tableau k) (is_fixed p k) refl (right_prices k out.0))
 
@@ -264,7 +291,8 @@ module _ (p : LinearProgram) (lawful : IsLinearProgram p) (no_change : p.change 
   unfolding worth
   same_worth s at z w first second = ap (for_min p.sense) (one_point p s z w at.is_basis.counted at.nonsingular first second p.objective objective_row)
 
-  never_improved : (s end : List Status) (vs : List Visit) → IsRightBasis s → IsWalk s vs end → ((x : Visit) → In x vs → IsDualVisit x) → (z w : Vector) → IsPointOf p s z → IsPointOf p end w → worth z ≤ℚ worth w
+  never_improved : (s end : List Status) (vs : List Visit) → IsRightBasis s → IsWalk s vs end → ((x : Visit) → In x vs → IsDualVisit x) → (z w : Vector) →
+      IsPointOf p s z → IsPointOf p end w → worth z ≤ℚ worth w
   unfolding worth
   never_improved s end [] good walk visits z w first last = le_of_eq (same_worth s good.0 z w first (subst (λ b. IsPointOf p b w) (sym walk) last))
   never_improved s end (v ∷ vs) good walk visits z w first last =
@@ -278,11 +306,13 @@ module _ (p : LinearProgram) (lawful : IsLinearProgram p) (no_change : p.change 
       n : HasRightPrices p (after v.basis v.move)
       n = (right_next v h).1
 
-  no_prices : (s : List Status) (vs : List Visit) → IsWalk s vs s → (visits : (x : Visit) → In x vs → IsDualVisit x) → (v : Visit) → (i : In v vs) → v.tableau.rate p.objective (back v (visits v i)).q ≡ zero_ℚ
+  no_prices : (s : List Status) (vs : List Visit) → IsWalk s vs s → (visits : (x : Visit) → In x vs → IsDualVisit x) → (v : Visit) → (i : In v vs) →
+      v.tableau.rate p.objective (back v (visits v i)).q ≡ zero_ℚ
   unfolding worth
   no_prices s vs walk visits v i =
       no_price v h n.tableau.point n.is_tableau.is_point
-      (never_improved (after v.basis v.move) v.basis turned.others (right_next v h) turned.walk (λ x j. visits x (turned.was_in x (inr j))) n.tableau.point v.tableau.point n.is_tableau.is_point h.is_tableau.is_point)
+      (never_improved (after v.basis v.move) v.basis turned.others (right_next v h) turned.walk
+      (λ x j. visits x (turned.was_in x (inr j))) n.tableau.point v.tableau.point n.is_tableau.is_point h.is_tableau.is_point)
     where
       h : IsDualVisit v
       h = visits v i
@@ -293,12 +323,15 @@ module _ (p : LinearProgram) (lawful : IsLinearProgram p) (no_change : p.change 
       turned : Turned v vs
       turned = turn_to s v vs walk i
 
-  two_tableaus : (s : List Status) → IsNonsingularBasis p s → (t u : Tableau) → IsTableau p s t → IsTableau p s u → (k : ℕ) → IsVariable p.matrix k → price_at p (basics_of s) t.rate k ≡ price_at p (basics_of s) u.rate k
+  two_tableaus : (s : List Status) → IsNonsingularBasis p s → (t u : Tableau) → IsTableau p s t → IsTableau p s u → (k : ℕ) → IsVariable p.matrix k →
+      price_at p (basics_of s) t.rate k ≡ price_at p (basics_of s) u.rate k
   two_tableaus s at t u first second k is = by_mark (is_in (basics_of s) k) refl
     where
-      by_mark : (mark : Bool) → is_in (basics_of s) k ≡ mark → (if mark then zero_ℚ else objective_rate p t.rate k) ≡ (if mark then zero_ℚ else objective_rate p u.rate k)
+      by_mark : (mark : Bool) → is_in (basics_of s) k ≡ mark →
+          (if mark then zero_ℚ else objective_rate p t.rate k) ≡ (if mark then zero_ℚ else objective_rate p u.rate k)
       by_mark true mark = refl
-      by_mark false mark = objective_is t.rate k ∙ (same_tableau p s at t u first second).rates p.objective k objective_row (is, mark) ∙ sym (objective_is u.rate k)
+      by_mark false mark =
+          objective_is t.rate k ∙ (same_tableau p s at t u first second).rates p.objective k objective_row (is, mark) ∙ sym (objective_is u.rate k)
 
   one_vector : (s end : List Status) (vs : List Visit) → IsRightBasis s → IsWalk s vs end → (visits : (x : Visit) → In x vs → IsDualVisit x) →
       ((x : Visit) → (i : In x vs) → x.tableau.rate p.objective (back x (visits x i)).q ≡ zero_ℚ) → (t : Tableau) → IsTableau p s t →
@@ -318,25 +351,32 @@ module _ (p : LinearProgram) (lawful : IsLinearProgram p) (no_change : p.change 
           ap (λ b. price_at p (basics_of b) v.tableau.rate k) walk.0
           ∙ two_tableaus s good.0 v.tableau t (subst (λ b. IsTableau p b v.tableau) walk.0 h.is_tableau) tab k is
 
-      first : ((x : Visit) → In x vs → (k : ℕ) → IsVariable p.matrix k → price_at p (basics_of x.basis) x.tableau.rate k ≡ price_at p (basics_of (after v.basis v.move)) n.tableau.rate k) →
-          (x : Visit) → ((x ≡ v) ⊎ In x vs) → (k : ℕ) → IsVariable p.matrix k → price_at p (basics_of x.basis) x.tableau.rate k ≡ price_at p (basics_of s) t.rate k
+      first : ((x : Visit) → In x vs → (k : ℕ) → IsVariable p.matrix k →
+          price_at p (basics_of x.basis) x.tableau.rate k ≡ price_at p (basics_of (after v.basis v.move)) n.tableau.rate k) →
+          (x : Visit) → ((x ≡ v) ⊎ In x vs) → (k : ℕ) → IsVariable p.matrix k →
+          price_at p (basics_of x.basis) x.tableau.rate k ≡ price_at p (basics_of s) t.rate k
       first later x (inl e) k is = ap (λ y. price_at p (basics_of y.basis) y.tableau.rate k) e ∙ here k is
       first later x (inr i) k is = later x i k is ∙ same_prices v h n.tableau n.is_tableau (none v (inl refl)) k is ∙ here k is
 
   -- a closed walk
-  module _ (s : List Status) (v : Visit) (vs : List Visit) (good : IsRightBasis s) (walk : IsWalk s (v ∷ vs) s) (visits : (x : Visit) → In x (v ∷ vs) → IsDualVisit x) where
-    one_price : (x : Visit) → In x (v ∷ vs) → (k : ℕ) → IsVariable p.matrix k → price_at p (basics_of x.basis) x.tableau.rate k ≡ price_at p (basics_of s) good.1.tableau.rate k
+  module _ (s : List Status) (v : Visit) (vs : List Visit) (good : IsRightBasis s) (walk : IsWalk s (v ∷ vs) s)
+      (visits : (x : Visit) → In x (v ∷ vs) → IsDualVisit x) where
+    one_price : (x : Visit) → In x (v ∷ vs) → (k : ℕ) → IsVariable p.matrix k →
+        price_at p (basics_of x.basis) x.tableau.rate k ≡ price_at p (basics_of s) good.1.tableau.rate k
     one_price = one_vector s s (v ∷ vs) good walk visits (no_prices s (v ∷ vs) walk visits) good.1.tableau good.1.is_tableau
 
-    module _ (x y : Visit) (i : In x (v ∷ vs)) (j : In y (v ∷ vs)) (k : ℕ) (is : IsVariable p.matrix k) (before : k < (back x (visits x i)).q) (out : is_in (basics_of x.basis) k ≡ false) where
+    module _ (x y : Visit) (i : In x (v ∷ vs)) (j : In y (v ∷ vs)) (k : ℕ) (is : IsVariable p.matrix k) (before : k < (back x (visits x i)).q)
+        (out : is_in (basics_of x.basis) k ≡ false) where
       price_here : price_at p (basics_of y.basis) y.tableau.rate k ≡ objective_rate p x.tableau.rate k
       price_here = one_price y j k is ∙ sym (one_price x i k is) ∙ ap (λ m. if m then zero_ℚ else objective_rate p x.tableau.rate k) out
 
-      by_mark : objective_rate p x.tableau.rate k ≢ zero_ℚ → (mark : Bool) → is_in (basics_of y.basis) k ≡ mark → (if mark then zero_ℚ else objective_rate p y.tableau.rate k) ≡ objective_rate p x.tableau.rate k →
+      by_mark : objective_rate p x.tableau.rate k ≢ zero_ℚ → (mark : Bool) → is_in (basics_of y.basis) k ≡ mark →
+          (if mark then zero_ℚ else objective_rate p y.tableau.rate k) ≡ objective_rate p x.tableau.rate k →
           y.tableau.point k ≡ x.tableau.point k
       by_mark apart true mark e = absurd (apart (sym e))
       by_mark apart false mark e =
-          one_limit (lower_of p k) (upper_of p k) (y.tableau.point k) (x.tableau.point k) (worth_rate p x.basis x.tableau k) (λ z. apart (for_min_zero p.sense (objective_rate p x.tableau.rate k) z))
+          one_limit (lower_of p k) (upper_of p k) (y.tableau.point k) (x.tableau.point k) (worth_rate p x.basis x.tableau k)
+          (λ z. apart (for_min_zero p.sense (objective_rate p x.tableau.rate k) z))
           (subst (StopsAt (lower_of p k) (upper_of p k) (y.tableau.point k)) (ap (for_min p.sense) e) (stands_by_price y (visits y j) k (is, mark)))
           (stands_by_price x (visits x i) k (is, out))
 
@@ -349,10 +389,12 @@ module _ (p : LinearProgram) (lawful : IsLinearProgram p) (no_change : p.change 
     unfolding dual_returning
     no_dual_cycle =
         no_return_cycle p s v vs walk (λ x i. dual_returning x (visits x i))
-        (λ x y i j k is before out. by_test x y i j k is before out (restores_feasibility p x.basis x.tableau (back x (visits x i)).r (below x (visits x i)) k) refl)
+        (λ x y i j k is before out. by_test x y i j k is before out
+        (restores_feasibility p x.basis x.tableau (back x (visits x i)).r (below x (visits x i)) k) refl)
 
   pub no_dual_return : (s : List Status) (bases : List (List Status)) → IsRightBasis s → IsDualPath p s bases → 0 < length bases → s ≢ last_of s bases
   no_dual_return s [] good path some e = absurd (omega (arith, some))
   no_dual_return s (next ∷ bases) good path some e =
       no_dual_cycle s (record { basis = s; tableau = path.0.tableau; move = path.0.move }) (visits dual_turn p next bases path.1) good
-      (subst (λ end. IsWalk s (visits dual_turn p s (next ∷ bases) path) end) (sym e) (is_walk dual_turn p s (next ∷ bases) path)) (are_visits dual_turn p IsRightBasis right_leads s (next ∷ bases) good path)
+      (subst (λ end. IsWalk s (visits dual_turn p s (next ∷ bases) path) end) (sym e) (is_walk dual_turn p s (next ∷ bases) path))
+      (are_visits dual_turn p IsRightBasis right_leads s (next ∷ bases) good path)

@@ -64,8 +64,10 @@ for_min_zero Max a e = by_ring2 a a (λ a b. a ≐ number (pos 0) ⊖ opposite a
 
 -- ---- from a basis to that in which q has taken the place of r
 
-module _ (p : LinearProgram) (s : List Status) (at : IsNonsingularBasis p s) (t : Tableau) (tab : IsTableau p s t) (r q : ℕ) (below : Bool) (leaves : IsBasic p.matrix (basics_of s) r)
-    (enters : IsNonbasic p.matrix (basics_of s) q) (z : Vector) (point : IsPointOf p (after s (record { enters = q; leaves = r; to = if below then Ll else Ul })) z) where
+module _ (p : LinearProgram) (s : List Status) (at : IsNonsingularBasis p s) (t : Tableau) (tab : IsTableau p s t) (r q : ℕ) (below : Bool)
+    (leaves : IsBasic p.matrix (basics_of s) r)
+    (enters : IsNonbasic p.matrix (basics_of s) q) (z : Vector)
+    (point : IsPointOf p (after s (record { enters = q; leaves = r; to = if below then Ll else Ul })) z) where
   abbrev next : List Status
   next = after s (record { enters = q; leaves = r; to = if below then Ll else Ul })
 
@@ -77,7 +79,8 @@ module _ (p : LinearProgram) (s : List Status) (at : IsNonsingularBasis p s) (t 
 
   pub stays : (k : ℕ) → IsVariable p.matrix k → k ≢ r → k ≢ q → status_of next k ≡ status_of s k
   stays k is not_r not_q =
-      changed_other p s at.is_basis r k (if below then Ll else Ul) (with_status s q Bs) leaves.0 is not_r ∙ changed_other p s at.is_basis q k Bs s enters.0 is not_q
+      changed_other p s at.is_basis r k (if below then Ll else Ul) (with_status s q Bs) leaves.0 is not_r
+      ∙ changed_other p s at.is_basis q k Bs s enters.0 is not_q
 
   still : (k : ℕ) → IsNonbasic p.matrix (basics_of s) k → k ≢ q → x k ≡ zero_ℚ
   still k out other =

@@ -43,7 +43,8 @@ module _ (rule : Rule) (p : LinearProgram) (Good : List Status → Type 0) (is_b
       no_return s (take j bases) good (path_prefix j s bases path) (omega (arith, counted, before))
   rule_apart s [] good path (suc i) j before within = absurd (omega (arith, before, within))
   rule_apart s (next ∷ bases) good path (suc i) zero before within = absurd (omega (arith, before))
-  rule_apart s (next ∷ bases) good path (suc i) (suc j) before within = rule_apart next bases (leads s next good path.0) path.1 i j (omega (arith, before)) (omega (arith, within))
+  rule_apart s (next ∷ bases) good path (suc i) (suc j) before within =
+      rule_apart next bases (leads s next good path.0) path.1 i j (omega (arith, before)) (omega (arith, within))
 
   pub rule_short : (s : List Status) (bases : List (List Status)) → Good s → RulePath rule p s bases → length bases < lists_of p
   unfolding lists_of
@@ -69,7 +70,8 @@ module _ (rule : Rule) (p : LinearProgram) (Good : List Status → Type 0) (is_b
           by_order (inr h) (inr high) = absurd (rule_apart s bases good path j i high.1 (omega (arith, low_i)) (sym same))
 
   -- a path with one step more
-  path_more : (s : List Status) (bases : List (List Status)) (next : List Status) → RulePath rule p s bases → RuleStep rule p (last_of s bases) next → RulePath rule p s (bases ++ (next ∷ []))
+  path_more : (s : List Status) (bases : List (List Status)) (next : List Status) → RulePath rule p s bases → RuleStep rule p (last_of s bases) next →
+      RulePath rule p s (bases ++ (next ∷ []))
   path_more s [] next path step = (step, tt)
   path_more s (first ∷ bases) next path step = (path.0, path_more first bases next path.1 step)
 
@@ -90,7 +92,8 @@ module _ (p : LinearProgram) (lawful : IsLinearProgram p) where
   no_return s [] at path some e = absurd (omega (arith, some))
   no_return s (next ∷ bases) at path some e =
       no_cycle p lawful s (record { basis = s; tableau = path.0.tableau; move = path.0.move }) (visits turn p next bases path.1)
-      (subst (λ end. IsWalk s (visits turn p s (next ∷ bases) path) end) (sym e) (is_walk turn p s (next ∷ bases) path)) (are_visits turn p (IsNonsingularBasis p) (step_leads p) s (next ∷ bases) at path)
+      (subst (λ end. IsWalk s (visits turn p s (next ∷ bases) path) end) (sym e) (is_walk turn p s (next ∷ bases) path))
+      (are_visits turn p (IsNonsingularBasis p) (step_leads p) s (next ∷ bases) at path)
 
   pub apart : (s : List Status) (bases : List (List Status)) → IsNonsingularBasis p s → IsPath p s bases → NeverReturns s bases
   apart = rule_apart turn p (IsNonsingularBasis p) (λ s at. at) (step_leads p) no_return
@@ -118,14 +121,20 @@ module _ (p : LinearProgram) (lawful : IsLinearProgram p) where
 
 module _ (p : LinearProgram) (lawful : IsLinearProgram p) (no_change : p.change ≡ None) where
   pub dual_apart : (s : List Status) (bases : List (List Status)) → IsNonsingularBasis p s → HasRightPrices p s → IsDualPath p s bases → NeverReturns s bases
-  dual_apart s bases at right path = rule_apart dual_turn p (IsRightBasis p lawful no_change) (λ s good. good.0) (right_leads p lawful no_change) (no_dual_return p lawful no_change) s bases (at, right) path
+  dual_apart s bases at right path =
+      rule_apart dual_turn p (IsRightBasis p lawful no_change) (λ s good. good.0) (right_leads p lawful no_change) (no_dual_return p lawful no_change) s bases
+      (at, right) path
 
-  pub dual_short : (s : List Status) (bases : List (List Status)) → IsNonsingularBasis p s → HasRightPrices p s → IsDualPath p s bases → length bases < lists_of p
-  dual_short s bases at right path = rule_short dual_turn p (IsRightBasis p lawful no_change) (λ s good. good.0) (right_leads p lawful no_change) (no_dual_return p lawful no_change) s bases (at, right) path
+  pub dual_short : (s : List Status) (bases : List (List Status)) → IsNonsingularBasis p s → HasRightPrices p s → IsDualPath p s bases →
+      length bases < lists_of p
+  dual_short s bases at right path =
+      rule_short dual_turn p (IsRightBasis p lawful no_change) (λ s good. good.0) (right_leads p lawful no_change) (no_dual_return p lawful no_change) s bases
+      (at, right) path
 
   pub dual_limited : (s : List Status) (steps : ℕ) → IsNonsingularBasis p s → HasRightPrices p s → DualGoesOnFor p s steps → steps + 1 < lists_of p
   dual_limited s steps at right goes_on =
-      rule_limited dual_turn p (IsRightBasis p lawful no_change) (λ s good. good.0) (right_leads p lawful no_change) (no_dual_return p lawful no_change) s steps (at, right) goes_on
+      rule_limited dual_turn p (IsRightBasis p lawful no_change) (λ s good. good.0) (right_leads p lawful no_change) (no_dual_return p lawful no_change) s steps
+      (at, right) goes_on
 
   pub dual_ends : (s : List Status) → IsNonsingularBasis p s → HasRightPrices p s → RuleEndsWithin dual_turn p s (lists_of p)
   dual_ends s at right = by_end (dual_ends_or_goes_on p (lists_of p) s at (record { tableau = right.tableau; is_tableau = right.is_tableau }))

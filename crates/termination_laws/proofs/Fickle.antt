@@ -40,7 +40,8 @@ greatest v (w ∷ vs) = choose (greatest w vs)
         here h x (inl e) = rw e (omega arith)
         here h x (inr i) = omega (arith, h, g.most x i)
 
-        by_order : (((leb v.move.leaves g.last.move.leaves ≡ true) × (v.move.leaves ≤ g.last.move.leaves)) ⊎ ((leb v.move.leaves g.last.move.leaves ≡ false) × (g.last.move.leaves < v.move.leaves))) → Greatest (v ∷ w ∷ vs)
+        by_order : (((leb v.move.leaves g.last.move.leaves ≡ true) × (v.move.leaves ≤ g.last.move.leaves)) ⊎
+            ((leb v.move.leaves g.last.move.leaves ≡ false) × (g.last.move.leaves < v.move.leaves))) → Greatest (v ∷ w ∷ vs)
         by_order (inl h) = record { last = g.last; is_there = inr g.is_there; most = later h.1 }
         by_order (inr h) = record { last = v; is_there = inl refl; most = here h.1 }
 
@@ -57,7 +58,8 @@ module _ (p : LinearProgram) where
   module _ (v : Visit) (ex : Exchanges v) where
     pub entered : status_of (after v.basis v.move) v.move.enters ≡ Bs
     entered =
-        changed_other p v.basis ex.basis v.move.leaves v.move.enters v.move.to (with_status v.basis v.move.enters Bs) ex.leaves_is ex.enters_is (λ e. ex.enters (ap (status_of v.basis) e ∙ ex.leaves))
+        changed_other p v.basis ex.basis v.move.leaves v.move.enters v.move.to (with_status v.basis v.move.enters Bs) ex.leaves_is ex.enters_is
+        (λ e. ex.enters (ap (status_of v.basis) e ∙ ex.leaves))
         ∙ changed_own p v.basis ex.basis v.move.enters Bs v.basis ex.basis.counted ex.enters_is
 
     pub left : status_of (after v.basis v.move) v.move.leaves ≡ v.move.to
@@ -77,7 +79,8 @@ module _ (p : LinearProgram) where
 
   module _ (k : ℕ) (is : IsVariable p.matrix k) where
     -- a basic that never leaves stays basic
-    stays_basic : (s end : List Status) (vs : List Visit) → IsWalk s vs end → ((v : Visit) → In v vs → Exchanges v) → ((v : Visit) → In v vs → v.move.leaves ≢ k) → status_of s k ≡ Bs →
+    stays_basic : (s end : List Status) (vs : List Visit) → IsWalk s vs end → ((v : Visit) → In v vs → Exchanges v) →
+        ((v : Visit) → In v vs → v.move.leaves ≢ k) → status_of s k ≡ Bs →
         ((v : Visit) → In v vs → Rests k Bs v) × (status_of end k ≡ Bs)
     stays_basic s end [] walk ex never basic = ((λ v i. absurd i), ap (λ s. status_of s k) (sym walk) ∙ basic)
     stays_basic s end (v ∷ vs) walk ex never basic =
@@ -98,7 +101,8 @@ module _ (p : LinearProgram) where
         first rest x (inr i) = rest x i
 
     -- what never leaves, and isn't basic at the end, never enters
-    stays_out : (st : Status) (s end : List Status) (vs : List Visit) → IsWalk s vs end → ((v : Visit) → In v vs → Exchanges v) → ((v : Visit) → In v vs → v.move.leaves ≢ k) → status_of s k ≡ st → status_of end k ≢ Bs →
+    stays_out : (st : Status) (s end : List Status) (vs : List Visit) → IsWalk s vs end → ((v : Visit) → In v vs → Exchanges v) →
+        ((v : Visit) → In v vs → v.move.leaves ≢ k) → status_of s k ≡ st → status_of end k ≢ Bs →
         (v : Visit) → In v vs → Rests k st v
     stays_out st s end [] walk ex never stands out v i = absurd i
     stays_out st s end (v ∷ vs) walk ex never stands out x i =
@@ -108,7 +112,9 @@ module _ (p : LinearProgram) where
         here = ap (λ s. status_of s k) walk.0 ∙ stands
 
         apart : v.move.enters ≢ k
-        apart e = out (stays_basic (after v.basis v.move) end vs walk.1 (λ x i. ex x (inr i)) (λ x i. never x (inr i)) (ap (status_of (after v.basis v.move)) (sym e) ∙ entered v (ex v (inl refl)))).1
+        apart e =
+            out (stays_basic (after v.basis v.move) end vs walk.1 (λ x i. ex x (inr i)) (λ x i. never x (inr i))
+            (ap (status_of (after v.basis v.move)) (sym e) ∙ entered v (ex v (inl refl)))).1
 
         next : status_of (after v.basis v.move) k ≡ st
         next = stayed v (ex v (inl refl)) k is (λ e. apart (sym e)) (λ e. never v (inl refl) (sym e)) ∙ here
@@ -118,7 +124,8 @@ module _ (p : LinearProgram) where
         first rest x (inr i) = rest x i
 
     -- on a closed walk what never leaves has one status and never enters
-    steady : (s : List Status) (vs : List Visit) → IsWalk s vs s → ((v : Visit) → In v vs → Exchanges v) → ((v : Visit) → In v vs → v.move.leaves ≢ k) → (v : Visit) → In v vs → Rests k (status_of s k) v
+    steady : (s : List Status) (vs : List Visit) → IsWalk s vs s → ((v : Visit) → In v vs → Exchanges v) → ((v : Visit) → In v vs → v.move.leaves ≢ k) →
+        (v : Visit) → In v vs → Rests k (status_of s k) v
     steady s vs walk ex never v i = by_mark (is_basic (status_of s k)) refl
       where
         by_mark : (b : Bool) → is_basic (status_of s k) ≡ b → Rests k (status_of s k) v
@@ -134,7 +141,8 @@ module _ (p : LinearProgram) where
       enters : visit.move.enters ≡ k
       status : status_of visit.basis k ≡ st
 
-    comes_in : (st : Status) → st ≢ Bs → (s end : List Status) (vs : List Visit) → IsWalk s vs end → ((v : Visit) → In v vs → Exchanges v) → status_of s k ≡ st → status_of end k ≡ Bs → ComesIn st vs
+    comes_in : (st : Status) → st ≢ Bs → (s end : List Status) (vs : List Visit) → IsWalk s vs end → ((v : Visit) → In v vs → Exchanges v) →
+        status_of s k ≡ st → status_of end k ≡ Bs → ComesIn st vs
     comes_in st out s end [] walk ex stands basic = absurd (out (sym stands ∙ ap (λ s. status_of s k) walk ∙ basic))
     comes_in st out s end (v ∷ vs) walk ex stands basic =
         by_number (eqb_tells k v.move.enters) (comes_in st out (after v.basis v.move) end vs walk.1 (λ x i. ex x (inr i)))
@@ -205,7 +213,9 @@ module _ (p : LinearProgram) where
       e_in = turned.was_in e.visit (inr e.is_there)
 
       rests : (k : ℕ) → IsVariable p.matrix k → t < k → (x : Visit) → In x (w ∷ turned.others) → Rests k (status_of w.basis k) x
-      rests k is high = steady k is w.basis (w ∷ turned.others) (refl, turned.walk) at (λ x i same. let most = g.most x (turned.was_in x i) in omega (arith, most, same, high))
+      rests k is high =
+          steady k is w.basis (w ∷ turned.others) (refl, turned.walk) at
+          (λ x i same. let most = g.most x (turned.was_in x i) in omega (arith, most, same, high))
 
       enters_low : w.move.enters < t
       enters_low = by_order (leb_tells w.move.enters t)

@@ -30,11 +30,15 @@ use Rattle.termination_laws.proofs.Resting.{StopsAt, idle_stops, moving, comes_b
 
 -- at the first basis t comes in to bring r back, and each nonbasic before t doesn't bring it back, or has one value at both; and at the
 -- second t is the first that is outside its limits
-module _ (p : LinearProgram) (s₁ s₂ : List Status) (t₁ t₂ : Tableau) (at₁ : IsNonsingularBasis p s₁) (at₂ : IsNonsingularBasis p s₂) (tab₁ : IsTableau p s₁ t₁) (tab₂ : IsTableau p s₂ t₂)
-    (r t : ℕ) (phase₁ : IsFirstPhase p s₁ t₁ r) (is_t : IsVariable p.matrix t) (lowers_it : lowers p s₁ (excess_rate t₁.rate r (is_below p t₁.point r)) t ≡ true)
-    (earlier : (k : ℕ) → IsVariable p.matrix k → k < t → is_in (basics_of s₁) k ≡ false → (lowers p s₁ (excess_rate t₁.rate r (is_below p t₁.point r)) k ≡ false) ⊎ (t₂.point k ≡ t₁.point k))
+module _ (p : LinearProgram) (s₁ s₂ : List Status) (t₁ t₂ : Tableau) (at₁ : IsNonsingularBasis p s₁) (at₂ : IsNonsingularBasis p s₂) (tab₁ : IsTableau p s₁ t₁)
+    (tab₂ : IsTableau p s₂ t₂)
+    (r t : ℕ) (phase₁ : IsFirstPhase p s₁ t₁ r) (is_t : IsVariable p.matrix t)
+    (lowers_it : lowers p s₁ (excess_rate t₁.rate r (is_below p t₁.point r)) t ≡ true)
+    (earlier : (k : ℕ) → IsVariable p.matrix k → k < t → is_in (basics_of s₁) k ≡ false →
+    (lowers p s₁ (excess_rate t₁.rate r (is_below p t₁.point r)) k ≡ false) ⊎ (t₂.point k ≡ t₁.point k))
     (phase₂ : IsFirstPhase p s₂ t₂ t)
-    (left : status_of s₁ t ≡ (if is_below p t₂.point t then Ll else Ul)) (past : (k : ℕ) → IsVariable p.matrix k → t < k → status_of s₁ k ≡ status_of s₂ k) where
+    (left : status_of s₁ t ≡ (if is_below p t₂.point t then Ll else Ul))
+    (past : (k : ℕ) → IsVariable p.matrix k → t < k → status_of s₁ k ≡ status_of s₂ k) where
   abbrev x : Vector
   x k = t₂.point k -ℚ t₁.point k
 
@@ -49,7 +53,8 @@ module _ (p : LinearProgram) (s₁ s₂ : List Status) (t₁ t₂ : Tableau) (at
 
   total : signed (not (is_below p t₁.point r)) (x r) ≡ sum_to (size p.matrix) (λ k. weight (basics_of s₁) x (suc k) *ℚ e (suc k))
   total =
-      ap (signed (not (is_below p t₁.point r))) (by_nonbasics p.matrix (basics_of s₁) t₁.rate tab₁.are_rates at₁.nonsingular x keeps r (broken_basic p s₁ t₁ r phase₁).0)
+      ap (signed (not (is_below p t₁.point r)))
+      (by_nonbasics p.matrix (basics_of s₁) t₁.rate tab₁.are_rates at₁.nonsingular x keeps r (broken_basic p s₁ t₁ r phase₁).0)
       ∙ signed_sum (not (is_below p t₁.point r)) (size p.matrix) (λ k. weight (basics_of s₁) x (suc k)) (λ k. t₁.rate r (suc k))
 
   -- at the second basis all before t are within their limits
@@ -59,11 +64,13 @@ module _ (p : LinearProgram) (s₁ s₂ : List Status) (t₁ t₂ : Tableau) (at
       (find_none (is_crossed p) (size p.matrix) 1 phase₂.uncrossed k is.0 (omega (arith, is.1)))
       (λ basic.
       let among : is_in (basics_of s₂) k ≡ true = is_in-basics_of s₂ k is.0 (omega (arith, is.1, at₂.is_basis.counted)) ∙ basic in
-      and_true (is_in (basics_of s₂) k) (is_outside p t₂.point k) (find_before (λ k. is_in (basics_of s₂) k && is_outside p t₂.point k) (size p.matrix) 1 t phase₂.broken k is.0 before) among)
+      and_true (is_in (basics_of s₂) k) (is_outside p t₂.point k)
+      (find_before (λ k. is_in (basics_of s₂) k && is_outside p t₂.point k) (size p.matrix) 1 t phase₂.broken k is.0 before) among)
 
   back : zero_ℚ <ℚ x t *ℚ e t
   back =
-      comes_back (status_of s₁ t) (is_fixed p t) (lower_of p t) (upper_of p t) (t₁.point t) (t₂.point t) (e t) (is_below p t₂.point t) left (tab₁.is_point.placed t entered.is_variable)
+      comes_back (status_of s₁ t) (is_fixed p t) (lower_of p t) (upper_of p t) (t₁.point t) (t₂.point t) (e t) (is_below p t₂.point t) left
+      (tab₁.is_point.placed t entered.is_variable)
       (moving (status_of s₁ t) (is_fixed p t) (e t) lowers_it) (broken_limit p s₂ t₂ t phase₂)
 
   before_term : (k : ℕ) → IsVariable p.matrix k → k < t → is_in (basics_of s₁) k ≡ false → zero_ℚ ≤ℚ x k *ℚ e k
@@ -71,14 +78,19 @@ module _ (p : LinearProgram) (s₁ s₂ : List Status) (t₁ t₂ : Tableau) (at
     where
       stops : lowers p s₁ e k ≡ false → StopsAt (lower_of p k) (upper_of p k) (t₁.point k) (e k)
       stops idle =
-          idle_stops (status_of s₁ k) (lower_of p k) (upper_of p k) (t₁.point k) (e k) (status_of_nonbasic p s₁ at₁.is_basis k (is, out)) (at₁.is_basis.allowed k is) (tab₁.is_point.placed k is)
+          idle_stops (status_of s₁ k) (lower_of p k) (upper_of p k) (t₁.point k) (e k) (status_of_nonbasic p s₁ at₁.is_basis k (is, out))
+          (at₁.is_basis.allowed k is) (tab₁.is_point.placed k is)
           (right (status_of s₁ k) (lower_of p k) (upper_of p k) (e k) (is_fixed p k) refl idle)
 
       by_case : (lowers p s₁ e k ≡ false) ⊎ (t₂.point k ≡ t₁.point k) → zero_ℚ ≤ℚ x k *ℚ e k
       by_case (inl idle) =
           against_product (e k) (x k) (record {
-            rising = λ h. le_by_one (high_of (upper_of p k) (t₂.point k) (t₁.point k) (in_limits k is before).1 ((stops idle).rising h)) (by_ring2 (t₂.point k) (t₁.point k) (λ y z. number (pos 0) ≐ (y ⊖ z) ⊕ (z ⊖ y)) refl);
-            falling = λ h. le_by_one (low_of (lower_of p k) (t₂.point k) (t₁.point k) (in_limits k is before).0 ((stops idle).falling h)) (by_ring2 (t₂.point k) (t₁.point k) (λ y z. y ⊖ z ≐ number (pos 0) ⊕ (y ⊖ z)) refl);
+            rising =
+                λ h. le_by_one (high_of (upper_of p k) (t₂.point k) (t₁.point k) (in_limits k is before).1 ((stops idle).rising h))
+                (by_ring2 (t₂.point k) (t₁.point k) (λ y z. number (pos 0) ≐ (y ⊖ z) ⊕ (z ⊖ y)) refl);
+            falling =
+                λ h. le_by_one (low_of (lower_of p k) (t₂.point k) (t₁.point k) (in_limits k is before).0 ((stops idle).falling h))
+                (by_ring2 (t₂.point k) (t₁.point k) (λ y z. y ⊖ z ≐ number (pos 0) ⊕ (y ⊖ z)) refl);
           })
       by_case (inr same) = still_product (e k) (x k) (ap (λ v. v -ℚ t₁.point k) same ∙ sub-self (t₁.point k))
 
@@ -93,7 +105,8 @@ module _ (p : LinearProgram) (s₁ s₂ : List Status) (t₁ t₂ : Tableau) (at
   term : (k : ℕ) → IsVariable p.matrix k → zero_ℚ ≤ℚ weight (basics_of s₁) x k *ℚ e k
   term k is = weighed (is_in (basics_of s₁) k) (x k) (e k) (λ out. by_number out (eqb_tells k t) (leb_tells k t))
     where
-      by_number : is_in (basics_of s₁) k ≡ false → (((eqb k t ≡ true) × (k ≡ t)) ⊎ ((eqb k t ≡ false) × (k ≢ t))) → (((leb k t ≡ true) × (k ≤ t)) ⊎ ((leb k t ≡ false) × (t < k))) → zero_ℚ ≤ℚ x k *ℚ e k
+      by_number : is_in (basics_of s₁) k ≡ false → (((eqb k t ≡ true) × (k ≡ t)) ⊎ ((eqb k t ≡ false) × (k ≢ t))) →
+          (((leb k t ≡ true) × (k ≤ t)) ⊎ ((leb k t ≡ false) × (t < k))) → zero_ℚ ≤ℚ x k *ℚ e k
       by_number out (inl same) order = subst (λ j. zero_ℚ ≤ℚ x j *ℚ e j) (sym same.1) (le_of_lt back)
       by_number out (inr other) (inl low) = before_term k is (omega (arith, low.1, other.1)) out
       by_number out (inr other) (inr high) = past_term k is high.1 out
@@ -120,9 +133,11 @@ module _ (p : LinearProgram) (s₁ s₂ : List Status) (t₁ t₂ : Tableau) (at
       by_limit : Breaks (lower_of p r) (upper_of p r) (t₁.point r) (is_below p t₁.point r) → ⊥
       by_limit (breaks_lower l is limit broken) =
           let down : zero_ℚ <ℚ signed (not true) (x r) = subst (λ b. zero_ℚ <ℚ signed (not b) (x r)) is farther in
-          let lower : t₂.point r ≤ℚ t₁.point r = le_by_one (le_of_lt down) (by_ring2 (t₂.point r) (t₁.point r) (λ y z. z ≐ y ⊕ (opposite (y ⊖ z) ⊖ number (pos 0))) refl) in
+          let lower : t₂.point r ≤ℚ t₁.point r =
+          le_by_one (le_of_lt down) (by_ring2 (t₂.point r) (t₁.point r) (λ y z. z ≐ y ⊕ (opposite (y ⊖ z) ⊖ number (pos 0))) refl) in
           lt_not_le broken (le_trans (low_of (lower_of p r) (t₂.point r) l within.0 limit) lower)
       by_limit (breaks_upper u is limit broken) =
           let up : zero_ℚ <ℚ signed (not false) (x r) = subst (λ b. zero_ℚ <ℚ signed (not b) (x r)) is farther in
-          let higher : t₁.point r ≤ℚ t₂.point r = le_by_one (le_of_lt up) (by_ring2 (t₂.point r) (t₁.point r) (λ y z. y ≐ z ⊕ ((y ⊖ z) ⊖ number (pos 0))) refl) in
+          let higher : t₁.point r ≤ℚ t₂.point r =
+          le_by_one (le_of_lt up) (by_ring2 (t₂.point r) (t₁.point r) (λ y z. y ≐ z ⊕ ((y ⊖ z) ⊖ number (pos 0))) refl) in
           lt_not_le broken (le_trans higher (high_of (upper_of p r) (t₂.point r) u within.1 limit))

@@ -42,7 +42,8 @@ against_product w d h = by_zero (same_or_not w zero_ℚ)
     by_order apart (inl low) =
         le_by_product low (h.rising (lt_from_le low apart)) (by_ring2 w d (λ w d. d ⊗ w ≐ number (pos 0) ⊕ (number (pos 0) ⊖ w) ⊗ (number (pos 0) ⊖ d)) refl)
     by_order apart (inr high) =
-        le_by_product high (h.falling (lt_from_le high (λ e. apart (sym e)))) (by_ring2 w d (λ w d. d ⊗ w ≐ number (pos 0) ⊕ (w ⊖ number (pos 0)) ⊗ (d ⊖ number (pos 0))) refl)
+        le_by_product high (h.falling (lt_from_le high (λ e. apart (sym e))))
+        (by_ring2 w d (λ w d. d ⊗ w ≐ number (pos 0) ⊕ (w ⊖ number (pos 0)) ⊗ (d ⊖ number (pos 0))) refl)
 
     by_zero : ((w ≡ zero_ℚ) ⊎ (w ≢ zero_ℚ)) → zero_ℚ ≤ℚ d *ℚ w
     by_zero (inl same) = le_of_eq (sym (ap (λ x. d *ℚ x) same ∙ mul-zero d))

@@ -58,7 +58,8 @@ step_of p = visit_step turn p (IsNonsingularBasis p)
 returning : (p : LinearProgram) (v : Visit) → IsVisit p v → IsFirst p v → IsReturning p v
 returning p v h first =
     let e = first.turn.gives in
-    let found = find_some (lowers p v.basis (excess_rate v.tableau.rate first.r (is_below p v.tableau.point first.r))) (size p.matrix) 1 first.q first.turn.moves in
+    let found =
+    find_some (lowers p v.basis (excess_rate v.tableau.rate first.r (is_below p v.tableau.point first.r))) (size p.matrix) 1 first.q first.turn.moves in
     record {
       at = h.at;
       is_tableau = h.is_tableau;
@@ -70,11 +71,14 @@ returning p v h first =
       gives = cc;
     }
 
-no_first_cycle : (p : LinearProgram) (s : List Status) (v : Visit) (vs : List Visit) → IsWalk s (v ∷ vs) s → ((x : Visit) → In x (v ∷ vs) → IsVisit p x) → ((x : Visit) → In x (v ∷ vs) → IsFirst p x) → ⊥
+no_first_cycle : (p : LinearProgram) (s : List Status) (v : Visit) (vs : List Visit) → IsWalk s (v ∷ vs) s → ((x : Visit) → In x (v ∷ vs) → IsVisit p x) →
+    ((x : Visit) → In x (v ∷ vs) → IsFirst p x) → ⊥
 unfolding returning
 no_first_cycle p s v vs walk visits firsts =
     no_return_cycle p s v vs walk (λ x i. returning p x (visits x i) (firsts x i))
-    (λ x y i j k is before out. inl (find_before (lowers p x.basis (excess_rate x.tableau.rate (firsts x i).r (is_below p x.tableau.point (firsts x i).r))) (size p.matrix) 1 (firsts x i).q (firsts x i).turn.moves k is.0 before))
+    (λ x y i j k is before out. inl
+    (find_before (lowers p x.basis (excess_rate x.tableau.rate (firsts x i).r (is_below p x.tableau.point (firsts x i).r))) (size p.matrix) 1 (firsts x i).q
+    (firsts x i).turn.moves k is.0 before))
 
 -- ---- the second phase
 
@@ -85,10 +89,15 @@ module _ (p : LinearProgram) (v : Visit) (h : IsVisit p v) (second : IsSecond p 
   second_exchanges : run.length ≡ zero_ℚ → Exchanges p v
   second_exchanges none = record {
     basis = h.at.is_basis;
-    enters_is = subst (λ m. IsVariable p.matrix m.enters) (sym is) (entered p v.basis v.tableau h.at h.is_tableau v.move second.q second.k second.turn).is_variable;
+    enters_is =
+        subst (λ m. IsVariable p.matrix m.enters) (sym is) (entered p v.basis v.tableau h.at h.is_tableau v.move second.q second.k second.turn).is_variable;
     leaves_is = subst (λ m. IsVariable p.matrix m.leaves) (sym is) (k_is p v.basis v.tableau h.at h.is_tableau v.move second.q second.k second.turn);
-    enters = subst (λ m. status_of v.basis m.enters ≢ Bs) (sym is) (entering_variable_enters p v.basis v.tableau h.at h.is_tableau v.move second.q second.k second.turn at_once);
-    leaves = subst (λ m. status_of v.basis m.leaves ≡ Bs) (sym is) (stopped_leaves p v.basis v.tableau h.at h.is_tableau v.move second.q second.k second.turn at_once);
+    enters =
+        subst (λ m. status_of v.basis m.enters ≢ Bs) (sym is)
+        (entering_variable_enters p v.basis v.tableau h.at h.is_tableau v.move second.q second.k second.turn at_once);
+    leaves =
+        subst (λ m. status_of v.basis m.leaves ≡ Bs) (sym is)
+        (stopped_leaves p v.basis v.tableau h.at h.is_tableau v.move second.q second.k second.turn at_once);
     stands = subst (λ m. m.to ≢ Bs) (sym is) (reached_apart (improving p v.basis v.tableau second.q) second.k);
   }
     where
@@ -103,7 +112,8 @@ module _ (p : LinearProgram) (lawful : IsLinearProgram p) where
   worth z = for_min p.sense (objective_value p z)
 
   same_worth : (s : List Status) → IsNonsingularBasis p s → (z w : Vector) → IsPointOf p s z → IsPointOf p s w → worth z ≡ worth w
-  same_worth s at z w first second = ap (for_min p.sense) (objective_value-same p z w lawful (one_point p s z w at.is_basis.counted at.nonsingular first second))
+  same_worth s at z w first second =
+      ap (for_min p.sense) (objective_value-same p z w lawful (one_point p s z w at.is_basis.counted at.nonsingular first second))
 
   -- the visit's own point is that of any other tableau of its basis
   here : (s : List Status) (v : Visit) → v.basis ≡ s → IsVisit p v → IsPointOf p s v.tableau.point
@@ -113,7 +123,8 @@ module _ (p : LinearProgram) (lawful : IsLinearProgram p) where
   leads v h = step_leads p v.basis (after v.basis v.move) h.at (step_of p v h)
 
   -- over steps of the second phase the objective is never made worse
-  never_worse : (s end : List Status) (vs : List Visit) → IsNonsingularBasis p s → IsWalk s vs end → ((x : Visit) → In x vs → IsVisit p x) → ((x : Visit) → In x vs → IsSecond p x) →
+  never_worse : (s end : List Status) (vs : List Visit) → IsNonsingularBasis p s → IsWalk s vs end → ((x : Visit) → In x vs → IsVisit p x) →
+      ((x : Visit) → In x vs → IsSecond p x) →
       (z w : Vector) → IsPointOf p s z → IsPointOf p end w → worth w ≤ℚ worth z
   never_worse s end [] at walk visits seconds z w first last = le_of_eq (same_worth s at w z (subst (λ b. IsPointOf p b w) (sym walk) last) first)
   never_worse s end (v ∷ vs) at walk visits seconds z w first last =
@@ -134,11 +145,13 @@ module _ (p : LinearProgram) (lawful : IsLinearProgram p) where
       moved = along v.tableau.point r.length (improving p v.basis v.tableau second.q)
 
   -- so on a closed walk no step has a length
-  still : (s : List Status) (vs : List Visit) → IsWalk s vs s → (visits : (x : Visit) → In x vs → IsVisit p x) → (seconds : (x : Visit) → In x vs → IsSecond p x) →
+  still : (s : List Status) (vs : List Visit) → IsWalk s vs s → (visits : (x : Visit) → In x vs → IsVisit p x) →
+      (seconds : (x : Visit) → In x vs → IsSecond p x) →
       (v : Visit) → (i : In v vs) → (run p v (visits v i) (seconds v i)).length ≡ zero_ℚ
   still s vs walk visits seconds v i =
       no_length p v.basis v.tableau h.at h.is_tableau v.move second.q second.k second.turn r.length r.forward
-      (never_worse (after v.basis v.move) v.basis turned.others (leads v h) turned.walk (λ x j. visits x (turned.was_in x (inr j))) (λ x j. seconds x (turned.was_in x (inr j))) moved v.tableau.point r.point h.is_tableau.is_point)
+      (never_worse (after v.basis v.move) v.basis turned.others (leads v h) turned.walk (λ x j. visits x (turned.was_in x (inr j)))
+      (λ x j. seconds x (turned.was_in x (inr j))) moved v.tableau.point r.point h.is_tableau.is_point)
     where
       h : IsVisit p v
       h = visits v i
@@ -156,12 +169,14 @@ module _ (p : LinearProgram) (lawful : IsLinearProgram p) where
       turned = turn_to s v vs walk i
 
   -- and the point is the same throughout
-  one_place_throughout : (s end : List Status) (vs : List Visit) → IsNonsingularBasis p s → IsWalk s vs end → (visits : (x : Visit) → In x vs → IsVisit p x) → (seconds : (x : Visit) → In x vs → IsSecond p x) →
+  one_place_throughout : (s end : List Status) (vs : List Visit) → IsNonsingularBasis p s → IsWalk s vs end → (visits : (x : Visit) → In x vs → IsVisit p x) →
+      (seconds : (x : Visit) → In x vs → IsSecond p x) →
       ((x : Visit) → (i : In x vs) → (run p x (visits x i) (seconds x i)).length ≡ zero_ℚ) → (z : Vector) → IsPointOf p s z →
       (x : Visit) → In x vs → (k : ℕ) → IsVariable p.matrix k → x.tableau.point k ≡ z k
   one_place_throughout s end [] at walk visits seconds none z point x i = absurd i
   one_place_throughout s end (v ∷ vs) at walk visits seconds none z point x i =
-      first (one_place_throughout (after v.basis v.move) end vs (leads v h) walk.1 (λ x i. visits x (inr i)) (λ x i. seconds x (inr i)) (λ x i. none x (inr i)) moved r.point) x i
+      first (one_place_throughout (after v.basis v.move) end vs (leads v h) walk.1 (λ x i. visits x (inr i)) (λ x i. seconds x (inr i))
+      (λ x i. none x (inr i)) moved r.point) x i
     where
       h : IsVisit p v
       h = visits v (inl refl)
@@ -183,15 +198,19 @@ module _ (p : LinearProgram) (lawful : IsLinearProgram p) where
           ap (λ t. v.tableau.point k +ℚ t *ℚ improving p v.basis v.tableau second.q k) (none v (inl refl))
           ∙ by_ring2 (v.tableau.point k) (improving p v.basis v.tableau second.q k) (λ z d. z ⊕ number (pos 0) ⊗ d ≐ z) refl
 
-      first : ((x : Visit) → In x vs → (k : ℕ) → IsVariable p.matrix k → x.tableau.point k ≡ moved k) → (x : Visit) → ((x ≡ v) ⊎ In x vs) → (k : ℕ) → IsVariable p.matrix k → x.tableau.point k ≡ z k
+      first : ((x : Visit) → In x vs → (k : ℕ) → IsVariable p.matrix k → x.tableau.point k ≡ moved k) → (x : Visit) → ((x ≡ v) ⊎ In x vs) → (k : ℕ) →
+          IsVariable p.matrix k → x.tableau.point k ≡ z k
       first later x (inl e) k is = ap (λ y. y.tableau.point k) e ∙ own k is
       first later x (inr i) k is = later x i k is ∙ unmoved k ∙ own k is
 
-  no_second_cycle : (s : List Status) (v : Visit) (vs : List Visit) → IsWalk s (v ∷ vs) s → ((x : Visit) → In x (v ∷ vs) → IsVisit p x) → ((x : Visit) → In x (v ∷ vs) → IsSecond p x) → ⊥
+  no_second_cycle : (s : List Status) (v : Visit) (vs : List Visit) → IsWalk s (v ∷ vs) s → ((x : Visit) → In x (v ∷ vs) → IsVisit p x) →
+      ((x : Visit) → In x (v ∷ vs) → IsSecond p x) → ⊥
   no_second_cycle s v vs walk visits seconds =
-      second_clash p lawful e.basis w.basis e.tableau w.tableau (visits e pair.is_entering).at (visits w pair.is_leaving).at (visits e pair.is_entering).is_tableau (visits w pair.is_leaving).is_tableau
+      second_clash p lawful e.basis w.basis e.tableau w.tableau (visits e pair.is_entering).at (visits w pair.is_leaving).at
+      (visits e pair.is_entering).is_tableau (visits w pair.is_leaving).is_tableau
       (λ k is. points e pair.is_entering k is ∙ sym (points w pair.is_leaving k is)) pair.t at_w.q (at_e.turn.moves ∙ ap (λ j. Some j) q_is) at_w.turn.moves
-      (at_w.turn.stops ∙ ap (λ j. Some j) k_at) (subst (λ j. step_length p w.tableau.point (improving p w.basis w.tableau at_w.q) j ≡ Some zero_ℚ) k_at at_once) pair.past q_before
+      (at_w.turn.stops ∙ ap (λ j. Some j) k_at)
+      (subst (λ j. step_length p w.tableau.point (improving p w.basis w.tableau at_w.q) j ≡ Some zero_ℚ) k_at at_once) pair.past q_before
     where
       none : (x : Visit) → (i : In x (v ∷ vs)) → (run p x (visits x i) (seconds x i)).length ≡ zero_ℚ
       none = still s (v ∷ vs) walk visits seconds
@@ -238,7 +257,8 @@ module _ (p : LinearProgram) (lawful : IsLinearProgram p) where
   -- ---- both phases
 
   -- from a feasible point all steps are of the second phase
-  all_second : (s end : List Status) (vs : List Visit) → IsWalk s vs end → ((x : Visit) → In x vs → IsVisit p x) → (z : Vector) → IsPointOf p s z → IsFeasible p z → (x : Visit) → In x vs → IsSecond p x
+  all_second : (s end : List Status) (vs : List Visit) → IsWalk s vs end → ((x : Visit) → In x vs → IsVisit p x) → (z : Vector) → IsPointOf p s z →
+      IsFeasible p z → (x : Visit) → In x vs → IsSecond p x
   all_second s end [] walk visits z point feasible_z x i = absurd i
   all_second s end (v ∷ vs) walk visits z point feasible_z x i =
       first (all_second (after v.basis v.move) end vs walk.1 (λ x i. visits x (inr i)) next.0 next.1.point next.1.feasible) x i
@@ -250,7 +270,9 @@ module _ (p : LinearProgram) (lawful : IsLinearProgram p) where
       point_v = subst (λ b. IsPointOf p b z) (sym walk.0) point
 
       own : IsFeasible p v.tableau.point
-      own = IsFeasible-same p z v.tableau.point (one_point p v.basis z v.tableau.point h.at.is_basis.counted h.at.nonsingular point_v h.is_tableau.is_point) feasible_z
+      own =
+          IsFeasible-same p z v.tableau.point
+          (one_point p v.basis z v.tableau.point h.at.is_basis.counted h.at.nonsingular point_v h.is_tableau.is_point) feasible_z
 
       unbroken : (r : ℕ) (below : Bool) → IsVariable p.matrix r → Breaks (lower_of p r) (upper_of p r) (v.tableau.point r) below → ⊥
       unbroken r below is (breaks_lower l at_low limit broken) = lt_not_le broken (low_of (lower_of p r) (v.tableau.point r) l (own.within r is).0 limit)
@@ -258,7 +280,8 @@ module _ (p : LinearProgram) (lawful : IsLinearProgram p) where
 
       by_phase : (IsFirst p v ⊎ IsSecond p v) → IsSecond p v
       by_phase (inl f) =
-          absurd (unbroken f.r (is_below p v.tableau.point f.r) (broken_basic p v.basis v.tableau f.r f.turn.phase).0 (broken_limit p v.basis v.tableau f.r f.turn.phase))
+          absurd (unbroken f.r (is_below p v.tableau.point f.r) (broken_basic p v.basis v.tableau f.r f.turn.phase).0
+          (broken_limit p v.basis v.tableau f.r f.turn.phase))
       by_phase (inr second) = second
 
       next : (w : Vector) × IsNoWorse p (after v.basis v.move) z w
@@ -277,7 +300,8 @@ module _ (p : LinearProgram) (lawful : IsLinearProgram p) where
   some_second [] visits = inl (λ x i. absurd i)
   some_second (v ∷ vs) visits = by_phases (phase_of p v (visits v (inl refl))) (some_second vs (λ x i. visits x (inr i)))
     where
-      by_phases : (IsFirst p v ⊎ IsSecond p v) → (((x : Visit) → In x vs → IsFirst p x) ⊎ SecondIn vs) → ((x : Visit) → ((x ≡ v) ⊎ In x vs) → IsFirst p x) ⊎ SecondIn (v ∷ vs)
+      by_phases : (IsFirst p v ⊎ IsSecond p v) → (((x : Visit) → In x vs → IsFirst p x) ⊎ SecondIn vs) →
+          ((x : Visit) → ((x ≡ v) ⊎ In x vs) → IsFirst p x) ⊎ SecondIn (v ∷ vs)
       by_phases (inr second) rest = inr (record { visit = v; is_there = inl refl; second = second })
       by_phases (inl f) (inr found) = inr (record { visit = found.visit; is_there = inr found.is_there; second = found.second })
       by_phases (inl f) (inl rest) = inl all_first
@@ -292,8 +316,10 @@ module _ (p : LinearProgram) (lawful : IsLinearProgram p) where
       second_cycle : SecondIn (v ∷ vs) → ⊥
       second_cycle found =
           no_second_cycle found.visit.basis found.visit turned.others (refl, turned.walk) at
-          (all_second found.visit.basis found.visit.basis (found.visit ∷ turned.others) (refl, turned.walk) at found.visit.tableau.point (at found.visit (inl refl)).is_tableau.is_point
-          (feasible p found.visit.basis found.visit.tableau (at found.visit (inl refl)).at.is_basis (at found.visit (inl refl)).is_tableau found.second.turn.phase))
+          (all_second found.visit.basis found.visit.basis (found.visit ∷ turned.others) (refl, turned.walk) at found.visit.tableau.point
+          (at found.visit (inl refl)).is_tableau.is_point
+          (feasible p found.visit.basis found.visit.tableau (at found.visit (inl refl)).at.is_basis
+          (at found.visit (inl refl)).is_tableau found.second.turn.phase))
         where
           turned : Turned found.visit (v ∷ vs)
           turned = turn_to s found.visit (v ∷ vs) walk found.is_there

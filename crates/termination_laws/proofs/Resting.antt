@@ -50,7 +50,8 @@ all_true true true true e = cc
 all_true true false c e = cc
 all_true false b c e = cc
 
-pub moving : (st : Status) (fixed : Bool) (w : ℚ) → ((lt_ℚ w zero_ℚ && (rises_from st && not fixed)) || (lt_ℚ zero_ℚ w && (falls_from st && not fixed))) ≡ true → Moving st fixed w
+pub moving : (st : Status) (fixed : Bool) (w : ℚ) →
+    ((lt_ℚ w zero_ℚ && (rises_from st && not fixed)) || (lt_ℚ zero_ℚ w && (falls_from st && not fixed))) ≡ true → Moving st fixed w
 moving st fixed w e = by_way (or_cases _ _ e)
   where
     by_way : (((lt_ℚ w zero_ℚ && (rises_from st && not fixed)) ≡ true) ⊎ ((lt_ℚ zero_ℚ w && (falls_from st && not fixed)) ≡ true)) → Moving st fixed w
@@ -77,7 +78,8 @@ none_step_length (Some l) z d apart e =
     ap (λ v. Some v) (div_is (l -ℚ z) d zero_ℚ apart (ap (λ x. x -ℚ z) (same_Some _ _ e) ∙ by_ring2 z d (λ z d. z ⊖ z ≐ number (pos 0) ⊗ d) refl))
 
 -- where it stands at the limit ahead, its step length is 0
-pub no_step_length : (low high : Option ℚ) (z d : ℚ) → (zero_ℚ <ℚ d → high ≡ Some z) → (d <ℚ zero_ℚ → low ≡ Some z) → d ≢ zero_ℚ → room_to (ahead low high d) z d ≡ Some zero_ℚ
+pub no_step_length : (low high : Option ℚ) (z d : ℚ) → (zero_ℚ <ℚ d → high ≡ Some z) → (d <ℚ zero_ℚ → low ≡ Some z) → d ≢ zero_ℚ →
+    room_to (ahead low high d) z d ≡ Some zero_ℚ
 no_step_length low high z d upper lower apart = none_step_length (ahead low high d) z d apart (by_tests (lt_ℚ zero_ℚ d) refl (lt_ℚ d zero_ℚ) refl)
   where
     by_tests : (up : Bool) → lt_ℚ zero_ℚ d ≡ up → (down : Bool) → lt_ℚ d zero_ℚ ≡ down → (if up then high else (if down then low else None)) ≡ Some z
@@ -86,36 +88,44 @@ no_step_length low high z d upper lower apart = none_step_length (ahead low high
     by_tests false up false down_is = absurd (apart (le_antisymm (le_from_lt_fails zero_ℚ d up) (le_from_lt_fails d zero_ℚ down_is)))
 
 -- a nonbasic that may rise, and isn't fixed, doesn't stand at its upper limit
-no_rise : (st : Status) (low high : Option ℚ) (z : ℚ) → rises_from st ≡ true → IsAllowed st low high → StandsAt st low high z → high ≡ Some z → on_limits eq_ℚ low high ≡ false → ⊥
+no_rise : (st : Status) (low high : Option ℚ) (z : ℚ) → rises_from st ≡ true → IsAllowed st low high → StandsAt st low high z → high ≡ Some z →
+    on_limits eq_ℚ low high ≡ false → ⊥
 no_rise Bs low high z up allowed stands limit free = cc
 no_rise Ll low high z up allowed stands limit free = let both : eq_ℚ z z ≡ false = rw (stands, limit) at free in apart_from_eq_fails z z both refl
 no_rise Ul low high z up allowed stands limit free = cc
 no_rise Fr low high z up allowed stands limit free = let none = sym limit ∙ allowed.1 in cc
 
-no_fall : (st : Status) (low high : Option ℚ) (z : ℚ) → falls_from st ≡ true → IsAllowed st low high → StandsAt st low high z → low ≡ Some z → on_limits eq_ℚ low high ≡ false → ⊥
+no_fall : (st : Status) (low high : Option ℚ) (z : ℚ) → falls_from st ≡ true → IsAllowed st low high → StandsAt st low high z → low ≡ Some z →
+    on_limits eq_ℚ low high ≡ false → ⊥
 no_fall Bs low high z down allowed stands limit free = cc
 no_fall Ll low high z down allowed stands limit free = cc
 no_fall Ul low high z down allowed stands limit free = let both : eq_ℚ z z ≡ false = rw (limit, stands) at free in apart_from_eq_fails z z both refl
 no_fall Fr low high z down allowed stands limit free = let none = sym limit ∙ allowed.0 in cc
 
 -- what may move, and is stopped at once by a motion, is moved the other way by it
-pub blocked : (st : Status) (low high : Option ℚ) (z w d : ℚ) → IsAllowed st low high → StandsAt st low high z → Moving st (on_limits eq_ℚ low high) w → room_to (ahead low high d) z d ≡ Some zero_ℚ → Against w d
-blocked st low high z w d allowed stands (rising_from h up free) step_length = record { rising = λ g. by_test (lt_ℚ zero_ℚ d) refl step_length; falling = λ g. absurd (lt_not_le h (le_of_lt g)) }
+pub blocked : (st : Status) (low high : Option ℚ) (z w d : ℚ) → IsAllowed st low high → StandsAt st low high z → Moving st (on_limits eq_ℚ low high) w →
+    room_to (ahead low high d) z d ≡ Some zero_ℚ → Against w d
+blocked st low high z w d allowed stands (rising_from h up free) step_length =
+    record { rising = λ g. by_test (lt_ℚ zero_ℚ d) refl step_length; falling = λ g. absurd (lt_not_le h (le_of_lt g)) }
   where
     by_test : (above : Bool) → lt_ℚ zero_ℚ d ≡ above → room_to (if above then high else (if lt_ℚ d zero_ℚ then low else None)) z d ≡ Some zero_ℚ → d ≤ℚ zero_ℚ
     by_test false is e = le_from_lt_fails zero_ℚ d is
     by_test true is e = absurd (no_rise st low high z up allowed stands (step_length_none high z d (apart_from_above (lt_from_test zero_ℚ d is)) e) free)
-blocked st low high z w d allowed stands (falling_from h down free) step_length = record { rising = λ g. absurd (lt_not_le h (le_of_lt g)); falling = λ g. by_tests (lt_ℚ zero_ℚ d) refl (lt_ℚ d zero_ℚ) refl step_length }
+blocked st low high z w d allowed stands (falling_from h down free) step_length =
+    record { rising = λ g. absurd (lt_not_le h (le_of_lt g)); falling = λ g. by_tests (lt_ℚ zero_ℚ d) refl (lt_ℚ d zero_ℚ) refl step_length }
   where
-    by_tests : (above : Bool) → lt_ℚ zero_ℚ d ≡ above → (below : Bool) → lt_ℚ d zero_ℚ ≡ below → room_to (if above then high else (if below then low else None)) z d ≡ Some zero_ℚ → zero_ℚ ≤ℚ d
+    by_tests : (above : Bool) → lt_ℚ zero_ℚ d ≡ above → (below : Bool) → lt_ℚ d zero_ℚ ≡ below →
+        room_to (if above then high else (if below then low else None)) z d ≡ Some zero_ℚ → zero_ℚ ≤ℚ d
     by_tests true is below below_is e = le_of_lt (lt_from_test zero_ℚ d is)
-    by_tests false is true below_is e = absurd (no_fall st low high z down allowed stands (step_length_none low z d (apart_from_below (lt_from_test d zero_ℚ below_is)) e) free)
+    by_tests false is true below_is e =
+        absurd (no_fall st low high z down allowed stands (step_length_none low z d (apart_from_below (lt_from_test d zero_ℚ below_is)) e) free)
     by_tests false is false below_is e = le_from_lt_fails d zero_ℚ below_is
 
 -- ---- what left outside its limits
 
 -- t may move at the limit to which it was brought; it was outside it before, so that there it lowers the quantity
-pub comes_back : (st : Status) (fixed : Bool) (low high : Option ℚ) (z y e : ℚ) (below : Bool) → st ≡ (if below then Ll else Ul) → StandsAt st low high z → Moving st fixed e → Breaks low high y below → zero_ℚ <ℚ (y -ℚ z) *ℚ e
+pub comes_back : (st : Status) (fixed : Bool) (low high : Option ℚ) (z y e : ℚ) (below : Bool) → st ≡ (if below then Ll else Ul) → StandsAt st low high z →
+    Moving st fixed e → Breaks low high y below → zero_ℚ <ℚ (y -ℚ z) *ℚ e
 comes_back st fixed low high z y e below is stands moving (breaks_lower l at_low limit broken) = lower st (is ∙ rw at_low refl) stands moving
   where
     lower : (st : Status) → st ≡ Ll → StandsAt st low high z → Moving st fixed e → zero_ℚ <ℚ (y -ℚ z) *ℚ e

@@ -40,17 +40,22 @@ returning_exchanges p v h = record {
   basis = h.at.is_basis;
   enters_is = subst (λ m. IsVariable p.matrix m.enters) (sym h.gives) h.is_q;
   leaves_is = subst (λ m. IsVariable p.matrix m.leaves) (sym h.gives) (broken_basic p v.basis v.tableau h.r h.phase).0;
-  enters = subst (λ m. status_of v.basis m.enters ≢ Bs) (sym h.gives) (λ e. clash (sym (ap is_basic e) ∙ status_of_nonbasic p v.basis h.at.is_basis h.q comes.nonbasic));
-  leaves = subst (λ m. status_of v.basis m.leaves ≡ Bs) (sym h.gives) (status_of_basic p v.basis h.at.is_basis h.r (broken_basic p v.basis v.tableau h.r h.phase));
+  enters =
+      subst (λ m. status_of v.basis m.enters ≢ Bs) (sym h.gives)
+      (λ e. clash (sym (ap is_basic e) ∙ status_of_nonbasic p v.basis h.at.is_basis h.q comes.nonbasic));
+  leaves =
+      subst (λ m. status_of v.basis m.leaves ≡ Bs) (sym h.gives) (status_of_basic p v.basis h.at.is_basis h.r (broken_basic p v.basis v.tableau h.r h.phase));
   stands = subst (λ m. m.to ≢ Bs) (sym h.gives) (limit_apart (is_below p v.tableau.point h.r));
 }
   where
     comes : IsEntering p v.basis (excess_rate v.tableau.rate h.r (is_below p v.tableau.point h.r)) h.q
     comes = lowering_enters p v.basis (excess_rate v.tableau.rate h.r (is_below p v.tableau.point h.r)) h.q h.at.is_basis h.is_q h.lowers_it
 
-pub no_return_cycle : (p : LinearProgram) (s : List Status) (v : Visit) (vs : List Visit) → IsWalk s (v ∷ vs) s → (returns : (x : Visit) → In x (v ∷ vs) → IsReturning p x) →
+pub no_return_cycle : (p : LinearProgram) (s : List Status) (v : Visit) (vs : List Visit) → IsWalk s (v ∷ vs) s →
+    (returns : (x : Visit) → In x (v ∷ vs) → IsReturning p x) →
     ((x y : Visit) → (i : In x (v ∷ vs)) → In y (v ∷ vs) → (k : ℕ) → IsVariable p.matrix k → k < (returns x i).q → is_in (basics_of x.basis) k ≡ false →
-    (lowers p x.basis (excess_rate x.tableau.rate (returns x i).r (is_below p x.tableau.point (returns x i).r)) k ≡ false) ⊎ (y.tableau.point k ≡ x.tableau.point k)) → ⊥
+    (lowers p x.basis (excess_rate x.tableau.rate (returns x i).r (is_below p x.tableau.point (returns x i).r)) k ≡ false) ⊎
+    (y.tableau.point k ≡ x.tableau.point k)) → ⊥
 no_return_cycle p s v vs walk returns earlier =
     first_clash p e.basis w.basis e.tableau w.tableau at_e.at at_w.at at_e.is_tableau at_w.is_tableau
     at_e.r pair.t at_e.phase (subst (IsVariable p.matrix) q_is at_e.is_q)

@@ -38,7 +38,8 @@ pub record IsRun (p : LinearProgram) (s : List Status) (t : Tableau) (q k : ℕ)
   pub moves : improving p s t q k ≢ zero_ℚ
   pub point : IsPointOf p next (along t.point length (improving p s t q))
 
-module _ (p : LinearProgram) (s : List Status) (t : Tableau) (at : IsNonsingularBasis p s) (tab : IsTableau p s t) (m : Move) (q k : ℕ) (turn : IsStoppedTurn p s t (Moves m) q k) where
+module _ (p : LinearProgram) (s : List Status) (t : Tableau) (at : IsNonsingularBasis p s) (tab : IsTableau p s t) (m : Move) (q k : ℕ)
+    (turn : IsStoppedTurn p s t (Moves m) q k) where
   pub move_is : m ≡ stopped_by q (improving p s t q) k
   move_is = let e = turn.gives in cc
 
@@ -68,20 +69,24 @@ module _ (p : LinearProgram) (s : List Status) (t : Tableau) (at : IsNonsingular
   }
 
   -- the objective is never made worse, and a step that leaves it as it is has no length
-  pub run_no_worse : (x : ℚ) → zero_ℚ ≤ℚ x → for_min p.sense (objective_value p (along t.point x (improving p s t q))) ≤ℚ for_min p.sense (objective_value p t.point)
+  pub run_no_worse : (x : ℚ) → zero_ℚ ≤ℚ x →
+      for_min p.sense (objective_value p (along t.point x (improving p s t q))) ≤ℚ for_min p.sense (objective_value p t.point)
   run_no_worse x forward =
       subst (λ y. y ≤ℚ for_min p.sense (objective_value p t.point)) (sym (for_min-along p t.point x (improving p s t q)))
       (le_by_product forward (le_of_lt (improving_improves p s t at.is_basis tab q entered))
-      (by_ring3 (for_min p.sense (objective_value p t.point)) x (for_min p.sense (objective_value p (improving p s t q))) (λ z x d. z ≐ (z ⊕ x ⊗ d) ⊕ (x ⊖ number (pos 0)) ⊗ (number (pos 0) ⊖ d)) refl))
+      (by_ring3 (for_min p.sense (objective_value p t.point)) x (for_min p.sense (objective_value p (improving p s t q)))
+      (λ z x d. z ≐ (z ⊕ x ⊗ d) ⊕ (x ⊖ number (pos 0)) ⊗ (number (pos 0) ⊖ d)) refl))
 
-  pub no_length : (x : ℚ) → zero_ℚ ≤ℚ x → for_min p.sense (objective_value p t.point) ≤ℚ for_min p.sense (objective_value p (along t.point x (improving p s t q))) → x ≡ zero_ℚ
+  pub no_length : (x : ℚ) → zero_ℚ ≤ℚ x →
+      for_min p.sense (objective_value p t.point) ≤ℚ for_min p.sense (objective_value p (along t.point x (improving p s t q))) → x ≡ zero_ℚ
   no_length x forward as_good = by_length (same_or_not x zero_ℚ)
     where
       improve : zero_ℚ <ℚ x → for_min p.sense (objective_value p (along t.point x (improving p s t q))) <ℚ for_min p.sense (objective_value p t.point)
       improve ahead =
           subst (λ y. y <ℚ for_min p.sense (objective_value p t.point)) (sym (for_min-along p t.point x (improving p s t q)))
           (lt_by_product ahead (improving_improves p s t at.is_basis tab q entered)
-          (by_ring3 (for_min p.sense (objective_value p t.point)) x (for_min p.sense (objective_value p (improving p s t q))) (λ z x d. z ≐ (z ⊕ x ⊗ d) ⊕ (x ⊖ number (pos 0)) ⊗ (number (pos 0) ⊖ d)) refl))
+          (by_ring3 (for_min p.sense (objective_value p t.point)) x (for_min p.sense (objective_value p (improving p s t q)))
+          (λ z x d. z ≐ (z ⊕ x ⊗ d) ⊕ (x ⊖ number (pos 0)) ⊗ (number (pos 0) ⊖ d)) refl))
 
       by_length : ((x ≡ zero_ℚ) ⊎ (x ≢ zero_ℚ)) → x ≡ zero_ℚ
       by_length (inl none) = none
@@ -95,7 +100,8 @@ module _ (p : LinearProgram) (s : List Status) (t : Tableau) (at : IsNonsingular
     no_flip same =
         by_way (goes_up (worth_rate p s t) q) refl
         (subst (λ d. Against (worth_rate p s t q) d) (ap (signed (goes_up (worth_rate p s t) q)) (tab.are_rates q entered.nonbasic).own)
-        (blocked (status_of s q) (lower_of p q) (upper_of p q) (t.point q) (worth_rate p s t q) (improving p s t q q) (at.is_basis.allowed q entered.is_variable) (tab.is_point.placed q entered.is_variable)
+        (blocked (status_of s q) (lower_of p q) (upper_of p q) (t.point q) (worth_rate p s t q) (improving p s t q q)
+        (at.is_basis.allowed q entered.is_variable) (tab.is_point.placed q entered.is_variable)
         (moving (status_of s q) (is_fixed p q) (worth_rate p s t q) (find_some (lowers p s (worth_rate p s t)) (size p.matrix) 1 q turn.moves).passes)
         (subst (λ i. step_length p t.point (improving p s t q) i ≡ Some zero_ℚ) same at_once)))
       where
@@ -111,7 +117,9 @@ module _ (p : LinearProgram) (s : List Status) (t : Tableau) (at : IsNonsingular
         by_mark : (mark : Bool) → is_in (basics_of s) k ≡ mark → mark ≡ true
         by_mark true is = refl
         by_mark false is =
-            absurd (reaches.moves (ap (signed (goes_up (worth_rate p s t) q)) ((tab.are_rates q entered.nonbasic).others k (k_is, is) no_flip) ∙ signed_zero (goes_up (worth_rate p s t) q)))
+            absurd (reaches.moves
+            (ap (signed (goes_up (worth_rate p s t) q)) ((tab.are_rates q entered.nonbasic).others k (k_is, is) no_flip)
+            ∙ signed_zero (goes_up (worth_rate p s t) q)))
 
     pub stopped_leaves : status_of s k ≡ Bs
     stopped_leaves = status_of_basic p s at.is_basis k stopped_basic

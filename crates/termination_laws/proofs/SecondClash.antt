@@ -26,8 +26,10 @@ use Rattle.termination_laws.proofs.Numbers.{find_before, against_product, still_
 use Rattle.termination_laws.proofs.Resting.{StopsAt, idle_stops, moving, no_step_length, blocked}
 
 -- at the first basis t improves the objective, and at the second t stops q at once
-module _ (p : LinearProgram) (lawful : IsLinearProgram p) (s₁ s₂ : List Status) (t₁ t₂ : Tableau) (at₁ : IsNonsingularBasis p s₁) (at₂ : IsNonsingularBasis p s₂) (tab₁ : IsTableau p s₁ t₁) (tab₂ : IsTableau p s₂ t₂)
-    (same : (k : ℕ) → IsVariable p.matrix k → t₁.point k ≡ t₂.point k) (t q : ℕ) (moves₁ : entering_variable p s₁ t₁ None ≡ Some t) (moves₂ : entering_variable p s₂ t₂ None ≡ Some q)
+module _ (p : LinearProgram) (lawful : IsLinearProgram p) (s₁ s₂ : List Status) (t₁ t₂ : Tableau) (at₁ : IsNonsingularBasis p s₁)
+    (at₂ : IsNonsingularBasis p s₂) (tab₁ : IsTableau p s₁ t₁) (tab₂ : IsTableau p s₂ t₂)
+    (same : (k : ℕ) → IsVariable p.matrix k → t₁.point k ≡ t₂.point k) (t q : ℕ) (moves₁ : entering_variable p s₁ t₁ None ≡ Some t)
+    (moves₂ : entering_variable p s₂ t₂ None ≡ Some q)
     (stops : stopper p t₂.point (improving p s₂ t₂ q) ≡ Some t) (at_once : step_length p t₂.point (improving p s₂ t₂ q) t ≡ Some zero_ℚ)
     (past : (k : ℕ) → IsVariable p.matrix k → t < k → status_of s₁ k ≡ status_of s₂ k) (before_t : q < t) where
   abbrev w : Vector
@@ -62,35 +64,46 @@ module _ (p : LinearProgram) (lawful : IsLinearProgram p) (s₁ s₂ : List Stat
       reaches : reaches_first p t₂.point d k ≡ true
       reaches =
           list_all_from (λ i. is_no_later (step_length p t₂.point d k) (step_length p t₂.point d i)) (size p.matrix) 1
-          (λ i low high. subst (λ o. is_no_later o (step_length p t₂.point d i) ≡ true) (at_once ∙ sym none) ((stopper_some p t₂.point d t stops).1 i (low, omega (arith, high))))
+          (λ i low high. subst (λ o. is_no_later o (step_length p t₂.point d i) ≡ true) (at_once ∙ sym none)
+          ((stopper_some p t₂.point d t stops).1 i (low, omega (arith, high))))
 
   before_term : (k : ℕ) → IsVariable p.matrix k → k < t → is_in (basics_of s₁) k ≡ false → zero_ℚ ≤ℚ d k *ℚ w k
-  before_term k is before out = against_product (w k) (d k) (record { rising = λ h. not_up h (lt_or_le zero_ℚ (d k)); falling = λ h. not_down h (lt_or_le (d k) zero_ℚ) })
+  before_term k is before out =
+      against_product (w k) (d k) (record { rising = λ h. not_up h (lt_or_le zero_ℚ (d k)); falling = λ h. not_down h (lt_or_le (d k) zero_ℚ) })
     where
       rests : StopsAt (lower_of p k) (upper_of p k) (t₂.point k) (w k)
       rests =
-          idle_stops (status_of s₁ k) (lower_of p k) (upper_of p k) (t₂.point k) (w k) (status_of_nonbasic p s₁ at₁.is_basis k (is, out)) (at₁.is_basis.allowed k is) (stands k is)
-          (right (status_of s₁ k) (lower_of p k) (upper_of p k) (w k) (is_fixed p k) refl (find_before (lowers p s₁ w) (size p.matrix) 1 t moves₁ k is.0 before))
+          idle_stops (status_of s₁ k) (lower_of p k) (upper_of p k) (t₂.point k) (w k) (status_of_nonbasic p s₁ at₁.is_basis k (is, out))
+          (at₁.is_basis.allowed k is) (stands k is)
+          (right (status_of s₁ k) (lower_of p k) (upper_of p k) (w k) (is_fixed p k) refl
+          (find_before (lowers p s₁ w) (size p.matrix) 1 t moves₁ k is.0 before))
 
       not_up : w k <ℚ zero_ℚ → ((zero_ℚ <ℚ d k) ⊎ (d k ≤ℚ zero_ℚ)) → d k ≤ℚ zero_ℚ
       not_up h (inl up) =
-          absurd (too_early k is before (no_step_length (lower_of p k) (upper_of p k) (t₂.point k) (d k) (λ g. rests.rising h) (λ g. absurd (lt_not_le up (le_of_lt g))) (apart_from_above up)))
+          absurd (too_early k is before
+          (no_step_length (lower_of p k) (upper_of p k) (t₂.point k) (d k) (λ g. rests.rising h) (λ g. absurd (lt_not_le up (le_of_lt g)))
+          (apart_from_above up)))
       not_up h (inr other) = other
 
       not_down : zero_ℚ <ℚ w k → ((d k <ℚ zero_ℚ) ⊎ (zero_ℚ ≤ℚ d k)) → zero_ℚ ≤ℚ d k
       not_down h (inl down) =
-          absurd (too_early k is before (no_step_length (lower_of p k) (upper_of p k) (t₂.point k) (d k) (λ g. absurd (lt_not_le down (le_of_lt g))) (λ g. rests.falling h) (apart_from_below down)))
+          absurd (too_early k is before
+          (no_step_length (lower_of p k) (upper_of p k) (t₂.point k) (d k) (λ g. absurd (lt_not_le down (le_of_lt g))) (λ g. rests.falling h)
+          (apart_from_below down)))
       not_down h (inr other) = other
 
   own_term : zero_ℚ ≤ℚ d t *ℚ w t
   own_term =
       against_product (w t) (d t)
-      (blocked (status_of s₁ t) (lower_of p t) (upper_of p t) (t₂.point t) (w t) (d t) (at₁.is_basis.allowed t entered₁.is_variable) (stands t entered₁.is_variable)
+      (blocked (status_of s₁ t) (lower_of p t) (upper_of p t) (t₂.point t) (w t) (d t) (at₁.is_basis.allowed t entered₁.is_variable)
+      (stands t entered₁.is_variable)
       (moving (status_of s₁ t) (is_fixed p t) (w t) (find_some (lowers p s₁ w) (size p.matrix) 1 t moves₁).passes) at_once)
 
   past_term : (k : ℕ) → IsVariable p.matrix k → t < k → is_in (basics_of s₁) k ≡ false → zero_ℚ ≤ℚ d k *ℚ w k
   past_term k is after out =
-      still_product (w k) (d k) (ap (signed (goes_up (worth_rate p s₂ t₂) q)) ((tab₂.are_rates q entered₂.nonbasic).others k out₂ (λ e. omega (arith, e, after, before_t))) ∙ signed_zero (goes_up (worth_rate p s₂ t₂) q))
+      still_product (w k) (d k)
+      (ap (signed (goes_up (worth_rate p s₂ t₂) q)) ((tab₂.are_rates q entered₂.nonbasic).others k out₂ (λ e. omega (arith, e, after, before_t)))
+      ∙ signed_zero (goes_up (worth_rate p s₂ t₂) q))
     where
       out₂ : IsNonbasic p.matrix (basics_of s₂) k
       out₂ =
@@ -100,7 +113,8 @@ module _ (p : LinearProgram) (lawful : IsLinearProgram p) (s₁ s₂ : List Stat
   term : (k : ℕ) → IsVariable p.matrix k → zero_ℚ ≤ℚ weight (basics_of s₁) d k *ℚ w k
   term k is = weighed (is_in (basics_of s₁) k) (d k) (w k) (λ out. by_number out (eqb_tells k t) (leb_tells k t))
     where
-      by_number : is_in (basics_of s₁) k ≡ false → (((eqb k t ≡ true) × (k ≡ t)) ⊎ ((eqb k t ≡ false) × (k ≢ t))) → (((leb k t ≡ true) × (k ≤ t)) ⊎ ((leb k t ≡ false) × (t < k))) → zero_ℚ ≤ℚ d k *ℚ w k
+      by_number : is_in (basics_of s₁) k ≡ false → (((eqb k t ≡ true) × (k ≡ t)) ⊎ ((eqb k t ≡ false) × (k ≢ t))) →
+          (((leb k t ≡ true) × (k ≤ t)) ⊎ ((leb k t ≡ false) × (t < k))) → zero_ℚ ≤ℚ d k *ℚ w k
       by_number out (inl at_t) order = subst (λ j. zero_ℚ ≤ℚ d j *ℚ w j) (sym at_t.1) own_term
       by_number out (inr other) (inl low) = before_term k is (omega (arith, low.1, other.1)) out
       by_number out (inr other) (inr high) = past_term k is high.1 out

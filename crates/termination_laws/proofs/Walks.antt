@@ -92,7 +92,8 @@ pub record IsVisitBy (rule : Rule) (p : LinearProgram) (Good : List Status → T
   pub is_tableau : IsTableau p v.basis v.tableau
   pub turns : rule p v.basis v.tableau ≡ Moves v.move
 
-pub visit_step : (rule : Rule) (p : LinearProgram) (Good : List Status → Type 0) (v : Visit) → IsVisitBy rule p Good v → RuleStep rule p v.basis (after v.basis v.move)
+pub visit_step : (rule : Rule) (p : LinearProgram) (Good : List Status → Type 0) (v : Visit) → IsVisitBy rule p Good v →
+    RuleStep rule p v.basis (after v.basis v.move)
 visit_step rule p Good v h = record { tableau = v.tableau; is_tableau = h.is_tableau; move = v.move; turns = h.turns; is_next = refl }
 
 module _ (rule : Rule) (p : LinearProgram) where
@@ -108,10 +109,12 @@ module _ (rule : Rule) (p : LinearProgram) where
   is_walk s (next ∷ bases) path = (refl, subst (λ b. IsWalk b (visits next bases path.1) (last_of next bases)) path.0.is_next (is_walk next bases path.1))
 
   module _ (Good : List Status → Type 0) (leads : (s next : List Status) → Good s → RuleStep rule p s next → Good next) where
-    pub are_visits : (s : List Status) (bases : List (List Status)) → Good s → (path : RulePath rule p s bases) → (x : Visit) → In x (visits s bases path) → IsVisitBy rule p Good x
+    pub are_visits : (s : List Status) (bases : List (List Status)) → Good s → (path : RulePath rule p s bases) → (x : Visit) → In x (visits s bases path) →
+        IsVisitBy rule p Good x
     are_visits s [] good path x i = absurd i
     are_visits s (next ∷ bases) good path x i = by_place (λ x j. are_visits next bases (leads s next good path.0) path.1 x j) x i
       where
-        by_place : ((x : Visit) → In x (visits next bases path.1) → IsVisitBy rule p Good x) → (x : Visit) → ((x ≡ visit s next path.0) ⊎ In x (visits next bases path.1)) → IsVisitBy rule p Good x
+        by_place : ((x : Visit) → In x (visits next bases path.1) → IsVisitBy rule p Good x) → (x : Visit) →
+            ((x ≡ visit s next path.0) ⊎ In x (visits next bases path.1)) → IsVisitBy rule p Good x
         by_place rest x (inl e) = subst (IsVisitBy rule p Good) (sym e) (record { at = good; is_tableau = path.0.is_tableau; turns = path.0.turns })
         by_place rest x (inr j) = rest x j

@@ -57,7 +57,8 @@ last_is [] s = refl
 last_is (first ∷ earlier) s = last_of-append first earlier (s ∷ [])
 
 -- the check of an outcome is that of its ending
-ending_checked : (p : LinearProgram) (steps : ℕ) (ending : PathEnding) (check : Check) → IsCheckedSo p (outcome_of steps ending) (found check) → check_of p ending ≡ found check
+ending_checked : (p : LinearProgram) (steps : ℕ) (ending : PathEnding) (check : Check) → IsCheckedSo p (outcome_of steps ending) (found check) →
+    check_of p ending ≡ found check
 ending_checked p steps (EndsOptimal z y) check h = sym h
 ending_checked p steps (EndsCrossed k) check h = sym h
 ending_checked p steps (EndsInfeasible w) check h = sym h
@@ -77,13 +78,15 @@ verdict_is sheet (Set name) from steps (EndsUnbounded z d) = refl
 
 -- ---- the dual path
 
-verdict_of_path : (sheet : Sheet) (steps : ℕ) (ending : PathEnding) → verdict_view sheet (outcome_of (counted_steps steps) ending) ≡ verdict_of (sheet_view sheet) steps ending
+verdict_of_path : (sheet : Sheet) (steps : ℕ) (ending : PathEnding) →
+    verdict_view sheet (outcome_of (counted_steps steps) ending) ≡ verdict_of (sheet_view sheet) steps ending
 verdict_of_path sheet steps (EndsOptimal z y) = refl
 verdict_of_path sheet steps (EndsCrossed k) = refl
 verdict_of_path sheet steps (EndsInfeasible w) = refl
 verdict_of_path sheet steps (EndsUnbounded z d) = refl
 
-pub dual_reached : (sheet : Sheet) (s now : Basis) (limit : ℕ) (outcome : Outcome) (refused : Option Refused) → DualEnds sheet.lp.now s now limit outcome → IsCheckedSo sheet.lp.now outcome (found (check_view refused)) →
+pub dual_reached : (sheet : Sheet) (s now : Basis) (limit : ℕ) (outcome : Outcome) (refused : Option Refused) → DualEnds sheet.lp.now s now limit outcome →
+    IsCheckedSo sheet.lp.now outcome (found (check_view refused)) →
     IsDualReached sheet s now limit (record { outcome = outcome; refused = refused })
 dual_reached sheet s now limit outcome refused ends checked = (
   ends.right,
@@ -96,7 +99,9 @@ dual_reached sheet s now limit outcome refused ends checked = (
       within_limit = ends.call.within;
       is_verdict = record {
         is_verdict = ap (verdict_view sheet) ends.call.is_outcome ∙ verdict_of_path sheet (length ends.call.bases) ends.call.ending;
-        is_check = ending_checked sheet.lp.now (counted_steps (length ends.call.bases)) ends.call.ending (check_view refused) (subst (λ o. IsCheckedSo sheet.lp.now o (found (check_view refused))) ends.call.is_outcome checked);
+        is_check =
+            ending_checked sheet.lp.now (counted_steps (length ends.call.bases)) ends.call.ending (check_view refused)
+            (subst (λ o. IsCheckedSo sheet.lp.now o (found (check_view refused))) ends.call.is_outcome checked);
       };
     };
   },
@@ -114,15 +119,20 @@ module _ (sheet : Sheet) (parametric_run : ParametricRun) (s now : Basis) (befor
   abbrev statement : SolvingStatement
   statement = parametric_run_statement (sheet_view sheet) parametric_run.changing parametric_run.from
 
-  is_verdict : (steps : ℕ) (ending : PathEnding) (outcome : Outcome) (check : Check) → outcome ≡ outcome_of (counted_steps steps) ending → IsCheckedSo (programs parametric_run.from) outcome (found check) →
+  is_verdict : (steps : ℕ) (ending : PathEnding) (outcome : Outcome) (check : Check) → outcome ≡ outcome_of (counted_steps steps) ending →
+      IsCheckedSo (programs parametric_run.from) outcome (found check) →
       IsVerdict (sheet_at (sheet_view sheet) parametric_run.changing parametric_run.from) steps ending (verdict_view sheet outcome) check
   is_verdict steps ending outcome check e h = record {
     is_verdict = ap (verdict_view sheet) e ∙ verdict_is sheet parametric_run.changing parametric_run.from steps ending;
-    is_check = ending_checked (programs parametric_run.from) (counted_steps steps) ending check (subst (λ o. IsCheckedSo (programs parametric_run.from) o (found check)) e h);
+    is_check =
+        ending_checked (programs parametric_run.from) (counted_steps steps) ending check
+        (subst (λ o. IsCheckedSo (programs parametric_run.from) o (found check)) e h);
   }
 
-  answered : (report : ParaReport) (refused : Option Refused) → RunEnds programs Turns parametric_run.from parametric_run.to s now parametric_run.limit sheet.lp.now.matrix before after report →
-      IsOpeningChecked (programs parametric_run.from) report refused → IsAnswered sheet parametric_run s now before after (record { report = report; refused = refused })
+  answered : (report : ParaReport) (refused : Option Refused) →
+      RunEnds programs Turns parametric_run.from parametric_run.to s now parametric_run.limit sheet.lp.now.matrix before after report →
+      IsOpeningChecked (programs parametric_run.from) report refused →
+      IsAnswered sheet parametric_run s now before after (record { report = report; refused = refused })
   answered (reports.Opening outcome) refused ends checked = record {
     bases = ends.bases;
     run_through = record {
@@ -149,7 +159,8 @@ module _ (sheet : Sheet) (parametric_run : ParametricRun) (s now : Basis) (befor
   }
 
   -- a run whose opening isn't optimal stands at the last basis of that
-  opening_stands : (report : ParaReport) → IsOpening report → RunEnds programs Turns parametric_run.from parametric_run.to s now parametric_run.limit sheet.lp.now.matrix before after report →
+  opening_stands : (report : ParaReport) → IsOpening report →
+      RunEnds programs Turns parametric_run.from parametric_run.to s now parametric_run.limit sheet.lp.now.matrix before after report →
       StandsThere programs Turns parametric_run.from parametric_run.to s now parametric_run.limit
   opening_stands (reports.Opening outcome) is ends = record {
     place = InOpening (last_of s ends.bases);
@@ -161,7 +172,9 @@ module _ (sheet : Sheet) (parametric_run : ParametricRun) (s now : Basis) (befor
   }
   opening_stands (reports.Run run) is ends = absurd is
 
-  overflows : (e : Evidence) → RunOverflows programs Turns parametric_run.from parametric_run.to s now parametric_run.limit statement sheet.lp.now.matrix before after e → RunOverflowsThere sheet parametric_run s now before after e
+  overflows : (e : Evidence) →
+      RunOverflows programs Turns parametric_run.from parametric_run.to s now parametric_run.limit statement sheet.lp.now.matrix before after e →
+      RunOverflowsThere sheet parametric_run s now before after e
   overflows e stop = record {
     stands = stop.stands;
     is_way = stop.is_way;
@@ -170,29 +183,44 @@ module _ (sheet : Sheet) (parametric_run : ParametricRun) (s now : Basis) (befor
           standing = stop.stands.place;
           steps = stop.stands.path;
           ends = stop.stands.ends;
-          reaches = subst (λ (b : Basis). Reaches programs Turns parametric_run.from parametric_run.to b stop.stands.place stop.stands.path stop.stands.ends) (sym (last_is earlier s)) stop.stands.reaches;
+          reaches =
+              subst (λ (b : Basis). Reaches programs Turns parametric_run.from parametric_run.to b stop.stands.place stop.stands.path stop.stands.ends)
+              (sym (last_is earlier s)) stop.stands.reaches;
           left = parametric_run.limit - length stop.stands.path;
           is_left = let within = stop.stands.within in omega (arith, within);
         })
         (record {
           basis = now;
           way = waypoint (basics_of now) after e.way;
-          holds = subst (λ (bs : List Basis). EvidenceHolds statement (breakpoint_of stop.stands.place) (parametric_run.limit - length stop.stands.path) bs stop.stands.ends now (waypoint (basics_of now) after e.way) e) (sym (append_assoc earlier (s ∷ []) stop.stands.path)) (stop.shows earlier lie);
+          holds =
+              subst (λ (bs : List Basis). EvidenceHolds statement (breakpoint_of stop.stands.place)
+              (parametric_run.limit - length stop.stands.path) bs stop.stands.ends now (waypoint (basics_of now) after e.way) e)
+              (sym (append_assoc earlier (s ∷ []) stop.stands.path)) (stop.shows earlier lie);
           is_place = refl;
         });
   }
 
   -- evidence of a limit at the first value is evidence as the run begins
-  limit_overflows : (e : Evidence) → StandsThere programs Turns parametric_run.from parametric_run.to s now parametric_run.limit → ShiftHolds statement [] e → LimitOverflows sheet parametric_run s now before after e
+  limit_overflows : (e : Evidence) → StandsThere programs Turns parametric_run.from parametric_run.to s now parametric_run.limit → ShiftHolds statement [] e →
+      LimitOverflows sheet parametric_run s now before after e
   limit_overflows e stands shift = record {
     stands = stands;
     overflows = λ earlier. of_limit
-        (record { standing = InOpening (last_basis (earlier ++ s ∷ [])); steps = []; ends = []; reaches = begins; left = parametric_run.limit; is_left = omega arith })
+        (record {
+          standing = InOpening
+              (last_basis (earlier ++ s ∷ []));
+          steps = [];
+          ends = [];
+          reaches = begins;
+          left = parametric_run.limit;
+          is_left = omega arith;
+        })
         shift refl;
   }
 
   stops : (Given Reported : Evidence → Type 0) → ((e : Evidence) → Given e → Reported e) → (why : PrimalStop) →
-      RunStops programs Turns parametric_run.from parametric_run.to s now parametric_run.limit Given why → ParametricRunStops sheet parametric_run s now before after Reported why
+      RunStops programs Turns parametric_run.from parametric_run.to s now parametric_run.limit Given why →
+      ParametricRunStops sheet parametric_run s now before after Reported why
   stops Given Reported reported Limit h = record { goes_on = h.goes_on; is_now = h.is_now }
   stops Given Reported reported (Overflow e) h = reported e h
   stops Given Reported reported NoMemory h = h
@@ -201,12 +229,16 @@ module _ (sheet : Sheet) (parametric_run : ParametricRun) (s now : Basis) (befor
 
 module _ (sheet : Sheet) (run : ParaObj) (s now : Basis) (before after : List Basics) where
   abbrev RowEnds : ParaReport → ℕ → Type 0
-  RowEnds report h = RunEnds (objective_family sheet.lp.now h) (IsObjectiveFace sheet.lp.now h) run.from run.to s now run.limit sheet.lp.now.matrix before after report
+  RowEnds report h =
+      RunEnds (objective_family sheet.lp.now h) (IsObjectiveFace sheet.lp.now h) run.from run.to s now run.limit sheet.lp.now.matrix before after report
 
   abbrev RowOverflows : ℕ → Evidence → Type 0
-  RowOverflows h = RunOverflows (objective_family sheet.lp.now h) (IsObjectiveFace sheet.lp.now h) run.from run.to s now run.limit (Paraobj sheet.lp.now h run.from) sheet.lp.now.matrix before after
+  RowOverflows h =
+      RunOverflows (objective_family sheet.lp.now h) (IsObjectiveFace sheet.lp.now h) run.from run.to s now run.limit
+      (Paraobj sheet.lp.now h run.from) sheet.lp.now.matrix before after
 
-  pub objective_answered : (report : ParaReport) (refused : Option Refused) → ObjectiveEnds sheet.lp.now run s now before after report → IsOpeningChecked (objective.family sheet.lp.now run run.from) report refused →
+  pub objective_answered : (report : ParaReport) (refused : Option Refused) → ObjectiveEnds sheet.lp.now run s now before after report →
+      IsOpeningChecked (objective.family sheet.lp.now run run.from) report refused →
       IsObjectiveAnswered sheet run s now before after (record { report = report; refused = refused })
   objective_answered report refused ends checked name is =
       answered sheet (row_parametric_run name run) s now before after report refused (subst (RowEnds report) (sym is) ends)
@@ -214,12 +246,15 @@ module _ (sheet : Sheet) (run : ParaObj) (s now : Basis) (before after : List Ba
 
   pub objective_stops : (why : PrimalStop) → ObjectiveStops sheet.lp.now run s now before after why → ObjectiveRunStops sheet run s now before after why
   objective_stops why h name is =
-      stops sheet (row_parametric_run name run) s now before after (RowOverflows (row_of sheet.problem.now name)) (RunOverflowsThere sheet (row_parametric_run name run) s now before after)
+      stops sheet (row_parametric_run name run) s now before after (RowOverflows (row_of sheet.problem.now name))
+      (RunOverflowsThere sheet (row_parametric_run name run) s now before after)
       (λ e o. overflows sheet (row_parametric_run name run) s now before after e o) why
-      (subst (λ (h : ℕ). RunStops (objective_family sheet.lp.now h) (IsObjectiveFace sheet.lp.now h) run.from run.to s now run.limit (RowOverflows h) why) (sym is) h)
+      (subst (λ (h : ℕ). RunStops (objective_family sheet.lp.now h) (IsObjectiveFace sheet.lp.now h) run.from run.to s now run.limit (RowOverflows h) why)
+      (sym is) h)
 
   -- memory ran out in the check of an opening
-  pub objective_unchecked : (report : ParaReport) → IsOpening report → ObjectiveEnds sheet.lp.now run s now before after report → ObjectiveRunStops sheet run s now before after NoMemory
+  pub objective_unchecked : (report : ParaReport) → IsOpening report → ObjectiveEnds sheet.lp.now run s now before after report →
+      ObjectiveRunStops sheet run s now before after NoMemory
   objective_unchecked report opening ends name is =
       opening_stands sheet (row_parametric_run name run) s now before after report opening (subst (RowEnds report) (sym is) ends)
 
@@ -231,17 +266,21 @@ module _ (sheet : Sheet) (run : ParaRhs) (s now : Basis) (before after : List Ba
 
   abbrev SetOverflows : List ℚ → Evidence → Type 0
   SetOverflows xs e =
-      RunOverflows (rhs_family sheet.lp.now xs) (IsRhsFace sheet.lp.now xs) run.from run.to s now run.limit (Pararhs sheet.lp.now xs run.from) sheet.lp.now.matrix before after e ⊎
-      (StandsThere (rhs_family sheet.lp.now xs) (IsRhsFace sheet.lp.now xs) run.from run.to s now run.limit × ShiftHolds (Pararhs sheet.lp.now xs run.from) [] e)
+      RunOverflows (rhs_family sheet.lp.now xs) (IsRhsFace sheet.lp.now xs) run.from run.to s now run.limit
+      (Pararhs sheet.lp.now xs run.from) sheet.lp.now.matrix before after e ⊎
+      (StandsThere (rhs_family sheet.lp.now xs) (IsRhsFace sheet.lp.now xs) run.from run.to s now run.limit × ShiftHolds
+      (Pararhs sheet.lp.now xs run.from) [] e)
 
   abbrev Reported : Name → Evidence → Type 0
-  Reported name e = RunOverflowsThere sheet (set_parametric_run name run) s now before after e ⊎ LimitOverflows sheet (set_parametric_run name run) s now before after e
+  Reported name e =
+      RunOverflowsThere sheet (set_parametric_run name run) s now before after e ⊎ LimitOverflows sheet (set_parametric_run name run) s now before after e
 
   reported : (name : Name) (e : Evidence) → SetOverflows (shifts_of sheet.problem.now name) e → Reported name e
   reported name e (inl o) = inl (overflows sheet (set_parametric_run name run) s now before after e o)
   reported name e (inr o) = inr (limit_overflows sheet (set_parametric_run name run) s now before after e o.0 o.1)
 
-  pub rhs_answered : (report : ParaReport) (refused : Option Refused) → RhsEnds sheet.lp.now run s now before after report → IsOpeningChecked (rhs.family sheet.lp.now run run.from) report refused →
+  pub rhs_answered : (report : ParaReport) (refused : Option Refused) → RhsEnds sheet.lp.now run s now before after report →
+      IsOpeningChecked (rhs.family sheet.lp.now run run.from) report refused →
       IsRhsAnswered sheet run s now before after (record { report = report; refused = refused })
   rhs_answered report refused ends checked name is =
       answered sheet (set_parametric_run name run) s now before after report refused (subst (SetEnds report) (sym is) ends)
@@ -250,7 +289,8 @@ module _ (sheet : Sheet) (run : ParaRhs) (s now : Basis) (before after : List Ba
   pub rhs_stops : (why : PrimalStop) → RhsStops sheet.lp.now run s now before after why → RhsRunStops sheet run s now before after why
   rhs_stops why h name is =
       stops sheet (set_parametric_run name run) s now before after (SetOverflows (shifts_of sheet.problem.now name)) (Reported name) (reported name) why
-      (subst (λ (xs : List ℚ). RunStops (rhs_family sheet.lp.now xs) (IsRhsFace sheet.lp.now xs) run.from run.to s now run.limit (SetOverflows xs) why) (sym is) h)
+      (subst (λ (xs : List ℚ). RunStops (rhs_family sheet.lp.now xs) (IsRhsFace sheet.lp.now xs) run.from run.to s now run.limit (SetOverflows xs) why)
+      (sym is) h)
 
   -- a limit that is too large, or memory that ran out, in the check of an opening
   pub rhs_unchecked : (stop : Stop) (report : ParaReport) → IsOpening report → RhsEnds sheet.lp.now run s now before after report →

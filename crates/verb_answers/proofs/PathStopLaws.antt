@@ -37,8 +37,10 @@ left_is : (p : LinearProgram) (limit : Option ℕ) (steps : ℕ) → steps ≤ m
 left_is p None steps within = tt
 left_is p (Some most) steps within = omega (arith, within)
 
-module _ (rule : Rule) (statement : SolvingStatement) (sheet : Sheet) (s now : Basis) (most : ℕ) (limit : Option ℕ) (left : (steps : ℕ) → steps ≤ most → IfSome limit (λ n. steps + (most - steps) ≡ n)) (before after : List Basics) where
-  overflows : (e : Evidence) → RuleStopsOnPath rule statement sheet.lp.now s now most before after e → RuleOverflowsThere rule statement sheet s now limit before after e
+module _ (rule : Rule) (statement : SolvingStatement) (sheet : Sheet) (s now : Basis) (most : ℕ) (limit : Option ℕ)
+    (left : (steps : ℕ) → steps ≤ most → IfSome limit (λ n. steps + (most - steps) ≡ n)) (before after : List Basics) where
+  overflows : (e : Evidence) → RuleStopsOnPath rule statement sheet.lp.now s now most before after e →
+      RuleOverflowsThere rule statement sheet s now limit before after e
   overflows e stop = record {
     bases = stop.bases;
     goes = (stop.is_path, stop.reaches);
@@ -52,7 +54,8 @@ module _ (rule : Rule) (statement : SolvingStatement) (sheet : Sheet) (s now : B
         basis = now;
         way = waypoint (basics_of now) after e.way;
         holds =
-            subst (λ (bs : List Basis). EvidenceHolds statement None (most - length stop.bases) bs [] now (waypoint (basics_of now) after e.way) e) (sym (then_more earlier s stop.bases))
+            subst (λ (bs : List Basis). EvidenceHolds statement None (most - length stop.bases) bs [] now (waypoint (basics_of now) after e.way) e)
+            (sym (then_more earlier s stop.bases))
             (stop.shows earlier lie);
         is_place = refl;
       };
@@ -63,7 +66,8 @@ module _ (sheet : Sheet) (no_change : sheet.lp.now.change ≡ None) (s now : Bas
   abbrev most : ℕ
   most = most_steps sheet.lp.now limit
 
-  pub stops : (stop : PrimalStop) → PrimalStopsAlong sheet.lp.now s now most before after stop → (stop ≡ Limit → IsSome limit) → PathStops sheet s now limit before after stop
+  pub stops : (stop : PrimalStop) → PrimalStopsAlong sheet.lp.now s now most before after stop → (stop ≡ Limit → IsSome limit) →
+      PathStops sheet s now limit before after stop
   stops Limit h some = passes limit h (some refl)
     where
       passes : (limit : Option ℕ) → PathGoesOn sheet.lp.now s now (most_steps sheet.lp.now limit) → IsSome limit → PassesLimit sheet s now limit
@@ -78,5 +82,6 @@ module _ (sheet : Sheet) (s now : Basis) (limit : ℕ) (before after : List Basi
   pub dual_stops : (stop : DualStop) → DualStopsAlong sheet.lp.now s now limit before after stop → DualPathStops sheet s now limit before after stop
   dual_stops (dual_stop.NotDualFeasible j) h = h
   dual_stops dual_stop.Limit h = h
-  dual_stops (dual_stop.Overflow e) h = overflows dual_turn (Dual sheet.lp.now) sheet s now limit (Some limit) (left_is sheet.lp.now (Some limit)) before after e h
+  dual_stops (dual_stop.Overflow e) h =
+      overflows dual_turn (Dual sheet.lp.now) sheet s now limit (Some limit) (left_is sheet.lp.now (Some limit)) before after e h
   dual_stops dual_stop.NoMemory h = (h.0, h.1)

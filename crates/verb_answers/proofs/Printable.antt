@@ -58,7 +58,9 @@ module _ (p : LinearProgram) (h : ℕ) (theta : ℚ) (s : List Status) (t : Tabl
       (listed_counted p.matrix t.point, listed_counted p.matrix v)
 
   objective_by : (o : Option ℕ) (end : ChainEnd) → face_by p h theta s t o ≡ FaceEnds end → EndHasPlaces (size p.matrix) end
-  objective_by (Some q) end e = objective_until q (speeds t.rate (goes_up (change_rate p h theta s t) q) q) (stopper p t.point (speeds t.rate (goes_up (change_rate p h theta s t) q) q)) end e
+  objective_by (Some q) end e =
+      objective_until q (speeds t.rate (goes_up (change_rate p h theta s t) q) q)
+      (stopper p t.point (speeds t.rate (goes_up (change_rate p h theta s t) q) q)) end e
   objective_by None end e = absurd (cc e)
 
   objective_end : (end : ChainEnd) → objective_face p h theta s t ≡ FaceEnds end → EndHasPlaces (size p.matrix) end
@@ -66,7 +68,8 @@ module _ (p : LinearProgram) (h : ℕ) (theta : ℚ) (s : List Status) (t : Tabl
   objective_end end e = objective_by (face_entering_variable p h theta s t) end e
 
 module _ (p : LinearProgram) (shift : List ℚ) (theta : ℚ) (s : List Status) (t : Tableau) (v : Vector) where
-  rhs_exchange : (r : ℕ) (below : Bool) (o : Option ℕ) (end : ChainEnd) → face_exchange p shift theta s t v r below o ≡ FaceEnds end → EndHasPlaces (size p.matrix) end
+  rhs_exchange : (r : ℕ) (below : Bool) (o : Option ℕ) (end : ChainEnd) → face_exchange p shift theta s t v r below o ≡ FaceEnds end →
+      EndHasPlaces (size p.matrix) end
   rhs_exchange r below (Some q) end e = absurd (cc e)
   rhs_exchange r below None end e =
       let ray : Vector = ray_of (basics_of s) t.rate r below in
@@ -93,7 +96,8 @@ module _ (family : ℚ → LinearProgram) (Face : ℚ → List Status → FaceTu
     price_rate = is.prices_counted.rate_counted ∙ counted from;
   }
 
-  chain_places : (from : ℚ) (s : List Status) (parts : List Part) (end : ChainEnd) (path : List (List Status)) → IsChain family Face max from s parts end path → AllByRecursion (HasPlaces places) parts × EndHasPlaces places end
+  chain_places : (from : ℚ) (s : List Status) (parts : List Part) (end : ChainEnd) (path : List (List Status)) → IsChain family Face max from s parts end path →
+      AllByRecursion (HasPlaces places) parts × EndHasPlaces places end
   chain_places _ _ _ _ _ (at_max {from} {s} {part} is whole) = ((interval_places from s part is, tt), tt)
   chain_places _ _ _ _ _ (past_breakpoint {from} {s} {part} {end} {path} is faces) = ((interval_places from s part is, tt), ended part.to _ end faces.last)
   chain_places _ _ _ _ _ (goes_on {from} {s} {part} {parts} {end} {bases} {later} is faces chain) =
@@ -132,10 +136,13 @@ module _ (sheet : Sheet) (named : IsSheet sheet) where
 
   report_listed : (family : ℚ → LinearProgram) (Face : ℚ → List Status → FaceTurn → Type 0) → ((theta : ℚ) → size (family theta).matrix ≡ places) →
       ((theta : ℚ) (s : List Status) (end : ChainEnd) → Face theta s (FaceEnds end) → EndHasPlaces places end) →
-      (from max : ℚ) (s now : List Status) (limit : ℕ) (a : Matrix) (before after : List (List Bool)) (report : ParaReport) → RunEnds family Face from max s now limit a before after report → IsTrueReported family from max report → IsPrintable sheet report
-  report_listed family Face counted ended from max s now limit a before after (reports.Opening outcome) run truth = opening_listed (family from) outcome (counted from) truth
+      (from max : ℚ) (s now : List Status) (limit : ℕ) (a : Matrix) (before after : List (List Bool)) (report : ParaReport) →
+      RunEnds family Face from max s now limit a before after report → IsTrueReported family from max report → IsPrintable sheet report
+  report_listed family Face counted ended from max s now limit a before after (reports.Opening outcome) run truth =
+      opening_listed (family from) outcome (counted from) truth
   report_listed family Face counted ended from max s now limit a before after (reports.Run reported) run truth =
-      let chain = chain_places family Face places counted ended max from _ (map part_of reported.parts) (end_of reported.end) run.is_report.faces run.is_report.chain in
+      let chain =
+      chain_places family Face places counted ended max from _ (map part_of reported.parts) (end_of reported.end) run.is_report.faces run.is_report.chain in
       record {
         is_sheet = named;
         parts = each-all (IsPart sheet) reported.parts (parts_listed reported.parts chain.0);
@@ -143,13 +150,17 @@ module _ (sheet : Sheet) (named : IsSheet sheet) where
       }
 
   pub objective_printable : (h : ℕ) (from max : ℚ) (s now : List Status) (limit : ℕ) (a : Matrix) (before after : List (List Bool)) (report : ParaReport) →
-      RunEnds (objective_family sheet.lp.now h) (IsObjectiveFace sheet.lp.now h) from max s now limit a before after report → IsTrueReported (objective_family sheet.lp.now h) from max report → IsPrintable sheet report
+      RunEnds (objective_family sheet.lp.now h) (IsObjectiveFace sheet.lp.now h) from max s now limit a before after report →
+      IsTrueReported (objective_family sheet.lp.now h) from max report → IsPrintable sheet report
   objective_printable h from max s now limit a before after report run truth =
       report_listed (objective_family sheet.lp.now h) (IsObjectiveFace sheet.lp.now h) (λ theta. refl)
-      (λ theta s end face. objective_end (objective_family sheet.lp.now h theta) h theta s face.0 end face.2) from max s now limit a before after report run truth
+      (λ theta s end face. objective_end
+      (objective_family sheet.lp.now h theta) h theta s face.0 end face.2) from max s now limit a before after report run truth
 
   pub rhs_printable : (shift : List ℚ) (from max : ℚ) (s now : List Status) (limit : ℕ) (a : Matrix) (before after : List (List Bool)) (report : ParaReport) →
-      RunEnds (rhs_family sheet.lp.now shift) (IsRhsFace sheet.lp.now shift) from max s now limit a before after report → IsTrueReported (rhs_family sheet.lp.now shift) from max report → IsPrintable sheet report
+      RunEnds (rhs_family sheet.lp.now shift) (IsRhsFace sheet.lp.now shift) from max s now limit a before after report →
+      IsTrueReported (rhs_family sheet.lp.now shift) from max report → IsPrintable sheet report
   rhs_printable shift from max s now limit a before after report run truth =
       report_listed (rhs_family sheet.lp.now shift) (IsRhsFace sheet.lp.now shift) (λ theta. refl)
-      (λ theta s end face. rhs_end (rhs_family sheet.lp.now shift theta) shift theta s face.0 face.1 end face.4) from max s now limit a before after report run truth
+      (λ theta s end face. rhs_end
+      (rhs_family sheet.lp.now shift theta) shift theta s face.0 face.1 end face.4) from max s now limit a before after report run truth

@@ -29,11 +29,13 @@ ends_same [] k = refl
 ends_same (item ∷ items) k = by (nat_eq item.0 k) (ends_same items k)
   where
     by : (b : Bool) → ends_at items k ≡ found (find (λ interval. nat_eq interval.variable k) (map interval_of items)) →
-        low_value (if b then Some item.1 else interval_at items k) ∷ high_value (if b then Some item.1 else interval_at items k) ∷ [] ≡ found (if b then Some (interval_of item) else find (λ interval. nat_eq interval.variable k) (map interval_of items))
+        low_value (if b then Some item.1 else interval_at items k) ∷ high_value (if b then Some item.1 else interval_at items k) ∷ [] ≡ found
+        (if b then Some (interval_of item) else find (λ interval. nat_eq interval.variable k) (map interval_of items))
     by true e = refl
     by false e = e
 
-module _ (problem : Problem ℕ) (p : LinearProgram) (s : List Status) (point : List ℚ) (report : RangeReport) (optimal : IsOptimalBasis p s) (is_point : IsPointOf p s (value_at point)) (is_report : IsRangeReport p s (report_of report)) where
+module _ (problem : Problem ℕ) (p : LinearProgram) (s : List Status) (point : List ℚ) (report : RangeReport) (optimal : IsOptimalBasis p s)
+    (is_point : IsPointOf p s (value_at point)) (is_report : IsRangeReport p s (report_of report)) where
   abbrev sheet : Sheet
   sheet = record { problem = problem; lp = p }
 
@@ -47,7 +49,9 @@ module _ (problem : Problem ℕ) (p : LinearProgram) (s : List Status) (point : 
       let limit = ends_same report.limits k in
       λ i. Code (at i) ∷ Number (value_at point k) ∷ limit i
 
-  limit_column_same : (k : ℕ) → printed.limit_column_values p s point report k ≡ placed sheet s tableau k ++ (ends_of (report_of report).limits k ++ cost_and_ends sheet s tableau (report_of report) k)
+  limit_column_same : (k : ℕ) →
+      printed.limit_column_values p s point report k ≡ placed sheet s tableau k ++
+      (ends_of (report_of report).limits k ++ cost_and_ends sheet s tableau (report_of report) k)
   limit_column_same k =
       let at = by_status p s (value_at point) k (status_of s k) refl in
       let limit = ends_same report.limits k in
@@ -60,7 +64,8 @@ module _ (problem : Problem ℕ) (p : LinearProgram) (s : List Status) (point : 
       let multiple = ends_same report.rows k in
       λ i. Code (at i) ∷ Number (value_at point k) ∷ multiple i
 
-  between_column_same : (k : ℕ) → printed.between_column_values p s point report k ≡ placed sheet s tableau k ++ cost_and_ends sheet s tableau (report_of report) k
+  between_column_same : (k : ℕ) →
+      printed.between_column_values p s point report k ≡ placed sheet s tableau k ++ cost_and_ends sheet s tableau (report_of report) k
   between_column_same k =
       let at = by_status p s (value_at point) k (status_of s k) refl in
       let costs = ends_same report.costs k in

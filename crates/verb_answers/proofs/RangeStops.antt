@@ -33,7 +33,8 @@ module _ (p : LinearProgram) (Goes : Status → Type 0) (s : List Status) (e : E
   formula_ranged t w rate (by_objective f) = by_objective f
   formula_ranged t w rate (by_slope u is f) = by_slope u is f
 
-  refusal_ranged : (around wider : List Basics) (w : Basics) → Covers p.matrix around wider → ShowsRefusal (Primal p) Goes around s w e → ShowsRefusal (Range p) (λ to. Unit {0}) wider s w e
+  refusal_ranged : (around wider : List Basics) (w : Basics) → Covers p.matrix around wider → ShowsRefusal (Primal p) Goes around s w e →
+      ShowsRefusal (Range p) (λ to. Unit {0}) wider s w e
   refusal_ranged around wider w cover r = record {
     tableau = r.tableau;
     is_tableau = r.is_tableau;
@@ -46,7 +47,8 @@ module _ (p : LinearProgram) (Goes : Status → Type 0) (s : List Status) (e : E
   }
 
 -- of a call that comes after others at the same basis
-module _ (p : LinearProgram) (no_change : p.change ≡ None) (before mid : List Basics) (s : List Status) (after : List Basics) (keeps : KeepsWaypoints p.matrix (basics_of s) before (basics_of s) mid) (e : Evidence) where
+module _ (p : LinearProgram) (no_change : p.change ≡ None) (before mid : List Basics) (s : List Status) (after : List Basics)
+    (keeps : KeepsWaypoints p.matrix (basics_of s) before (basics_of s) mid) (e : Evidence) where
   of_stop : (Goes : Status → Type 0) → IsTrue (belongs (Range p) e) → StopsAt Goes p (basics_of s ∷ mid) s after e → RangesRefused p before s after e
   of_stop Goes of_statement stop = record {
     is_way = stop.is_way;
@@ -54,7 +56,8 @@ module _ (p : LinearProgram) (no_change : p.change ≡ None) (before mid : List 
         let last : IsWithinOne p.matrix (basics_of s) (map basics_of (earlier ++ s ∷ [])) = within_last p.matrix earlier s in
         let cover : Covers p.matrix (basics_of s ∷ mid) (map basics_of (earlier ++ s ∷ [])) = (
           last,
-          covers_trans p.matrix mid (basics_of s ∷ before) (map basics_of (earlier ++ s ∷ [])) (kept_within p.matrix (basics_of s) before mid keeps) (last, Covers-all p.matrix before (map basics_of (earlier ++ s ∷ [])) lie),
+          covers_trans p.matrix mid (basics_of s ∷ before) (map basics_of (earlier ++ s ∷ [])) (kept_within p.matrix (basics_of s) before mid keeps)
+              (last, Covers-all p.matrix before (map basics_of (earlier ++ s ∷ [])) lie),
         ) in
         record {
           basis = s;
@@ -65,7 +68,8 @@ module _ (p : LinearProgram) (no_change : p.change ≡ None) (before mid : List 
             ahead = None;
             is_ahead = tt;
             shows = refusal_ranged p Goes s e (basics_of s ∷ mid) (map basics_of (earlier ++ s ∷ [])) (waypoint (basics_of s) after e.way) cover
-                (subst (λ (o : Option Change). ShowsRefusal (job_of p o) Goes (basics_of s ∷ mid) s (waypoint (basics_of s) after e.way) e) no_change stop.shows);
+                (subst (λ (o : Option Change). ShowsRefusal (job_of p o) Goes (basics_of s ∷ mid) s
+                (waypoint (basics_of s) after e.way) e) no_change stop.shows);
             is_theta = subst (λ (o : Option Change). Contains (thetas_of (job_of p o) []) e.theta) no_change stop.is_theta;
             of_move = record { enters = λ is. tt; brings = λ is. tt; steps = λ is. tt };
             of_statement = of_statement;
@@ -80,7 +84,8 @@ module _ (p : LinearProgram) (no_change : p.change ≡ None) (before mid : List 
   of_report : RangeRefused p mid s after e → RangesRefused p before s after e
   of_report h = of_stop (λ to. Unit {0}) h.of_call h.stops
 
-module _ (p : LinearProgram) (no_change : p.change ≡ None) (before mid : List Basics) (s : List Status) (after : List Basics) (keeps : KeepsWaypoints p.matrix (basics_of s) before (basics_of s) mid) (stop : Stop) where
+module _ (p : LinearProgram) (no_change : p.change ≡ None) (before mid : List Basics) (s : List Status) (after : List Basics)
+    (keeps : KeepsWaypoints p.matrix (basics_of s) before (basics_of s) mid) (stop : Stop) where
   pub point_stops : IfOverflow stop (PointRefused p mid s after) → IfOverflow stop (RangesRefused p before s after)
   point_stops h = IfOverflow-map stop (λ e x. of_point p no_change before mid s after keeps e x) h
 

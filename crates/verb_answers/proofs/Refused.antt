@@ -27,7 +27,8 @@ record IsPointNumber (e : Evidence) : Type 0 where
   no_ratio : nat_eq e.formula 14 ≡ false
   belongs_to : (p : LinearProgram) → IsTrue (belongs (Solution p) e)
 
-of_number : (n term : ℕ) → (is_between 1 5 n || is_between 10 12 n) ≡ true → (is_between 7 9 n ≡ false) × (nat_eq n 14 ≡ false) × (((is_between 1 6 n || is_between 10 12 n) && (not (nat_eq n 6) || nat_eq term 3)) ≡ true)
+of_number : (n term : ℕ) → (is_between 1 5 n || is_between 10 12 n) ≡ true →
+    (is_between 7 9 n ≡ false) × (nat_eq n 14 ≡ false) × (((is_between 1 6 n || is_between 10 12 n) && (not (nat_eq n 6) || nat_eq term 3)) ≡ true)
 of_number n term h = (grind arith, grind arith, grind arith)
 
 point_number : (e : Evidence) → IsTrue (is_of_point None e.formula) → IsPointNumber e
@@ -61,7 +62,8 @@ module _ (p : LinearProgram) (Other : Status → Type 0) (s : List Status) (e : 
   formula_view t w rate (by_objective f) = by_objective f
   formula_view t w rate (by_slope u is f) = by_slope u is f
 
-  refusal_view : (around wider : List Basics) (w : Basics) → Covers p.matrix around wider → ShowsRefusal (Primal p) (λ to. ⊥) around s w e → ShowsRefusal (Solution p) Other wider s w e
+  refusal_view : (around wider : List Basics) (w : Basics) → Covers p.matrix around wider → ShowsRefusal (Primal p) (λ to. ⊥) around s w e →
+      ShowsRefusal (Solution p) Other wider s w e
   refusal_view around wider w cover r = record {
     tableau = r.tableau;
     is_tableau = r.is_tableau;
@@ -74,7 +76,8 @@ module _ (p : LinearProgram) (Other : Status → Type 0) (s : List Status) (e : 
   }
 
 -- of a call that comes after others at the same basis
-module _ (p : LinearProgram) (no_change : p.change ≡ None) (before mid : List Basics) (s : List Status) (after : List Basics) (keeps : KeepsWaypoints p.matrix (basics_of s) before (basics_of s) mid) (e : Evidence) where
+module _ (p : LinearProgram) (no_change : p.change ≡ None) (before mid : List Basics) (s : List Status) (after : List Basics)
+    (keeps : KeepsWaypoints p.matrix (basics_of s) before (basics_of s) mid) (e : Evidence) where
   pub of_point : PointRefused p mid s after e → SolutionRefused p before s after e
   of_point h =
       let number = point_number e (subst (λ (o : Option Change). IsTrue (is_of_point o e.formula)) no_change h.of_call) in
@@ -84,7 +87,8 @@ module _ (p : LinearProgram) (no_change : p.change ≡ None) (before mid : List 
             let last : IsWithinOne p.matrix (basics_of s) (map basics_of (earlier ++ s ∷ [])) = within_last p.matrix earlier s in
             let cover : Covers p.matrix (basics_of s ∷ mid) (map basics_of (earlier ++ s ∷ [])) = (
               last,
-              covers_trans p.matrix mid (basics_of s ∷ before) (map basics_of (earlier ++ s ∷ [])) (kept_within p.matrix (basics_of s) before mid keeps) (last, Covers-all p.matrix before (map basics_of (earlier ++ s ∷ [])) lie),
+              covers_trans p.matrix mid (basics_of s ∷ before) (map basics_of (earlier ++ s ∷ [])) (kept_within p.matrix (basics_of s) before mid keeps)
+                  (last, Covers-all p.matrix before (map basics_of (earlier ++ s ∷ [])) lie),
             ) in
             record {
               basis = s;
@@ -94,10 +98,19 @@ module _ (p : LinearProgram) (no_change : p.change ≡ None) (before mid : List 
                 reached = refl;
                 ahead = None;
                 is_ahead = tt;
-                shows = refusal_view p (GoesTo (Solution p) None s e) s e (basics_of s ∷ mid) (map basics_of (earlier ++ s ∷ [])) (waypoint (basics_of s) after e.way) cover
-                    (subst (λ (o : Option Change). ShowsRefusal (job_of p o) (λ to. ⊥) (basics_of s ∷ mid) s (waypoint (basics_of s) after e.way) e) no_change h.stops.shows);
+                shows =
+                    refusal_view p (GoesTo (Solution p) None s e) s e (basics_of s ∷ mid) (map basics_of (earlier ++ s ∷ []))
+                    (waypoint (basics_of s) after e.way) cover
+                    (subst (λ (o : Option Change). ShowsRefusal (job_of p o) (λ to. ⊥) (basics_of s ∷ mid) s
+                    (waypoint (basics_of s) after e.way) e) no_change h.stops.shows);
                 is_theta = subst (λ (o : Option Change). Contains (thetas_of (job_of p o) []) e.theta) no_change h.stops.is_theta;
-                of_move = record { enters = λ is. absurd (clash (sym is ∙ number.no_move)); brings = λ is. absurd (clash (sym is ∙ number.no_ratio)); steps = λ is. tt };
+                of_move =
+                    record {
+                      enters = λ is. absurd (clash (sym is ∙ number.no_move));
+                      brings = λ is. absurd
+                          (clash (sym is ∙ number.no_ratio));
+                      steps = λ is. tt;
+                    };
                 of_statement = number.belongs_to p;
               };
               is_place = refl;
@@ -106,8 +119,10 @@ module _ (p : LinearProgram) (no_change : p.change ≡ None) (before mid : List 
 
 -- ---- a slack
 
-module _ (p : LinearProgram) (s : List Status) (z : Vector) (rate : ℕ → ℕ → ℚ) (point : IsPointOf p s z) (rates : AreRates p.matrix (basics_of s) rate) (nonsingular : IsNonsingular p.matrix (basics_of s)) (before after : List Basics) (e : Evidence) where
-  slack_view : (Goes : Status → Type 0) (around : List Basics) → IsWithinOne p.matrix (basics_of s) around → SomeSlackRefused p z e → ShowsRefusal (Solution p) Goes around s (basics_of s) e
+module _ (p : LinearProgram) (s : List Status) (z : Vector) (rate : ℕ → ℕ → ℚ) (point : IsPointOf p s z) (rates : AreRates p.matrix (basics_of s) rate)
+    (nonsingular : IsNonsingular p.matrix (basics_of s)) (before after : List Basics) (e : Evidence) where
+  slack_view : (Goes : Status → Type 0) (around : List Basics) → IsWithinOne p.matrix (basics_of s) around → SomeSlackRefused p z e →
+      ShowsRefusal (Solution p) Goes around s (basics_of s) e
   slack_view Goes around own (i, is, h) = record {
     tableau = record { point = z; rate = rate };
     is_tableau = record { is_point = point; are_rates = rates };
@@ -132,7 +147,9 @@ module _ (p : LinearProgram) (s : List Status) (z : Vector) (rate : ℕ → ℕ 
             reached = refl;
             ahead = None;
             is_ahead = tt;
-            shows = subst (λ (w : Basics). ShowsRefusal (Solution p) (GoesTo (Solution p) None s e) (map basics_of (earlier ++ s ∷ [])) s w e) (sym (ap (waypoint (basics_of s) after) h.no_way))
+            shows =
+                subst (λ (w : Basics). ShowsRefusal (Solution p) (GoesTo (Solution p) None s e) (map basics_of (earlier ++ s ∷ [])) s w e)
+                (sym (ap (waypoint (basics_of s) after) h.no_way))
                 (slack_view (GoesTo (Solution p) None s e) (map basics_of (earlier ++ s ∷ [])) (within_last p.matrix earlier s) some);
             is_theta = (0, omega arith, sym h.is_theta);
             of_move = record {
@@ -148,10 +165,13 @@ module _ (p : LinearProgram) (s : List Status) (z : Vector) (rate : ℕ → ℕ 
 
 -- ---- the stops of the calls
 
-pub point_stops : (p : LinearProgram) → p.change ≡ None → (before mid : List Basics) (s : List Status) (after : List Basics) → KeepsWaypoints p.matrix (basics_of s) before (basics_of s) mid →
+pub point_stops : (p : LinearProgram) → p.change ≡ None → (before mid : List Basics) (s : List Status) (after : List Basics) →
+    KeepsWaypoints p.matrix (basics_of s) before (basics_of s) mid →
     (stop : Stop) → IfOverflow stop (PointRefused p mid s after) → IfOverflow stop (SolutionRefused p before s after)
 point_stops p no_change before mid s after keeps stop h = IfOverflow-map stop (λ e x. of_point p no_change before mid s after keeps e x) h
 
-pub slack_stops : (p : LinearProgram) (s : List Status) (z y : Vector) → IsPointOf p s z → (prices : ArePricesOf p s y) → IsNonsingular p.matrix (basics_of s) → (before after : List Basics) →
+pub slack_stops : (p : LinearProgram) (s : List Status) (z y : Vector) → IsPointOf p s z → (prices : ArePricesOf p s y) → IsNonsingular p.matrix (basics_of s) →
+    (before after : List Basics) →
     (stop : Stop) → IfOverflow stop (SomeSlackRefused p z) → IfOverflow stop (SolutionRefused p before s after)
-slack_stops p s z y point prices nonsingular before after stop h = IfOverflow-map stop (λ e x. of_slack p s z prices.rate point prices.are_rates nonsingular before after e x) h
+slack_stops p s z y point prices nonsingular before after stop h =
+    IfOverflow-map stop (λ e x. of_slack p s z prices.rate point prices.are_rates nonsingular before after e x) h

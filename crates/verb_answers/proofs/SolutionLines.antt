@@ -37,7 +37,8 @@ module _ (p : LinearProgram) (s : List Status) where
 
 -- ---- the lines of a basis
 
-module _ (problem : Problem ℕ) (p : LinearProgram) (s : List Status) (point prices slack : List ℚ) (is_point : IsPointOf p s (value_at point)) (are_prices : ArePricesOf p s (value_at prices))
+module _ (problem : Problem ℕ) (p : LinearProgram) (s : List Status) (point prices slack : List ℚ) (is_point : IsPointOf p s (value_at point))
+    (are_prices : ArePricesOf p s (value_at prices))
     (are_slacks : (i : ℕ) → IsRow p.matrix i → value_at slack i ≡ slack_at p (value_at point) i) where
   abbrev sheet : Sheet
   sheet = record { problem = problem; lp = p }
@@ -57,13 +58,17 @@ module _ (problem : Problem ℕ) (p : LinearProgram) (s : List Status) (point pr
   column_same k is =
       let at = by_status p s (value_at point) k (status_of s k) refl in
       let price = are_prices.prices k is in
-      λ i. Code (at i) ∷ Number (value_at point k) ∷ Number (cost p (k - p.rows)) ∷ limit_value (lower_of p k) ∷ limit_value (upper_of p k) ∷ Number (price i) ∷ []
+      λ i. Code (at i) ∷ Number (value_at point k) ∷ Number (cost p (k - p.rows)) ∷ limit_value (lower_of p k) ∷ limit_value (upper_of p k) ∷ Number
+      (price i) ∷ []
 
   lines_same : printed.solution_lines problem p s point prices slack ≡ solution_lines sheet s tableau
   lines_same =
-      let rows = map_same (printed.line_of problem (printed.row_values p s point slack prices)) (printed.line_of problem (solution_row sheet s tableau)) p.rows 1
+      let rows =
+      map_same (printed.line_of problem (printed.row_values p s point slack prices)) (printed.line_of problem (solution_row sheet s tableau)) p.rows 1
       (λ k low high. ap (λ (vs : List Value). printed.line_of problem (λ _. vs) k) (row_same k (low, omega (arith, high)))) in
-      let columns = map_same (printed.line_of problem (printed.column_values p s point prices)) (printed.line_of problem (solution_column sheet s tableau)) p.cols (p.rows + 1)
+      let columns =
+      map_same (printed.line_of problem (printed.column_values p s point prices)) (printed.line_of problem (solution_column sheet s tableau)) p.cols
+      (p.rows + 1)
       (λ k low high. ap (λ (vs : List Value). printed.line_of problem (λ _. vs) k) (column_same k (omega (arith, low), omega (arith, high)))) in
       λ i. record { rows = rows i; columns = columns i }
 

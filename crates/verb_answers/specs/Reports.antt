@@ -56,12 +56,14 @@ pub record RuleIsReached (rule : Rule) (sheet : Sheet) (s now : Basis) (limit : 
 -- The path by this rule goes over these bases, of which the last is now. For every list of bases that ends with s, in which the
 -- waypoints lay before the call, the statement may stop with this evidence at now, and at one of the waypoints that are there after the
 -- call.
-pub record RuleOverflowsThere (rule : Rule) (statement : SolvingStatement) (sheet : Sheet) (s now : Basis) (limit : Option ℕ) (before after : List Basics) (e : Evidence) : Type 0 where
+pub record RuleOverflowsThere (rule : Rule) (statement : SolvingStatement) (sheet : Sheet) (s now : Basis) (limit : Option ℕ) (before after : List Basics)
+    (e : Evidence) : Type 0 where
   pub bases : List Basis
   pub goes : RulePath rule sheet.lp.now s bases × (last_of s bases ≡ now)
   pub is_way : e.way ≤ length after
   pub overflows : (earlier : List Basis) → LieIn sheet.lp.now.matrix before (earlier ++ s ∷ []) →
-      RuleOverflowsOnPath rule statement (sheet_view sheet) (earlier ++ s ∷ []) limit e (Some (record { basis = now; way = waypoint (basics_of now) after e.way }))
+      RuleOverflowsOnPath rule statement (sheet_view sheet) (earlier ++ s ∷ []) limit e
+      (Some (record { basis = now; way = waypoint (basics_of now) after e.way }))
 
 -- ---- the simplex path
 

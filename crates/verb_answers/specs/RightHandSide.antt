@@ -25,4 +25,5 @@ module _ (sheet : Sheet) (run : ParaRhs) (s now : Basis) (before after : List Ba
   RhsRunStops stop =
       (name : Name) → shifts_of sheet.problem.now name ≡ run.shift.items →
       ParametricRunStops sheet (parametric_run_of name run) s now before after
-      (λ e. RunOverflowsThere sheet (parametric_run_of name run) s now before after e ⊎ LimitOverflows sheet (parametric_run_of name run) s now before after e) stop
+      (λ e. RunOverflowsThere sheet (parametric_run_of name run) s now before after e ⊎ LimitOverflows sheet
+      (parametric_run_of name run) s now before after e) stop

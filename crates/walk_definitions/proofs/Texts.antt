@@ -46,7 +46,8 @@ left_after_both a b rest = same_options (left_after (a ++ b) rest) (option_and_t
         let whole : rest ≡ a ++ (b ++ after) = is_text (a ++ b) rest after e ∙ append_assoc a b after in
         ap (λ r. option_and_then (left_after b) (left_after a r)) whole ∙ ap (option_and_then (left_after b)) (stands a (b ++ after)) ∙ stands b after
 
-    back_by : (after : List ℕ) (o : Option (List ℕ)) → left_after a rest ≡ o → option_and_then (left_after b) o ≡ Some after → left_after (a ++ b) rest ≡ Some after
+    back_by : (after : List ℕ) (o : Option (List ℕ)) → left_after a rest ≡ o → option_and_then (left_after b) o ≡ Some after →
+        left_after (a ++ b) rest ≡ Some after
     back_by after None first e = absurd (cc e)
     back_by after (Some left) first e =
         let whole : rest ≡ (a ++ b) ++ after = is_text a rest left first ∙ ap (λ l. a ++ l) (is_text b left after e) ∙ sym (append_assoc a b after) in
@@ -63,7 +64,8 @@ free_length p (x ∷ a) free =
     let parts = and_parts (not (p x)) (list_all (λ x. not (p x)) a) free in
     ap (λ b. cond b (1 + position_or_len p a) 0) parts.0 ∙ ap (λ n. 1 + n) (free_length p a parts.1) ∙ omega arith
 
-pub cut_length : (p : ℕ → Bool) (a : List ℕ) (c : ℕ) (rest : List ℕ) → list_all (λ x. not (p x)) a ≡ true → p c ≡ true → position_or_len p (a ++ c ∷ rest) ≡ length a
+pub cut_length : (p : ℕ → Bool) (a : List ℕ) (c : ℕ) (rest : List ℕ) → list_all (λ x. not (p x)) a ≡ true → p c ≡ true →
+    position_or_len p (a ++ c ∷ rest) ≡ length a
 cut_length p [] c rest free is = ap (λ b. cond (not b) (1 + position_or_len p rest) 0) is
 cut_length p (x ∷ a) c rest free is =
     let parts = and_parts (not (p x)) (list_all (λ x. not (p x)) a) free in
@@ -93,6 +95,7 @@ pub left_by_both : (ps qs : List Piece) (rest : List ℕ) → left_by (ps ++ qs)
 left_by_both [] qs rest = refl
 left_by_both (p ∷ ps) qs rest = by (left_by_piece p rest) (λ left. left_by_both ps qs left)
   where
-    by : (o : Option (List ℕ)) → ((left : List ℕ) → left_by (ps ++ qs) left ≡ option_and_then (left_by qs) (left_by ps left)) → option_and_then (left_by (ps ++ qs)) o ≡ option_and_then (left_by qs) (option_and_then (left_by ps) o)
+    by : (o : Option (List ℕ)) → ((left : List ℕ) → left_by (ps ++ qs) left ≡ option_and_then (left_by qs) (left_by ps left)) →
+        option_and_then (left_by (ps ++ qs)) o ≡ option_and_then (left_by qs) (option_and_then (left_by ps) o)
     by None later = refl
     by (Some left) later = later left

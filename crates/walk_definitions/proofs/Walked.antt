@@ -121,7 +121,8 @@ ends = refl
 -- where the verdict is printed with an operation that was too much for the run, the checker of any length goes on past SOLUTION
 doubted : Walker
 doubted = record solved {
-  pending = Some (record { rest = verdict; objective = fraction (pos 0) 1; check = Unchecked (record { op = Mul; left = whole (pos 2); right = whole (pos 3) }) });
+  pending =
+      Some (record { rest = verdict; objective = fraction (pos 0) 1; check = Unchecked (record { op = Mul; left = whole (pos 2); right = whole (pos 3) }) });
 }
 
 either_word : turn checker_of_any_length solving doubted ≡ Walks proved

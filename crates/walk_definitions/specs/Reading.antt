@@ -64,7 +64,9 @@ judged_map f Refuses = Refuses
 abbrev pub with_check : {X : Type 0} → (Check → List ℕ → Option X) → List ℕ → Option X
 with_check reads rest = option_or (with_text (codes "CHECKED\n") (reads reports.Checked) rest)
     (with_text (codes "UNCHECKED ") (with_word (named all_operations) (λ op. with_text (codes " ") (with_word (fraction_in checker_of_128_bits) (λ left.
-    with_text (codes " ") (with_word (fraction_in checker_of_128_bits) (λ right. with_text (codes "\n") (reads (reports.Unchecked (record { op = op; left = left; right = right }))))))))) rest)
+    with_text (codes " ")
+    (with_word (fraction_in checker_of_128_bits)
+    (λ right. with_text (codes "\n") (reads (reports.Unchecked (record { op = op; left = left; right = right }))))))))) rest)
 
 -- a verdict after the name of its verb, with its check
 abbrev pub Claim : Type 0
@@ -81,7 +83,8 @@ row_slots sheet k = AnyCode ∷ AnyNumber ∷ AnyNumber ∷ Known (limit_value (
 
 abbrev pub column_slots : Sheet → ℕ → List Slot
 column_slots sheet k =
-    AnyCode ∷ AnyNumber ∷ Known (Number (cost sheet.lp (k - sheet.lp.rows))) ∷ Known (limit_value (lower_of sheet.lp k)) ∷ Known (limit_value (upper_of sheet.lp k)) ∷ AnyNumber ∷ []
+    AnyCode ∷ AnyNumber ∷ Known (Number (cost sheet.lp (k - sheet.lp.rows))) ∷ Known (limit_value (lower_of sheet.lp k)) ∷ Known
+    (limit_value (upper_of sheet.lp k)) ∷ AnyNumber ∷ []
 
 -- by how the word of a number is read
 module _ (of : List ℕ → Option ℚ) (sheet : Sheet) where
@@ -114,15 +117,18 @@ module _ (of : List ℕ → Option ℚ) (sheet : Sheet) where
   abbrev pub solution_in : Mark → List ℕ → Parsed SolutionLines
   solution_in mark rest =
       option_and_then (λ got. option_map (λ more. (record { rows = got.0; columns = more.0 }, more.1))
-      (with_text (codes "SECTION 2 - COLUMNS\nNUMBER COLUMN AT ACTIVITY COST LOWER UPPER REDUCED\n") (table_in of sheet (column_slots sheet) (column_numbers sheet.lp)) got.1))
-      (with_text (codes "SOLUTION " ++ (mark_text mark ++ codes "\nSECTION 1 - ROWS\nNUMBER ROW AT ACTIVITY SLACK LOWER UPPER DUAL\n")) (table_in of sheet (row_slots sheet) (row_numbers sheet.lp)) rest)
+      (with_text (codes "SECTION 2 - COLUMNS\nNUMBER COLUMN AT ACTIVITY COST LOWER UPPER REDUCED\n")
+      (table_in of sheet (column_slots sheet) (column_numbers sheet.lp)) got.1))
+      (with_text (codes "SOLUTION " ++ (mark_text mark ++ codes "\nSECTION 1 - ROWS\nNUMBER ROW AT ACTIVITY SLACK LOWER UPPER DUAL\n"))
+      (table_in of sheet (row_slots sheet) (row_numbers sheet.lp)) rest)
 
   -- ---- parametric runs
 
   -- the interval of a number, from the last end on
   abbrev pub interval_in : ℕ → ℚ → List ℕ → Parsed ParametricInterval
   interval_in number from =
-      with_text (codes "INTERVAL " ++ (digits number ++ (codes " FROM " ++ (rational_text from ++ codes " TO ")))) (with_word of (λ to. with_text (codes "\n") (λ rest.
+      with_text (codes "INTERVAL " ++ (digits number ++ (codes " FROM " ++ (rational_text from ++ codes " TO "))))
+      (with_word of (λ to. with_text (codes "\n") (λ rest.
       option_map (λ got. (record { from = from; to = to; lines = got.0 }, got.1)) (table_in of sheet part_slots (variables sheet.lp.matrix) rest))))
 
   -- a run of the objective may end unbounded, and one of the right-hand side infeasible
@@ -140,7 +146,8 @@ module _ (of : List ℕ → Option ℚ) (sheet : Sheet) where
 -- what stands before the first interval
 abbrev pub parametric_run_head : ParametricRun → List ℕ
 parametric_run_head parametric_run =
-    solver_text (parametric_solver parametric_run.changing) ++ (codes " FROM " ++ (rational_text parametric_run.from ++ (codes " CHANGE " ++ (changing_name parametric_run.changing ++ codes "\n"))))
+    solver_text (parametric_solver parametric_run.changing) ++
+    (codes " FROM " ++ (rational_text parametric_run.from ++ (codes " CHANGE " ++ (changing_name parametric_run.changing ++ codes "\n"))))
 
 -- the intervals of a run, and how it closes
 abbrev pub Run : Type 0
@@ -159,7 +166,9 @@ module _ (C : Checker) (sheet : Sheet) (parametric_run : ParametricRun) where
       onward go (tested_by C (interval_test C sheet parametric_run.changing (nat_eq number 1) parametric_run.to) (λ of. interval_in of sheet number last) rest)
   part_in go number last rest None =
       if nat_eq number 1 then Fails
-      else judged_map (λ end. ([], end)) (tested_by C (close_test C sheet parametric_run.changing parametric_run.to last) (λ of. close_in of sheet (parametric_solver parametric_run.changing)) rest)
+      else judged_map (λ end. ([], end))
+      (tested_by C (close_test C sheet parametric_run.changing parametric_run.to last)
+      (λ of. close_in of sheet (parametric_solver parametric_run.changing)) rest)
 
   -- the interval of this number is due, from the last end on; each takes a byte of room at least
   abbrev pub run_in : List ℕ → ℕ → ℚ → List ℕ → Judged Run
@@ -169,7 +178,10 @@ module _ (C : Checker) (sheet : Sheet) (parametric_run : ParametricRun) where
   -- an opening that isn't optimal speaks of the linear program at the first value, which is made once the report is read
   abbrev pub opening_in : List ℕ → Judged ParametricRunEnd
   opening_in rest = judged_map (λ claim. Opening [] claim.0 claim.1)
-      (tested_by C (λ claim. in_turn (says C (making_steps sheet parametric_run.changing parametric_run.from) ∷ verdict_test C (sheet_at sheet parametric_run.changing parametric_run.from) claim.0 claim.1 ∷ []))
+      (tested_by C
+      (λ claim. in_turn
+      (says C (making_steps sheet parametric_run.changing parametric_run.from) ∷ verdict_test C
+      (sheet_at sheet parametric_run.changing parametric_run.from) claim.0 claim.1 ∷ []))
       (λ of. verdict_in of sheet (parametric_solver parametric_run.changing)) rest)
 
   abbrev pub parametric_run_in : List ℕ → Option (List ℕ) → Judged ParametricRunEnd

@@ -116,7 +116,8 @@ module _ (C : Checker) (sheet : Sheet) where
   -- at an end of an interval the linear program is made there, the point and the prices are, and these are best
   abbrev pub end_test : Changing → ℚ → List ℚ → List ℚ → List ℚ → List ℚ → Verdict
   end_test changing theta value value_rate price price_rate =
-      in_turn (says C (making_steps sheet changing theta) ∷ says C (along_steps sheet theta value value_rate) ∷ says C (along_steps sheet theta price price_rate) ∷
+      in_turn (says C (making_steps sheet changing theta) ∷ says C (along_steps sheet theta value value_rate) ∷ says C
+      (along_steps sheet theta price price_rate) ∷
       says C (optimal_steps (family_of sheet changing theta) (along theta value value_rate) (along theta price price_rate)) ∷ [])
 
 module _ (C : Checker) (sheet : Sheet) (changing : Changing) where
@@ -129,7 +130,8 @@ module _ (C : Checker) (sheet : Sheet) (changing : Changing) where
 
   abbrev pub interval_test : Bool → ℚ → ParametricInterval → Verdict
   interval_test is_first max interval =
-      part_test interval.from interval.to (column_of 1 interval.lines) (column_of 2 interval.lines) (column_of 3 interval.lines) (column_of 4 interval.lines) is_first max
+      part_test interval.from interval.to (column_of 1 interval.lines) (column_of 2 interval.lines) (column_of 3 interval.lines)
+      (column_of 4 interval.lines) is_first max
 
   -- ---- how a run closes, where its last interval ends at last
 

@@ -79,7 +79,8 @@ is_long C word = elim C.most_digits [
 
 -- a fraction that the arithmetic reads, and that isn't too long
 unfoldable pub fraction_in : Checker → List ℕ → Option ℚ
-fraction_in C word = if is_long C word then None else if C.arithmetic.reads (spelled word) && bytes_eq (rational_text (spelled word)) word then Some (spelled word) else None
+fraction_in C word =
+    if is_long C word then None else if C.arithmetic.reads (spelled word) && bytes_eq (rational_text (spelled word)) word then Some (spelled word) else None
 
 -- A number that is too long may stand wherever a number may. It is taken for 1, since a multiplier isn't 0.
 abbrev pub form_in : Checker → List ℕ → Option ℚ

@@ -42,7 +42,8 @@ printed_verdict Infeasible report state = printed_demanded state.cells.xdonfs 1 
 printed_verdict Unbounded report state = printed_demanded state.cells.xdounb 2 report state
 
 -- what it owes, it owes where the run goes on, and where it ends
-module _ (C : Checker) (Holds : Type 0) (w : Walker) (pending : Option Pending) (report : Report) (state : State) (owes : Owes C (Holds × All (Says C w.state) (report ∷ [])) pending state.setup state.cells) where
+module _ (C : Checker) (Holds : Type 0) (w : Walker) (pending : Option Pending) (report : Report) (state : State)
+    (owes : Owes C (Holds × All (Says C w.state) (report ∷ [])) pending state.setup state.cells) where
   pays_demanded : (position : Option ℕ) (code : ℕ) → Pays C Holds w pending (demanded position code report state)
   pays_demanded (Some position) code = owes
   pays_demanded None code = λ settled. holds_settled C (Holds × All (Says C w.state) (report ∷ [])) pending state.setup state.cells owes settled
@@ -53,7 +54,8 @@ module _ (C : Checker) (Holds : Type 0) (w : Walker) (pending : Option Pending) 
   pays_verdict Unbounded = pays_demanded state.cells.xdounb 2
 
 -- what the cells select of the setup is lawful
-abbrev pub program_of : (setup : Option Present) (cells : Cells) (present : Present) (lp : LinearProgram) → HasProblem setup → setup ≡ Some present → selected present.problem (choice_of cells present.options) ≡ Ok lp →
+abbrev pub program_of : (setup : Option Present) (cells : Cells) (present : Present) (lp : LinearProgram) → HasProblem setup → setup ≡ Some present →
+    selected present.problem (choice_of cells present.options) ≡ Ok lp →
     PresentProgram setup cells
 program_of setup cells present lp lawful is_setup is = record {
   present = present;
@@ -81,22 +83,26 @@ abbrev IsBounded : Solver → PathVerdict → Type 0
 IsBounded ByDual verdict = IsNotUnbounded verdict
 IsBounded solver verdict = Unit {0}
 
-says_verdict : (state : State) (solver : Solver) (verdict : PathVerdict) → IsPathSolver solver → (program : PresentProgram state.setup state.cells) → IsTrueOf (sheet_of program) verdict →
+says_verdict : (state : State) (solver : Solver) (verdict : PathVerdict) → IsPathSolver solver → (program : PresentProgram state.setup state.cells) →
+    IsTrueOf (sheet_of program) verdict →
     IsBounded solver verdict → SaysVerdict state solver verdict
 says_verdict state ByPrimal verdict is program holds bounded = (program, holds)
 says_verdict state ByDual verdict is program holds bounded = (program, holds, bounded)
 says_verdict state ByParaobj verdict is program holds bounded = absurd is
 says_verdict state ByPararhs verdict is program holds bounded = absurd is
 
-bounded_verdict : (C : Checker) → JudgedLaws C → (solver : Solver) (limit : Option ℕ) (sheet : Sheet) (rest after : List ℕ) (bases : List Basis) (verdict : PathVerdict) (check : Check) →
+bounded_verdict : (C : Checker) → JudgedLaws C →
+    (solver : Solver) (limit : Option ℕ) (sheet : Sheet) (rest after : List ℕ) (bases : List Basis) (verdict : PathVerdict) (check : Check) →
     judged C (OfPath solver limit) sheet rest ≡ Right (Reached bases verdict check) after → IsBounded solver verdict
 bounded_verdict C truth ByPrimal limit sheet rest after bases verdict check e = tt
 bounded_verdict C truth ByDual limit sheet rest after bases verdict check e = truth.dual limit sheet rest after bases verdict check e
 bounded_verdict C truth ByParaobj limit sheet rest after bases verdict check e = tt
 bounded_verdict C truth ByPararhs limit sheet rest after bases verdict check e = tt
 
-module _ (C : Checker) (reading : ReadingLaw C) (truth : JudgedLaws C) (Holds : Type 0) (w : Walker) (owed : Owes C Holds w.pending w.state.setup w.state.cells) (lawful : HasProblem w.state.setup) where
-  module _ (solver : Solver) (is_path : IsPathSolver solver) (limit : Option ℕ) (card : ℕ) (present : Present) (lp : LinearProgram) (set : w.state.setup ≡ Some present)
+module _ (C : Checker) (reading : ReadingLaw C) (truth : JudgedLaws C) (Holds : Type 0) (w : Walker) (owed : Owes C Holds w.pending w.state.setup w.state.cells)
+    (lawful : HasProblem w.state.setup) where
+  module _ (solver : Solver) (is_path : IsPathSolver solver) (limit : Option ℕ) (card : ℕ) (present : Present) (lp : LinearProgram)
+      (set : w.state.setup ≡ Some present)
       (is : selected present.problem (choice_of w.state.cells present.options) ≡ Ok lp) where
     abbrev sheet : Sheet
     sheet = record { problem = present.problem; lp = lp }
@@ -110,9 +116,11 @@ module _ (C : Checker) (reading : ReadingLaw C) (truth : JudgedLaws C) (Holds : 
     abbrev move : StatementMove
     move = Asks (OfPath solver limit) sheet (present_basis present) go
 
-    owes_verdict : (rest : List ℕ) (bases : List Basis) (verdict : PathVerdict) (check : Check) → Holds → IsTrueUnlessOptimal sheet verdict → IsBounded solver verdict →
+    owes_verdict : (rest : List ℕ) (bases : List Basis) (verdict : PathVerdict) (check : Check) → Holds → IsTrueUnlessOptimal sheet verdict →
+        IsBounded solver verdict →
         TakesUnlessOptimal C verdict check →
-        Owes C (Holds × All (Says C w.state) (Solved solver verdict check ∷ [])) (pending_after rest verdict check) (Some (gone_through bases present)) w.state.cells
+        Owes C (Holds × All (Says C w.state) (Solved solver verdict check ∷ [])) (pending_after rest verdict check)
+        (Some (gone_through bases present)) w.state.cells
     owes_verdict rest bases (OptimalAt steps objective) check holds proved bounded takes = λ proves word. (
       holds,
       one_says C Holds w (Solved solver (OptimalAt steps objective) check) (
@@ -123,10 +131,16 @@ module _ (C : Checker) (reading : ReadingLaw C) (truth : JudgedLaws C) (Holds : 
     )
     owes_verdict rest bases (CrossedAt k) check holds proved bounded takes =
         (holds, one_says C Holds w (Solved solver (CrossedAt k) check) (says_verdict w.state solver (CrossedAt k) is_path program proved bounded, takes))
-    owes_verdict rest bases (InfeasibleBy steps lines) check holds proved bounded takes =
-        (holds, one_says C Holds w (Solved solver (InfeasibleBy steps lines) check) (says_verdict w.state solver (InfeasibleBy steps lines) is_path program proved bounded, takes))
-    owes_verdict rest bases (UnboundedBy steps objective lines) check holds proved bounded takes =
-        (holds, one_says C Holds w (Solved solver (UnboundedBy steps objective lines) check) (says_verdict w.state solver (UnboundedBy steps objective lines) is_path program proved bounded, takes))
+    owes_verdict rest bases (InfeasibleBy steps lines) check holds proved bounded takes = (
+      holds,
+      one_says C Holds w (Solved solver (InfeasibleBy steps lines) check)
+          (says_verdict w.state solver (InfeasibleBy steps lines) is_path program proved bounded, takes),
+    )
+    owes_verdict rest bases (UnboundedBy steps objective lines) check holds proved bounded takes = (
+      holds,
+      one_says C Holds w (Solved solver (UnboundedBy steps objective lines) check)
+          (says_verdict w.state solver (UnboundedBy steps objective lines) is_path program proved bounded, takes),
+    )
 
     path_comes : (answer : PathEnd) (rest : List ℕ) → judged C (OfPath solver limit) sheet w.rest ≡ Right answer rest → Holds →
         ComesTo C Holds w card move (follows (record (passed rest 1 w) { pending = noted w (OfPath solver limit) sheet answer }) (go answer))
@@ -136,10 +150,14 @@ module _ (C : Checker) (reading : ReadingLaw C) (truth : JudgedLaws C) (Holds : 
         (reads C Holds w reading card (OfPath solver limit) sheet (present_basis present) go (Reached bases verdict check) rest (w.rest, rest, e) e
         (printed_verdict (mark_of verdict) (Solved solver verdict check) after) refl
         (pays_verdict C Holds w (pending_after w.rest verdict check) (Solved solver verdict check) after
-        (owes_verdict w.rest bases verdict check holds (truth.verdict solver limit sheet w.rest rest bases verdict check program.is_linear_program (selected_without_change present.problem (choice_of w.state.cells present.options) lp is) e)
-        (bounded_verdict C truth solver limit sheet w.rest rest bases verdict check e) (path_word C solver limit sheet w.rest rest bases verdict check e)) (mark_of verdict)))
+        (owes_verdict w.rest bases verdict check holds
+        (truth.verdict solver limit sheet w.rest rest bases verdict check program.is_linear_program
+        (selected_without_change present.problem (choice_of w.state.cells present.options) lp is) e)
+        (bounded_verdict C truth solver limit sheet w.rest rest bases verdict check e) (path_word C solver limit sheet w.rest rest bases verdict check e))
+        (mark_of verdict)))
     path_comes PathLimit rest e holds = absurd (never_made (λ (claim : readings.Claim). Reached [] claim.0 claim.1) PathLimit (λ claim same. cc same) _ rest e)
-    path_comes (PricesWrong j) rest e holds = absurd (never_made (λ (claim : readings.Claim). Reached [] claim.0 claim.1) (PricesWrong j) (λ claim same. cc same) _ rest e)
+    path_comes (PricesWrong j) rest e holds =
+        absurd (never_made (λ (claim : readings.Claim). Reached [] claim.0 claim.1) (PricesWrong j) (λ claim same. cc same) _ rest e)
 
     pub path_followed : IsFollowed C Holds w card (asks (OfPath solver limit) sheet present go)
     path_followed = may_stop C Holds w card (InAnswer (OfPath solver limit) sheet (path_of present)) move (record {
@@ -150,7 +168,8 @@ module _ (C : Checker) (reading : ReadingLaw C) (truth : JudgedLaws C) (Holds : 
           (holds_settled C Holds w.pending w.state.setup w.state.cells owed (nothing_pending w.pending (none_either (open_stop w) (open_pending w) none).1)));
     })
       where
-        by : (j : Judged PathEnd) → judged C (OfPath solver limit) sheet w.rest ≡ j → Holds → ComesTo C Holds w card move (answered C w (OfPath solver limit) sheet go j)
+        by : (j : Judged PathEnd) → judged C (OfPath solver limit) sheet w.rest ≡ j → Holds →
+            ComesTo C Holds w card move (answered C w (OfPath solver limit) sheet go j)
         by (Right answer rest) e holds = path_comes answer rest e holds
         by Fails e holds = tt
         by Refuses e holds = tt

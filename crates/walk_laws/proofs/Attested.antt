@@ -13,7 +13,8 @@ use Rattle.walk_laws.proofs.Turns.{On, on_closes}
 use Rattle.walk_laws.proofs.Whole.{walk_proved}
 
 -- a listing that has an end alone
-end_alone : (lines : List ℕ) (ending : Ending) (count : ℕ) → closes (first_walker [] lines) ending ≡ Finds (Attested count) → (lines ≡ ending_text ending) × (count ≡ 0)
+end_alone : (lines : List ℕ) (ending : Ending) (count : ℕ) → closes (first_walker [] lines) ending ≡ Finds (Attested count) →
+    (lines ≡ ending_text ending) × (count ≡ 0)
 end_alone lines ending count e =
     let Ended : ℕ → Type 0 = λ n. (lines ≡ ending_text ending) × (n ≡ 0) in
     subst (On (λ v. Unit {0}) Ended) e (on_closes (λ v. Unit {0}) Ended (first_walker [] lines) ending (λ settled text. (text, refl)))

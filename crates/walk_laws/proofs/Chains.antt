@@ -57,7 +57,8 @@ module _ (family : ℚ → LinearProgram) (max : ℚ) where
   }
 
   -- the interval at the front has a value, or else one of those after it has
-  covered_by : (part : Part) (parts : List Part) (end : PastBreakpoint) → IsTrueRest part.to parts end → (theta : ℚ) → part.from ≤ℚ theta → theta ≤ℚ last_end part.to parts → IsCovered (part ∷ parts) theta
+  covered_by : (part : Part) (parts : List Part) (end : PastBreakpoint) → IsTrueRest part.to parts end → (theta : ℚ) → part.from ≤ℚ theta →
+      theta ≤ℚ last_end part.to parts → IsCovered (part ∷ parts) theta
   covered_by part parts end rest theta above below = by (lt_or_le part.to theta)
     where
       by : (part.to <ℚ theta) ⊎ (theta ≤ℚ part.to) → IsCovered (part ∷ parts) theta
@@ -66,7 +67,8 @@ module _ (family : ℚ → LinearProgram) (max : ℚ) where
           record { part = found.part; among = later_among part found.part parts found.among; after = found.after; before = found.before }
       by (inr within) = record { part = part; among = first_among part parts; after = above; before = within }
 
-  one_more : (last : ℚ) (part : Part) (parts : List Part) (end : PastBreakpoint) → part.from ≡ last → IsTruePart family max part → part.from <ℚ part.to → IsTrueRest part.to parts end
+  one_more : (last : ℚ) (part : Part) (parts : List Part) (end : PastBreakpoint) → part.from ≡ last → IsTruePart family max part → part.from <ℚ part.to
+      → IsTrueRest part.to parts end
       → IsTrueRest last (part ∷ parts) end
   one_more last part parts end begins is_true long rest = record {
     intervals = All-cons (IsTruePart family max) part parts is_true rest.intervals;
@@ -95,12 +97,15 @@ anything : {X : Type 0} (o : Option X) → IfSome o (λ x. Unit {0})
 anything None = tt
 anything (Some x) = tt
 
-begins_at : (of : List ℕ → Option ℚ) (sheet : Sheet) (number : ℕ) (last : ℚ) (rest after : List ℕ) (interval : ParametricInterval) → interval_in of sheet number last rest ≡ Some (interval, after) → interval.from ≡ last
+begins_at : (of : List ℕ → Option ℚ) (sheet : Sheet) (number : ℕ) (last : ℚ) (rest after : List ℕ) (interval : ParametricInterval) →
+    interval_in of sheet number last rest ≡ Some (interval, after) → interval.from ≡ last
 begins_at of sheet number last rest after interval e =
     at_some Begins (interval_in of sheet number last rest) (interval, after) e
     (after_text Begins (codes "INTERVAL " ++ (digits number ++ (codes " FROM " ++ (rational_text last ++ codes " TO ")))) _ rest (λ on.
     after_word Begins of _ on (λ to known on.
-    after_text Begins (codes "\n") (λ rest. option_map (λ got. (record { from = last; to = to; lines = got.0 }, got.1)) (table_in of sheet part_slots (variables sheet.lp.matrix) rest)) on (λ on.
+    after_text Begins (codes "\n")
+    (λ rest. option_map (λ got. (record { from = last; to = to; lines = got.0 }, got.1)) (table_in of sheet part_slots (variables sheet.lp.matrix) rest)) on
+    (λ on.
     mapped Begins (λ (got : List Line × List ℕ). Unit {0}) (λ got. (record { from = last; to = to; lines = got.0 }, got.1))
     (table_in of sheet part_slots (variables sheet.lp.matrix) on) (anything (table_in of sheet part_slots (variables sheet.lp.matrix) on)) (λ got h. refl)))))
   where
@@ -117,7 +122,8 @@ module _ (sheet : Sheet) (parametric_run : ParametricRun) where
     pub goes : go interval.to left ≡ Right more after
     pub is_run : (interval ∷ more.0, more.1) ≡ run
 
-  goes_on : (go : ℚ → List ℕ → Judged Run) (judged : Judged ParametricInterval) (run : Run) (after : List ℕ) → onward go judged ≡ Right run after → GoesOn go judged run after
+  goes_on : (go : ℚ → List ℕ → Judged Run) (judged : Judged ParametricInterval) (run : Run) (after : List ℕ) → onward go judged ≡ Right run after →
+      GoesOn go judged run after
   goes_on go (Right interval left) run after e =
       let join : Run → Run = λ more. (interval ∷ more.0, more.1) in
       let made = right_is_made join (go interval.to left) run after e in
@@ -125,7 +131,8 @@ module _ (sheet : Sheet) (parametric_run : ParametricRun) where
   goes_on go Fails run after e = cc
   goes_on go Refuses run after e = cc
 
-module _ (C : Checker) (between : BetweenLaws) (past : PastLaws) (sheet : Sheet) (parametric_run : ParametricRun) (lawful : IsLinearProgram sheet.lp) (may : ChangesFreely sheet parametric_run.changing) where
+module _ (C : Checker) (between : BetweenLaws) (past : PastLaws) (sheet : Sheet) (parametric_run : ParametricRun) (lawful : IsLinearProgram sheet.lp)
+    (may : ChangesFreely sheet parametric_run.changing) where
   abbrev family : ℚ → LinearProgram
   family = family_of sheet parametric_run.changing
 
@@ -144,7 +151,8 @@ module _ (C : Checker) (between : BetweenLaws) (past : PastLaws) (sheet : Sheet)
     pub is_true : IsTrueInterval family is_first parametric_run.to (part_of interval)
 
   opens : (go : ℚ → List ℕ → Judged Run) (number : ℕ) (last : ℚ) (rest after : List ℕ) (run : Run)
-      → onward go (tested_by C (interval_test C sheet parametric_run.changing (nat_eq number 1) parametric_run.to) (λ of. interval_in of sheet number last) rest) ≡ Right run after → Opens go (nat_eq number 1) last run after
+      → onward go (tested_by C (interval_test C sheet parametric_run.changing (nat_eq number 1) parametric_run.to)
+      (λ of. interval_in of sheet number last) rest) ≡ Right run after → Opens go (nat_eq number 1) last run after
   opens go number last rest after run e =
       let test : ParametricInterval → Verdict = interval_test C sheet parametric_run.changing (nat_eq number 1) parametric_run.to in
       let found = goes_on sheet parametric_run go (tested_by C test (λ of. interval_in of sheet number last) rest) run after e in
@@ -161,17 +169,23 @@ module _ (C : Checker) (between : BetweenLaws) (past : PastLaws) (sheet : Sheet)
 
   -- where no interval stands the run closes
   closed : (last : ℚ) (rest after : List ℕ) (run : Run)
-      → judged_map (λ (end : ChainEnd). ([], end)) (tested_by C (close_test C sheet parametric_run.changing parametric_run.to last) (λ of. close_in of sheet (parametric_solver parametric_run.changing)) rest) ≡ Right run after → RestIsTrue last run
+      → judged_map (λ (end : ChainEnd). ([], end))
+      (tested_by C (close_test C sheet parametric_run.changing parametric_run.to last)
+      (λ of. close_in of sheet (parametric_solver parametric_run.changing)) rest) ≡ Right run after → RestIsTrue last run
   closed last rest after run e =
       let test : ChainEnd → Verdict = close_test C sheet parametric_run.changing parametric_run.to last in
       let none : ChainEnd → Run = λ end. ([], end) in
       let made = right_is_made none (tested_by C test (λ of. close_in of sheet (parametric_solver parametric_run.changing)) rest) run after e in
       let right = right_is_passed C test (λ of. close_in of sheet (parametric_solver parametric_run.changing)) rest made.made_of after made.is_right in
-      subst (RestIsTrue last) made.is_made (no_more family parametric_run.to last (past_of sheet made.made_of) (close_is_true C sheet past parametric_run.changing parametric_run.to last made.made_of lawful right.passes))
+      subst (RestIsTrue last) made.is_made
+      (no_more family parametric_run.to last (past_of sheet made.made_of)
+      (close_is_true C sheet past parametric_run.changing parametric_run.to last made.made_of lawful right.passes))
 
   -- it doesn't close before its first interval
   closed_late : (b : Bool) (last : ℚ) (rest after : List ℕ) (run : Run)
-      → (if b then Fails else judged_map (λ (end : ChainEnd). ([], end)) (tested_by C (close_test C sheet parametric_run.changing parametric_run.to last) (λ of. close_in of sheet (parametric_solver parametric_run.changing)) rest)) ≡ Right run after
+      → (if b then Fails else judged_map (λ (end : ChainEnd). ([], end))
+      (tested_by C (close_test C sheet parametric_run.changing parametric_run.to last)
+      (λ of. close_in of sheet (parametric_solver parametric_run.changing)) rest)) ≡ Right run after
       → RestIsTrue last run
   closed_late true last rest after run e = absurd (fails_is_not_right run after e)
   closed_late false last rest after run e = closed last rest after run e
@@ -184,7 +198,8 @@ module _ (C : Checker) (between : BetweenLaws) (past : PastLaws) (sheet : Sheet)
   long_past number part high (inl long) = long
   long_past number part high (inr first) = let one : nat_eq number 1 ≡ true = first.0 in absurd (grind (arith, nat_tests))
 
-  opened_late : (go : ℚ → List ℕ → Judged Run) (number : ℕ) (last : ℚ) (run : Run) (after : List ℕ) → 1 < number → LaterIsTrue go → Opens go (nat_eq number 1) last run after → RestIsTrue last run
+  opened_late : (go : ℚ → List ℕ → Judged Run) (number : ℕ) (last : ℚ) (run : Run) (after : List ℕ) → 1 < number → LaterIsTrue go →
+      Opens go (nat_eq number 1) last run after → RestIsTrue last run
   opened_late go number last run after high later h =
       subst (RestIsTrue last) h.is_run
       (one_more family parametric_run.to last (part_of h.interval) (map part_of h.more.0) (past_of sheet h.more.1) h.begins h.is_true.is_true
@@ -196,7 +211,8 @@ module _ (C : Checker) (between : BetweenLaws) (past : PastLaws) (sheet : Sheet)
   next go number last rest after run high later None e = closed_late (nat_eq number 1) last rest after run e
   next go number last rest after run high later (Some on) e = opened_late go number last run after high later (opens go number last rest after run e)
 
-  rest_is_true : (room : List ℕ) (number : ℕ) (last : ℚ) (rest after : List ℕ) (run : Run) → 1 < number → run_in C sheet parametric_run room number last rest ≡ Right run after → RestIsTrue last run
+  rest_is_true : (room : List ℕ) (number : ℕ) (last : ℚ) (rest after : List ℕ) (run : Run) → 1 < number →
+      run_in C sheet parametric_run room number last rest ≡ Right run after → RestIsTrue last run
   rest_is_true [] number last rest after run high e = absurd (fails_is_not_right run after e)
   rest_is_true (byte ∷ room) number last rest after run high e =
       next (run_in C sheet parametric_run room (number + 1)) number last rest after run high
@@ -206,45 +222,57 @@ module _ (C : Checker) (between : BetweenLaws) (past : PastLaws) (sheet : Sheet)
   RunIsTrue run = IsTrueRun family parametric_run.from parametric_run.to (map part_of run.0) (past_of sheet run.1)
 
   -- the first interval, which may be a point
-  first : (room : List ℕ) (rest after : List ℕ) (run : Run) (o : Option (List ℕ)) → part_in C sheet parametric_run (run_in C sheet parametric_run room (1 + 1)) 1 parametric_run.from rest o ≡ Right run after → RunIsTrue run
+  first : (room : List ℕ) (rest after : List ℕ) (run : Run) (o : Option (List ℕ)) →
+      part_in C sheet parametric_run (run_in C sheet parametric_run room (1 + 1)) 1 parametric_run.from rest o ≡ Right run after → RunIsTrue run
   first room rest after run None e = absurd (fails_is_not_right run after e)
   first room rest after run (Some on) e =
       let h = opens (run_in C sheet parametric_run room (1 + 1)) 1 parametric_run.from rest after run e in
       let more = rest_is_true room (1 + 1) h.interval.to h.left after h.more (omega arith) h.goes in
-      subst RunIsTrue h.is_run (whole_run family parametric_run.to parametric_run.from (part_of h.interval) (map part_of h.more.0) (past_of sheet h.more.1) h.begins h.is_true.is_true more)
+      subst RunIsTrue h.is_run
+      (whole_run family parametric_run.to parametric_run.from (part_of h.interval) (map part_of h.more.0)
+      (past_of sheet h.more.1) h.begins h.is_true.is_true more)
 
-  run_is_true : (room : List ℕ) (rest after : List ℕ) (run : Run) → run_in C sheet parametric_run room 1 parametric_run.from rest ≡ Right run after → RunIsTrue run
+  run_is_true : (room : List ℕ) (rest after : List ℕ) (run : Run) → run_in C sheet parametric_run room 1 parametric_run.from rest ≡ Right run after →
+      RunIsTrue run
   run_is_true [] rest after run e = absurd (fails_is_not_right run after e)
   run_is_true (byte ∷ room) rest after run e = first room rest after run (left_after (codes "INTERVAL ") rest) e
 
   -- ---- the answer to the question for a parametric run
 
   -- an opening that is read is no run of intervals
-  no_opening : (rest after : List ℕ) (bases : List Basis) (intervals : List ParametricInterval) (end : ChainEnd) → opening_in C sheet parametric_run rest ≡ Right (Chained bases intervals end) after → ⊥
+  no_opening : (rest after : List ℕ) (bases : List Basis) (intervals : List ParametricInterval) (end : ChainEnd) →
+      opening_in C sheet parametric_run rest ≡ Right (Chained bases intervals end) after → ⊥
   no_opening rest after bases intervals end e =
-      let made = right_is_made (opening_of C sheet parametric_run) (tested_by C (claim_steps C sheet parametric_run) (λ of. verdict_in of sheet (parametric_solver parametric_run.changing)) rest) (Chained bases intervals end) after e in
+      let made =
+      right_is_made (opening_of C sheet parametric_run)
+      (tested_by C (claim_steps C sheet parametric_run) (λ of. verdict_in of sheet (parametric_solver parametric_run.changing)) rest)
+      (Chained bases intervals end) after e in
       let two : Opening [] made.made_of.0 made.made_of.1 ≡ Chained bases intervals end = made.is_made in
       cc two
 
   abbrev chained_of : Run → ParametricRunEnd
   chained_of run = Chained [] run.0 run.1
 
-  same_run : (bases : List Basis) (intervals : List ParametricInterval) (end : ChainEnd) (run : Run) → chained_of run ≡ Chained bases intervals end → run ≡ (intervals, end)
+  same_run : (bases : List Basis) (intervals : List ParametricInterval) (end : ChainEnd) (run : Run) → chained_of run ≡ Chained bases intervals end →
+      run ≡ (intervals, end)
   same_run bases intervals end run e =
       let same : run.0 ≡ intervals = cc in
       let closes : run.1 ≡ end = cc in
       λ i. (same i, closes i)
 
-  chained_is_true : (on after : List ℕ) (bases : List Basis) (intervals : List ParametricInterval) (end : ChainEnd) → judged_map chained_of (run_in C sheet parametric_run on 1 parametric_run.from on) ≡ Right (Chained bases intervals end) after
+  chained_is_true : (on after : List ℕ) (bases : List Basis) (intervals : List ParametricInterval) (end : ChainEnd)
+      → judged_map chained_of (run_in C sheet parametric_run on 1 parametric_run.from on) ≡ Right (Chained bases intervals end) after
       → RunIsTrue (intervals, end)
   chained_is_true on after bases intervals end e =
       let made = right_is_made chained_of (run_in C sheet parametric_run on 1 parametric_run.from on) (Chained bases intervals end) after e in
       subst RunIsTrue (same_run bases intervals end made.made_of made.is_made) (run_is_true on on after made.made_of made.is_right)
 
-  run_through : (rest after : List ℕ) (bases : List Basis) (intervals : List ParametricInterval) (end : ChainEnd) (left : Option (List ℕ)) → parametric_run_in C sheet parametric_run rest left ≡ Right (Chained bases intervals end) after → RunIsTrue (intervals, end)
+  run_through : (rest after : List ℕ) (bases : List Basis) (intervals : List ParametricInterval) (end : ChainEnd) (left : Option (List ℕ)) →
+      parametric_run_in C sheet parametric_run rest left ≡ Right (Chained bases intervals end) after → RunIsTrue (intervals, end)
   run_through rest after bases intervals end None e = absurd (no_opening rest after bases intervals end e)
   run_through rest after bases intervals end (Some on) e = chained_is_true on after bases intervals end e
 
-  pub chain_is_true : (rest after : List ℕ) (bases : List Basis) (intervals : List ParametricInterval) (end : ChainEnd) → judged C (OfParametricRun parametric_run) sheet rest ≡ Right (Chained bases intervals end) after →
+  pub chain_is_true : (rest after : List ℕ) (bases : List Basis) (intervals : List ParametricInterval) (end : ChainEnd) →
+      judged C (OfParametricRun parametric_run) sheet rest ≡ Right (Chained bases intervals end) after →
       IsTrueRun family parametric_run.from parametric_run.to (map part_of intervals) (past_of sheet end)
   chain_is_true rest after bases intervals end e = run_through rest after bases intervals end (left_after (parametric_run_head parametric_run) rest) e

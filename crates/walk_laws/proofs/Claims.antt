@@ -50,14 +50,17 @@ module _ (of : List ℕ → Option ℚ) (solver : Solver) (sheet : Sheet) where
   crossed_formed : (rest : List ℕ) → IfSome (crossed_in sheet rest) Formed
   crossed_formed rest =
       after_text Formed (codes "INFEASIBLE STEPS 0 CROSSED ") _ rest (λ on. after_word Formed (count_in (size sheet.lp.matrix)) _ on (λ k known on.
-      after_text Formed (codes " ") _ on (λ on. after_check Formed (λ check rest. if nat_eq k 0 then None else Some ((CrossedAt k, check), rest)) on (λ check on.
-      if_none_else Formed (nat_eq k 0) (Some ((CrossedAt k, check), on)) (λ apart. (grind (arith, nat_tests), count_within (size sheet.lp.matrix) _ k known))))))
+      after_text Formed (codes " ") _ on
+      (λ on. after_check Formed (λ check rest. if nat_eq k 0 then None else Some ((CrossedAt k, check), rest)) on (λ check on.
+      if_none_else Formed (nat_eq k 0) (Some ((CrossedAt k, check), on))
+      (λ apart. (grind (arith, nat_tests), count_within (size sheet.lp.matrix) _ k known))))))
 
   infeasible_formed : (rest : List ℕ) → IfSome (infeasible_in of sheet rest) Formed
   infeasible_formed rest =
       after_text Formed (codes "INFEASIBLE STEPS ") _ rest (λ on. after_word Formed (count_in max_count) _ on (λ steps known on.
       after_text Formed (codes " RAY ") _ on (λ on.
-      after_check Formed (λ check rest. option_map (λ got. ((InfeasibleBy steps got.0, check), got.1)) (ray_in of sheet (variables sheet.lp.matrix) rest)) on (λ check on.
+      after_check Formed (λ check rest. option_map (λ got. ((InfeasibleBy steps got.0, check), got.1)) (ray_in of sheet (variables sheet.lp.matrix) rest)) on
+      (λ check on.
       mapped Formed (λ (got : List Line × List ℕ). got.0 ≡ ray_lines sheet (multipliers sheet got.0)) (λ got. ((InfeasibleBy steps got.0, check), got.1))
       (ray_in of sheet (variables sheet.lp.matrix) on) (ray_lines_are of sheet on) (λ got is. is)))))
 
@@ -66,8 +69,11 @@ module _ (of : List ℕ → Option ℚ) (solver : Solver) (sheet : Sheet) where
       after_text Formed (codes "UNBOUNDED STEPS ") _ rest (λ on. after_word Formed (count_in max_count) _ on (λ steps known on.
       after_text Formed (codes " OBJECTIVE ") _ on (λ on. after_word Formed of _ on (λ objective known on.
       after_text Formed (codes " ") _ on (λ on.
-      after_check Formed (λ check rest. option_map (λ got. ((UnboundedBy steps objective got.0, check), got.1)) (table_in of sheet pair_slots (variables sheet.lp.matrix) rest)) on (λ check on.
-      mapped Formed (λ (got : List Line × List ℕ). got.0 ≡ pair_lines sheet (column_of 0 got.0) (column_of 1 got.0)) (λ got. ((UnboundedBy steps objective got.0, check), got.1))
+      after_check Formed
+      (λ check rest. option_map (λ got. ((UnboundedBy steps objective got.0, check), got.1))
+      (table_in of sheet pair_slots (variables sheet.lp.matrix) rest)) on (λ check on.
+      mapped Formed (λ (got : List Line × List ℕ). got.0 ≡ pair_lines sheet (column_of 0 got.0) (column_of 1 got.0))
+      (λ got. ((UnboundedBy steps objective got.0, check), got.1))
       (table_in of sheet pair_slots (variables sheet.lp.matrix) on) (pair_lines_are of sheet on) (λ got is. (may, is))))))))
 
   late_formed : (rest : List ℕ) → MayBeUnbounded solver → IfSome (option_or (infeasible_in of sheet rest) (unbounded_in of sheet rest)) Formed
@@ -81,11 +87,14 @@ module _ (of : List ℕ → Option ℚ) (sheet : Sheet) where
   claim_formed Dual rest =
       one_or_other (Formed of Dual sheet) (optimal_in of sheet rest) _ (optimal_formed of Dual sheet rest tt)
       (one_or_other (Formed of Dual sheet) (crossed_in sheet rest) _ (crossed_formed of Dual sheet rest) (infeasible_formed of Dual sheet rest))
-  claim_formed Paraobj rest = one_or_other (Formed of Paraobj sheet) (crossed_in sheet rest) _ (crossed_formed of Paraobj sheet rest) (late_formed of Paraobj sheet rest tt)
-  claim_formed Pararhs rest = one_or_other (Formed of Pararhs sheet) (crossed_in sheet rest) _ (crossed_formed of Pararhs sheet rest) (late_formed of Pararhs sheet rest tt)
+  claim_formed Paraobj rest =
+      one_or_other (Formed of Paraobj sheet) (crossed_in sheet rest) _ (crossed_formed of Paraobj sheet rest) (late_formed of Paraobj sheet rest tt)
+  claim_formed Pararhs rest =
+      one_or_other (Formed of Pararhs sheet) (crossed_in sheet rest) _ (crossed_formed of Pararhs sheet rest) (late_formed of Pararhs sheet rest tt)
 
   -- a verdict that is read is formed so
-  pub verdict_formed : (solver : Solver) (rest after : List ℕ) (claim : Claim) → verdict_in of sheet solver rest ≡ Some (claim, after) → IsFormed solver sheet claim.0
+  pub verdict_formed : (solver : Solver) (rest after : List ℕ) (claim : Claim) → verdict_in of sheet solver rest ≡ Some (claim, after) →
+      IsFormed solver sheet claim.0
   verdict_formed solver rest after claim e =
       at_some (Formed of solver sheet) (verdict_in of sheet solver rest) (claim, after) e
       (after_text (Formed of solver sheet) (solver_text solver ++ codes " ") (claim_in of sheet solver) rest (claim_formed solver))

@@ -64,26 +64,32 @@ module _ (C : Checker) (sheet : Sheet) where
         improves = lt_from_test _ _ (asked_holds _ each.1.1.1.1.1.0);
       }
 
-  closes_infeasible : (name : Name) (t : ℚ) (w : Vector) → IsLinearProgram sheet.lp → infeasible_past C sheet (Set name) (shifts_of sheet.problem name) t w ≡ Checked
+  closes_infeasible : (name : Name) (t : ℚ) (w : Vector) → IsLinearProgram sheet.lp
+      → infeasible_past C sheet (Set name) (shifts_of sheet.problem name) t w ≡ Checked
       → ClosesInfeasible sheet.lp (shifts_of sheet.problem name) t w
   closes_infeasible name t w lawful e =
       let shift : List ℚ = shifts_of sheet.problem name in
       let p : LinearProgram = rhs_family sheet.lp shift t in
       let each = each_checked (says C (making_steps sheet (Set name) t) ∷ says C (ray_columns p w) ∷ says C (ray_limits p w zero_ℚ (multiplied p w))
       ∷ asked (le_ℚ (sum_of zero_ℚ (map (limit_product p w) (multiplied p w))) zero_ℚ)
-      ∷ says C (sum_steps zero_ℚ (shift_products sheet (Set name) shift w)) ∷ asked (lt_ℚ (sum_of zero_ℚ (shift_products sheet (Set name) shift w)) zero_ℚ) ∷ []) e in
+      ∷ says C (sum_steps zero_ℚ (shift_products sheet (Set name) shift w)) ∷ asked
+      (lt_ℚ (sum_of zero_ℚ (shift_products sheet (Set name) shift w)) zero_ℚ) ∷ []) e in
       let meets = meets_if_held p w (checked_hold C.arithmetic (ray_limits p w zero_ℚ (multiplied p w)) each.1.1.0) in
       record {
         vanishes = vanishes_if_held p (lawful_rhs sheet.lp shift lawful t).is_matrix w (checked_hold C.arithmetic (ray_columns p w) each.1.0);
         meets_upper = meets.meets_upper;
         meets_lower = meets.meets_lower;
         not_positive = subst (λ (s : ℚ). s ≤ℚ zero_ℚ) (sum_of_met p w) (le_from_test _ _ (asked_holds _ each.1.1.1.0));
-        falls = subst (λ (s : ℚ). s <ℚ zero_ℚ) (sum_of-all (λ i. record { left = w i; right = value_at shift i }) sheet.lp.rows) (lt_from_test _ _ (asked_holds _ each.1.1.1.1.1.0));
+        falls =
+            subst (λ (s : ℚ). s <ℚ zero_ℚ) (sum_of-all (λ i. record { left = w i; right = value_at shift i }) sheet.lp.rows)
+            (lt_from_test _ _ (asked_holds _ each.1.1.1.1.1.0));
       }
 
   unbounded_end : PastLaws → (name : Name) (max last t : ℚ) (lines : List Line)
-      → past_test max last t (unbounded_past C sheet (Row name) (row_of sheet.problem name) t (value_at (column_of 0 lines)) (value_at (column_of 1 lines))) ≡ Checked
-      → IsProvedPast max last t (λ theta. IsUnboundedBy (objective_family sheet.lp (row_of sheet.problem name) theta) (value_at (column_of 0 lines)) (value_at (column_of 1 lines)))
+      → past_test max last t
+      (unbounded_past C sheet (Row name) (row_of sheet.problem name) t (value_at (column_of 0 lines)) (value_at (column_of 1 lines))) ≡ Checked
+      → IsProvedPast max last t
+      (λ theta. IsUnboundedBy (objective_family sheet.lp (row_of sheet.problem name) theta) (value_at (column_of 0 lines)) (value_at (column_of 1 lines)))
   unbounded_end laws name max last t lines e =
       let h : ℕ = row_of sheet.problem name in
       let z : Vector = value_at (column_of 0 lines) in
@@ -99,10 +105,16 @@ module _ (C : Checker) (sheet : Sheet) where
       let w : Vector = value_at (multipliers sheet lines) in
       let past = past_end max last t (infeasible_past C sheet (Set name) (shifts_of sheet.problem name) t w) e in
       let closes = closes_infeasible name t w lawful past.passes in
-      record { at_last = past.at_last; before_max = past.before_max; proved = λ theta above. laws.infeasible sheet.lp (shifts_of sheet.problem name) t theta w closes above }
+      record {
+        at_last = past.at_last;
+        before_max = past.before_max;
+        proved = λ theta above. laws.infeasible sheet.lp
+            (shifts_of sheet.problem name) t theta w closes above;
+      }
 
   -- how a run closes is proved
-  row_closes : PastLaws → (name : Name) (max last : ℚ) (end : ChainEnd) → close_test C sheet (Row name) max last end ≡ Checked → IsTrueEnd (family_of sheet (Row name)) max last (past_of sheet end)
+  row_closes : PastLaws → (name : Name) (max last : ℚ) (end : ChainEnd) → close_test C sheet (Row name) max last end ≡ Checked →
+      IsTrueEnd (family_of sheet (Row name)) max last (past_of sheet end)
   row_closes laws name max last (EndsAt t) e = ends_at max last t e
   row_closes laws name max last (UnboundedPast t lines) e = unbounded_end laws name max last t lines e
   row_closes laws name max last (InfeasiblePast t lines) e = absurd (no_failure e)
@@ -113,7 +125,8 @@ module _ (C : Checker) (sheet : Sheet) where
   set_closes laws name max last (UnboundedPast t lines) lawful e = absurd (no_failure e)
   set_closes laws name max last (InfeasiblePast t lines) lawful e = infeasible_end laws name max last t lines lawful e
 
-  pub close_is_true : PastLaws → (changing : Changing) (max last : ℚ) (end : ChainEnd) → IsLinearProgram sheet.lp → close_test C sheet changing max last end ≡ Checked
+  pub close_is_true : PastLaws → (changing : Changing) (max last : ℚ) (end : ChainEnd) → IsLinearProgram sheet.lp
+      → close_test C sheet changing max last end ≡ Checked
       → IsTrueEnd (family_of sheet changing) max last (past_of sheet end)
   close_is_true laws (Row name) max last end lawful e = row_closes laws name max last end e
   close_is_true laws (Set name) max last end lawful e = set_closes laws name max last end lawful e

@@ -53,7 +53,8 @@ KeepsCount n (Does outcome) = Counts n outcome
 KeepsCount n (MayStop refusals move) = KeepsCount n move
 KeepsCount n (Asks question sheet s go) = (answer : AnswerTo question) → Counts n (go answer)
 
-with_value : {X : Type 0} (n card : ℕ) (fault : VerbFault) (o : Option X) (go : X → StatementMove) → ((x : X) → KeepsCount n (go x)) → KeepsCount n (or_fault card fault o go)
+with_value : {X : Type 0} (n card : ℕ) (fault : VerbFault) (o : Option X) (go : X → StatementMove) → ((x : X) → KeepsCount n (go x)) →
+    KeepsCount n (or_fault card fault o go)
 with_value n card fault None go keeps = tt
 with_value n card fault (Some x) go keeps = keeps x
 
@@ -61,11 +62,13 @@ with_deck : {X : Type 0} (n : ℕ) (r : Result X DeckFault) (go : X → Statemen
 with_deck n (Err fault) go keeps = tt
 with_deck n (Ok x) go keeps = keeps x
 
-with_program : (n card : ℕ) (r : Result LinearProgram SelectionFault) (go : LinearProgram → StatementMove) → ((lp : LinearProgram) → KeepsCount n (go lp)) → KeepsCount n (or_selection_fault card r go)
+with_program : (n card : ℕ) (r : Result LinearProgram SelectionFault) (go : LinearProgram → StatementMove) → ((lp : LinearProgram) → KeepsCount n (go lp)) →
+    KeepsCount n (or_selection_fault card r go)
 with_program n card (Err fault) go keeps = tt
 with_program n card (Ok lp) go keeps = keeps lp
 
-with_selection : (n card : ℕ) (problem : Problem ℕ) (choice : Choice) (go : LinearProgram → StatementMove) → ((lp : LinearProgram) → KeepsCount n (go lp)) → KeepsCount n (selects card problem choice go)
+with_selection : (n card : ℕ) (problem : Problem ℕ) (choice : Choice) (go : LinearProgram → StatementMove) → ((lp : LinearProgram) → KeepsCount n (go lp)) →
+    KeepsCount n (selects card problem choice go)
 with_selection n card problem choice go keeps = with_program n card (selected problem choice) (λ lp. MayStop (InSelection problem choice) (go lp)) keeps
 
 demanded_counts : (position : Option ℕ) (code : ℕ) (report : Report) (state : State) → Counts state.executed (demanded position code report state)
@@ -79,19 +82,23 @@ verdict_counts Unbounded report state = demanded_counts state.cells.xdounb 2 rep
 
 -- ---- answers
 
-path_counts : (solver : Solver) (card : ℕ) (present : Present) (state : State) (end : PathEnd) → Counts state.executed (after_path solver card present state end)
+path_counts : (solver : Solver) (card : ℕ) (present : Present) (state : State) (end : PathEnd) →
+    Counts state.executed (after_path solver card present state end)
 path_counts solver card present state (Reached bases verdict check) =
     verdict_counts (mark_of verdict) (Solved solver verdict check) (record state { setup = Some (gone_through bases present); mark = Some (mark_of verdict) })
 path_counts solver card present state PathLimit = tt
 path_counts solver card present state (PricesWrong j) = tt
 
-parametric_run_counts : (card : ℕ) (parametric_run : ParametricRun) (present : Present) (state : State) (end : ParametricRunEnd) → Counts state.executed (after_parametric_run card parametric_run present state end)
+parametric_run_counts : (card : ℕ) (parametric_run : ParametricRun) (present : Present) (state : State) (end : ParametricRunEnd) →
+    Counts state.executed (after_parametric_run card parametric_run present state end)
 parametric_run_counts card parametric_run present state (Opening bases verdict check) =
-    verdict_counts (mark_of verdict) (Solved (parametric_solver parametric_run.changing) verdict check) (record state { setup = Some (gone_through bases present); mark = None })
+    verdict_counts (mark_of verdict) (Solved (parametric_solver parametric_run.changing) verdict check)
+    (record state { setup = Some (gone_through bases present); mark = None })
 parametric_run_counts card parametric_run present state (Chained bases intervals end) = refl
 parametric_run_counts card parametric_run present state ParametricRunLimit = tt
 
-install_counts : (card : ℕ) (lp : LinearProgram) (s : Basis) (taken : List Card × List (List Card)) (present : Present) (state : State) (end : InstallEnd) → Counts state.executed (after_install card lp s taken present state end)
+install_counts : (card : ℕ) (lp : LinearProgram) (s : Basis) (taken : List Card × List (List Card)) (present : Present) (state : State) (end : InstallEnd) →
+    Counts state.executed (after_install card lp s taken present state end)
 install_counts card lp s taken present state Installed = refl
 install_counts card lp s taken present state (DependsBy lines) = tt
 
@@ -102,10 +109,13 @@ solves_counts solver limit card state =
     with_value state.executed card NoSetup state.setup _ (λ present.
     with_selection state.executed card present.problem (choice_of state.cells present.options) _ (λ lp. path_counts solver card present state))
 
-present_counts : (card : ℕ) (state : State) (present : Present) (question : Question) (report : AnswerTo question → Report) → KeepsCount state.executed (shows_present card state present question report)
-present_counts card state present question report = with_program state.executed card (selected present.problem (choice_of state.cells present.options)) _ (λ lp answer. refl)
+present_counts : (card : ℕ) (state : State) (present : Present) (question : Question) (report : AnswerTo question → Report) →
+    KeepsCount state.executed (shows_present card state present question report)
+present_counts card state present question report =
+    with_program state.executed card (selected present.problem (choice_of state.cells present.options)) _ (λ lp answer. refl)
 
-parametric_runs_count : (card : ℕ) (fault : VerbFault) (change : Problem ℕ → Name → Option Changing) (moved : Option Name) (state : State) → KeepsCount state.executed (parametric_runs card fault change moved state)
+parametric_runs_count : (card : ℕ) (fault : VerbFault) (change : Problem ℕ → Name → Option Changing) (moved : Option Name) (state : State) →
+    KeepsCount state.executed (parametric_runs card fault change moved state)
 parametric_runs_count card fault change moved state =
     with_value state.executed card NoSetup state.setup _ (λ present.
     with_selection state.executed card present.problem (choice_of state.cells present.options) _ (λ lp.
@@ -124,13 +134,15 @@ verb_counts (MoveLimit limit) card state = refl
 verb_counts (Mvadr demand position) card state = refl
 verb_counts (Goto position) card state = refl
 verb_counts Convert card state =
-    with_value state.executed card DeckNotFound (deck_taken state.cells.xdata state.decks) _ (λ taken. with_deck state.executed (conversion taken.0 state.cells.xpbname) _ (λ problem. refl))
+    with_value state.executed card DeckNotFound (deck_taken state.cells.xdata state.decks) _
+    (λ taken. with_deck state.executed (conversion taken.0 state.cells.xpbname) _ (λ problem. refl))
 verb_counts Revise card state =
     with_value state.executed card NoProblem (problem_of state.cells.xoldname state.file) _ (λ old.
     with_value state.executed card DeckNotFound (deck_taken state.cells.xdata state.decks) _ (λ taken.
     with_deck state.executed (revision old taken.0 state.cells.xpbname) _ (λ problem. refl)))
 verb_counts (Setup options) card state =
-    with_value state.executed card NoProblem (problem_of state.cells.xpbname state.file) _ (λ problem. with_selection state.executed card problem (choice_of state.cells options) _ (λ lp. refl))
+    with_value state.executed card NoProblem (problem_of state.cells.xpbname state.file) _
+    (λ problem. with_selection state.executed card problem (choice_of state.cells options) _ (λ lp. refl))
 verb_counts Primal card state = solves_counts ByPrimal state.cells.xiterlim card state
 verb_counts Dual card state = solves_counts ByDual (Some (steps_allowed state.cells)) card state
 verb_counts Solution card state =
@@ -175,7 +187,8 @@ taken_counts : (n : ℕ) (w : Walker) (outcome : StatementOutcome) (o : Option (
 taken_counts n w outcome None counts = tt
 taken_counts n w outcome (Some rest) counts = follows_counts n (passed rest (length (printed_by (gain_of outcome))) w) outcome counts
 
-settled_counts : (C : Checker) (n : ℕ) (w : Walker) (o : Option Pending) (objective : ℚ) (turn : WalkTurn) → CountsTurn n turn → CountsTurn n (settled C w o objective turn)
+settled_counts : (C : Checker) (n : ℕ) (w : Walker) (o : Option Pending) (objective : ℚ) (turn : WalkTurn) → CountsTurn n turn →
+    CountsTurn n (settled C w o objective turn)
 settled_counts C n w None objective turn counts = counts
 settled_counts C n w (Some pending) objective turn counts = by (settles C pending objective)
   where
@@ -183,7 +196,8 @@ settled_counts C n w (Some pending) objective turn counts = by (settles C pendin
     by true = counts
     by false = tt
 
-settling_counts : (C : Checker) (n : ℕ) (w : Walker) (question : Question) (sheet : Sheet) (answer : AnswerTo question) (turn : WalkTurn) → CountsTurn n turn → CountsTurn n (settling C w question sheet answer turn)
+settling_counts : (C : Checker) (n : ℕ) (w : Walker) (question : Question) (sheet : Sheet) (answer : AnswerTo question) (turn : WalkTurn) → CountsTurn n turn →
+    CountsTurn n (settling C w question sheet answer turn)
 settling_counts C n w (OfSolution Optimal) sheet lines turn counts = settled_counts C n w w.pending (point_of sheet lines sheet.lp.objective) turn counts
 settling_counts C n w (OfSolution Infeasible) sheet lines turn counts = counts
 settling_counts C n w (OfSolution Unbounded) sheet lines turn counts = counts
@@ -193,11 +207,13 @@ settling_counts C n w (OfParametricRun parametric_run) sheet answer turn counts 
 settling_counts C n w OfPunch sheet answer turn counts = counts
 settling_counts C n w (OfInstall basis) sheet answer turn counts = counts
 
-answered_counts : (C : Checker) (n : ℕ) (w : Walker) (question : Question) (sheet : Sheet) (go : AnswerTo question → StatementOutcome) (j : Judged (AnswerTo question)) → ((answer : AnswerTo question) → Counts n (go answer)) → CountsTurn n (answered C w question sheet go j)
+answered_counts : (C : Checker) (n : ℕ) (w : Walker) (question : Question) (sheet : Sheet) (go : AnswerTo question → StatementOutcome)
+    (j : Judged (AnswerTo question)) → ((answer : AnswerTo question) → Counts n (go answer)) → CountsTurn n (answered C w question sheet go j)
 answered_counts C n w question sheet go Fails counts = tt
 answered_counts C n w question sheet go Refuses counts = tt
 answered_counts C n w question sheet go (Right answer rest) counts =
-    settling_counts C n w question sheet answer _ (follows_counts n (record (passed rest 1 w) { pending = noted w question sheet answer }) (go answer) (counts answer))
+    settling_counts C n w question sheet answer _
+    (follows_counts n (record (passed rest 1 w) { pending = noted w question sheet answer }) (go answer) (counts answer))
 
 due_counts : (C : Checker) (n : ℕ) (w : Walker) (move : StatementMove) → KeepsCount n move → CountsTurn n (due C w move)
 due_counts C n w (Does outcome) counts = taken_counts n w outcome (left_after (gain_text (gain_of outcome)) w.rest) counts
@@ -213,14 +229,18 @@ move_counts C n w move counts = unless_counts n (opened w move) _ (by (refuses_s
 
 statement_counts : (C : Checker) (w : Walker) (o : Option (Statement ℕ)) → CountsTurn (w.state.executed + 1) (walk_statement C w o)
 statement_counts C w None = closes_counts (w.state.executed + 1) w (Ended 0)
-statement_counts C w (Some statement) = move_counts C (w.state.executed + 1) w (verb_move statement.verb statement.card (counted w.state)) (verb_counts statement.verb statement.card (counted w.state))
+statement_counts C w (Some statement) =
+    move_counts C (w.state.executed + 1) w (verb_move statement.verb statement.card (counted w.state))
+    (verb_counts statement.verb statement.card (counted w.state))
 
 -- one more is counted
 pub turn_counts : (C : Checker) (program : Program) (w : Walker) → CountsTurn (w.state.executed + 1) (turn C program w)
 unfolding turn
 turn_counts C program w = by (nat_lt (length program.statements) w.state.position) (nat_lt w.state.executed max_executed)
   where
-    by : (a b : Bool) → CountsTurn (w.state.executed + 1) (if a then closes w (Ended 0) else if b then walk_statement C w (slice_get program.statements (w.state.position - 1)) else closes w StatementLimit)
+    by : (a b : Bool) →
+        CountsTurn (w.state.executed + 1)
+        (if a then closes w (Ended 0) else if b then walk_statement C w (slice_get program.statements (w.state.position - 1)) else closes w StatementLimit)
     by true b = closes_counts (w.state.executed + 1) w (Ended 0)
     by false true = statement_counts C w (slice_get program.statements (w.state.position - 1))
     by false false = closes_counts (w.state.executed + 1) w StatementLimit
@@ -243,9 +263,12 @@ closes_finds w ending = unless_finds (option_or (open_stop w) (open_pending w)) 
 -- so does each turn at the limit of statements
 pub limit_finds : (C : Checker) (program : Program) (w : Walker) → max_executed ≤ w.state.executed → HasFound (turn C program w)
 unfolding turn
-limit_finds C program w at_limit = by (nat_lt (length program.statements) w.state.position) (nat_lt w.state.executed max_executed) (le-ltb w.state.executed max_executed at_limit)
+limit_finds C program w at_limit =
+    by (nat_lt (length program.statements) w.state.position) (nat_lt w.state.executed max_executed) (le-ltb w.state.executed max_executed at_limit)
   where
-    by : (a b : Bool) → b ≡ false → HasFound (if a then closes w (Ended 0) else if b then walk_statement C w (slice_get program.statements (w.state.position - 1)) else closes w StatementLimit)
+    by : (a b : Bool) → b ≡ false →
+        HasFound (if a then closes w (Ended 0) else if b then walk_statement C w
+        (slice_get program.statements (w.state.position - 1)) else closes w StatementLimit)
     by true b is = closes_finds w (Ended 0)
     by false true is = absurd (cc is)
     by false false is = closes_finds w StatementLimit

@@ -71,7 +71,8 @@ module _ (C : Checker) (Holds : Type 0) (w : Walker) where
     pub counted : u.reports ≡ w.reports + length (printed_by (gain_of outcome))
     pub pays : Pays u.pending outcome
 
-  pub follows_on : (card : ℕ) (move : StatementMove) (u : Walker) (outcome : StatementOutcome) → Leads card move u outcome → ComesTo card move (follows u outcome)
+  pub follows_on : (card : ℕ) (move : StatementMove) (u : Walker) (outcome : StatementOutcome) → Leads card move u outcome →
+      ComesTo card move (follows u outcome)
   follows_on card move u (Goes gain after) leads =
       record { gain = gain; gives = leads.gives; text = leads.text; counted = leads.counted; owes = leads.pays }
   follows_on card move u (Ends gain ending) leads = on_closes (GoesOn card move) (EndsSo card move) u ending (λ settled text. record {
@@ -85,7 +86,8 @@ module _ (C : Checker) (Holds : Type 0) (w : Walker) where
 
   -- ---- an operation may be refused
 
-  refused_too : (card : ℕ) (move : StatementMove) (o : Option Found) (refused other : Bool) (turn : WalkTurn) → ComesTo card move (unless_found o (if other then Finds (Unchecked w.rest) else turn)) →
+  refused_too : (card : ℕ) (move : StatementMove) (o : Option Found) (refused other : Bool) (turn : WalkTurn) →
+      ComesTo card move (unless_found o (if other then Finds (Unchecked w.rest) else turn)) →
       ComesTo card move (unless_found o (if refused || other then Finds (Unchecked w.rest) else turn))
   refused_too card move (Some found) refused other turn comes = comes
   refused_too card move None true other turn comes = tt
@@ -108,16 +110,19 @@ module _ (C : Checker) (Holds : Type 0) (w : Walker) where
   -- ---- nothing is asked
 
   abbrev pub DoesSo : StatementOutcome → Type 0
-  DoesSo (Goes gain after) = All (Says C w.state) (printed_by gain) × (is_none after.mark ≡ false → SelectsSame w.state.setup w.state.cells after.setup after.cells)
+  DoesSo (Goes gain after) =
+      All (Says C w.state) (printed_by gain) × (is_none after.mark ≡ false → SelectsSame w.state.setup w.state.cells after.setup after.cells)
   DoesSo (Ends gain ending) = All (Says C w.state) (printed_by gain)
 
   module _ (owed : Owes C Holds w.pending w.state.setup w.state.cells) where
     pays_plain : (outcome : StatementOutcome) → open_outcome w outcome ≡ None → DoesSo outcome → Pays w.pending outcome
     pays_plain (Goes gain after) none so =
-        owes_on C Holds (All (Says C w.state) (printed_by gain)) w.pending w.state.setup w.state.cells after.setup after.cells owed so.0 (λ p is. so.1 (stays_marked w gain after p is none))
+        owes_on C Holds (All (Says C w.state) (printed_by gain)) w.pending w.state.setup w.state.cells after.setup after.cells owed so.0
+        (λ p is. so.1 (stays_marked w gain after p is none))
     pays_plain (Ends gain ending) none so = λ settled. (holds_settled C Holds w.pending w.state.setup w.state.cells owed settled, so)
 
-    taken_on : (card : ℕ) (outcome : StatementOutcome) → Pays w.pending outcome → (left : Option (List ℕ)) → left_after (gain_text (gain_of outcome)) w.rest ≡ left → ComesTo card (Does outcome) (taken w outcome left)
+    taken_on : (card : ℕ) (outcome : StatementOutcome) → Pays w.pending outcome → (left : Option (List ℕ)) →
+        left_after (gain_text (gain_of outcome)) w.rest ≡ left → ComesTo card (Does outcome) (taken w outcome left)
     taken_on card outcome pays None is = tt
     taken_on card outcome pays (Some rest) is = follows_on card (Does outcome) (passed rest (length (printed_by (gain_of outcome))) w) outcome (record {
       gives = refl;
@@ -128,27 +133,33 @@ module _ (C : Checker) (Holds : Type 0) (w : Walker) where
 
     pub does : (card : ℕ) (outcome : StatementOutcome) → DoesSo outcome → IsFollowed card (Does outcome)
     does card outcome so = record {
-      comes = on_unless (GoesOn card (Does outcome)) (EndsSo card (Does outcome)) (open_outcome w outcome) (taken w outcome (left_after (gain_text (gain_of outcome)) w.rest)) (never_outcome w outcome)
+      comes =
+          on_unless (GoesOn card (Does outcome)) (EndsSo card (Does outcome)) (open_outcome w outcome)
+          (taken w outcome (left_after (gain_text (gain_of outcome)) w.rest)) (never_outcome w outcome)
           (λ none. taken_on card outcome (pays_plain outcome none so) (left_after (gain_text (gain_of outcome)) w.rest) refl);
     }
 
     does_stop : (card : ℕ) (ending : Ending) → IsFollowed card (Does (stops ending))
     does_stop card ending = does card (stops ending) (All-nil (Says C w.state))
 
-    pub unless_fault : {X : Type 0} (card : ℕ) (fault : VerbFault) (o : Option X) (go : X → StatementMove) → ((x : X) → o ≡ Some x → IsFollowed card (go x)) → IsFollowed card (or_fault card fault o go)
+    pub unless_fault : {X : Type 0} (card : ℕ) (fault : VerbFault) (o : Option X) (go : X → StatementMove) → ((x : X) → o ≡ Some x → IsFollowed card (go x)) →
+        IsFollowed card (or_fault card fault o go)
     unless_fault card fault None go followed = does_stop card _
     unless_fault card fault (Some x) go followed = followed x refl
 
-    pub unless_deck_fault : {X : Type 0} (card : ℕ) (r : Result X DeckFault) (go : X → StatementMove) → ((x : X) → r ≡ Ok x → IsFollowed card (go x)) → IsFollowed card (or_deck_fault r go)
+    pub unless_deck_fault : {X : Type 0} (card : ℕ) (r : Result X DeckFault) (go : X → StatementMove) → ((x : X) → r ≡ Ok x → IsFollowed card (go x)) →
+        IsFollowed card (or_deck_fault r go)
     unless_deck_fault card (Err fault) go followed = does_stop card _
     unless_deck_fault card (Ok x) go followed = followed x refl
 
-    pub unless_selection_fault : (card : ℕ) (r : Result LinearProgram SelectionFault) (go : LinearProgram → StatementMove) → ((lp : LinearProgram) → r ≡ Ok lp → IsFollowed card (go lp)) →
+    pub unless_selection_fault : (card : ℕ) (r : Result LinearProgram SelectionFault) (go : LinearProgram → StatementMove) →
+        ((lp : LinearProgram) → r ≡ Ok lp → IsFollowed card (go lp)) →
         IsFollowed card (or_selection_fault card r go)
     unless_selection_fault card (Err fault) go followed = does_stop card _
     unless_selection_fault card (Ok lp) go followed = followed lp refl
 
-    pub selecting : (card : ℕ) (problem : Problem ℕ) (choice : Choice) (go : LinearProgram → StatementMove) → ((lp : LinearProgram) → selected problem choice ≡ Ok lp → IsFollowed card (go lp)) →
+    pub selecting : (card : ℕ) (problem : Problem ℕ) (choice : Choice) (go : LinearProgram → StatementMove) →
+        ((lp : LinearProgram) → selected problem choice ≡ Ok lp → IsFollowed card (go lp)) →
         IsFollowed card (selects card problem choice go)
     selecting card problem choice go followed =
         unless_selection_fault card (selected problem choice) _ (λ lp e. may_stop card (InSelection problem choice) (go lp) (followed lp e))
@@ -160,9 +171,12 @@ module _ (C : Checker) (Holds : Type 0) (w : Walker) where
   one_says report says = All-cons (Says C w.state) report [] says (All-nil (Says C w.state))
 
   -- the listing has the answer's report
-  pub reads : ReadingLaw C → (card : ℕ) (question : Question) (sheet : Sheet) (s : Basis) (go : AnswerTo question → StatementOutcome) (answer : AnswerTo question) (rest : List ℕ) →
-      IsRight (attested C) question sheet s answer → judged C question sheet w.rest ≡ Right answer rest → printed_by (gain_of (go answer)) ≡ reported question answer → length (reported question answer) ≡ 1 →
-      Pays (noted w question sheet answer) (go answer) → Leads card (Asks question sheet s go) (record (passed rest 1 w) { pending = noted w question sheet answer }) (go answer)
+  pub reads : ReadingLaw C →
+      (card : ℕ) (question : Question) (sheet : Sheet) (s : Basis) (go : AnswerTo question → StatementOutcome) (answer : AnswerTo question) (rest : List ℕ) →
+      IsRight (attested C) question sheet s answer → judged C question sheet w.rest ≡ Right answer rest →
+      printed_by (gain_of (go answer)) ≡ reported question answer → length (reported question answer) ≡ 1 →
+      Pays (noted w question sheet answer) (go answer) →
+      Leads card (Asks question sheet s go) (record (passed rest 1 w) { pending = noted w question sheet answer }) (go answer)
   reads reading card question sheet s go answer rest right is prints one pays = record {
     gives = (answer, right, refl);
     text = reading question sheet w.rest rest answer is ∙ ap (λ (reports : List Report). reports_text reports ++ rest) (sym prints);

@@ -49,7 +49,8 @@ use Rattle.walk_laws.proofs.RanThrough.{parametric_run_followed}
 
 -- ---- while the mark stands the cells select the same
 
-named : (cell : NameCell) (name : Name) (cells : Cells) (mark : Option Mark) (setup : Option Present) → is_none (mark_after cell mark) ≡ false → SelectsSame setup cells setup (move_name cell name cells)
+named : (cell : NameCell) (name : Name) (cells : Cells) (mark : Option Mark) (setup : Option Present) → is_none (mark_after cell mark) ≡ false →
+    SelectsSame setup cells setup (move_name cell name cells)
 named Xdata name cells mark setup stands = record { setups = refl; objectives = refl; rhs = refl }
 named Xpbname name cells mark setup stands = record { setups = refl; objectives = refl; rhs = refl }
 named Xobj name cells mark setup stands = absurd (cc stands)
@@ -66,14 +67,16 @@ demanding : (demand : Demand) (position : ℕ) (cells : Cells) (setup : Option P
 demanding Xdonfs position cells setup = record { setups = refl; objectives = refl; rhs = refl }
 demanding Xdounb position cells setup = record { setups = refl; objectives = refl; rhs = refl }
 
-module _ (C : Checker) (reading : ReadingLaw C) (truth : JudgedLaws C) (Holds : Type 0) (w : Walker) (owed : Owes C Holds w.pending w.state.setup w.state.cells) (lawful : HasProblem w.state.setup) where
+module _ (C : Checker) (reading : ReadingLaw C) (truth : JudgedLaws C) (Holds : Type 0) (w : Walker) (owed : Owes C Holds w.pending w.state.setup w.state.cells)
+    (lawful : HasProblem w.state.setup) where
   abbrev SelectsAfter : State → Type 0
   SelectsAfter after = is_none after.mark ≡ false → SelectsSame w.state.setup w.state.cells after.setup after.cells
 
   quiet : (card : ℕ) (after : State) → SelectsAfter after → IsFollowed C Holds w card (Does (Goes Nothing after))
   quiet card after same = does C Holds w owed card (Goes Nothing after) (All-nil (Says C w.state), same)
 
-  prints : (card : ℕ) (report : Report) (after : State) → Says C w.state report → SelectsAfter after → IsFollowed C Holds w card (Does (Goes (Prints report) after))
+  prints : (card : ℕ) (report : Report) (after : State) → Says C w.state report → SelectsAfter after →
+      IsFollowed C Holds w card (Does (Goes (Prints report) after))
   prints card report after says same = does C Holds w owed card (Goes (Prints report) after) (one_says C Holds w report says, same)
 
   -- ---- problems
@@ -108,7 +111,8 @@ module _ (C : Checker) (reading : ReadingLaw C) (truth : JudgedLaws C) (Holds : 
 
   -- ---- what is asked
 
-  solves_followed : (solver : Solver) → IsPathSolver solver → (limit : Option ℕ) (card : ℕ) → IsFollowed C Holds w card (solves solver limit card (counted w.state))
+  solves_followed : (solver : Solver) → IsPathSolver solver → (limit : Option ℕ) (card : ℕ) →
+      IsFollowed C Holds w card (solves solver limit card (counted w.state))
   solves_followed solver is_path limit card =
       unless_fault C Holds w owed card VerbFault.NoSetup w.state.setup _ (λ present e.
       selecting C Holds w owed card present.problem (choice_of w.state.cells present.options) _ (λ lp is.
@@ -122,7 +126,8 @@ module _ (C : Checker) (reading : ReadingLaw C) (truth : JudgedLaws C) (Holds : 
       solution_followed C reading truth Holds w owed lawful card present lp e is mark)))
 
   parametric_runs_followed : (card : ℕ) (fault : VerbFault) (change : Problem ℕ → Name → Option Changing) (moved : Option Name) →
-      ((problem : Problem ℕ) (changing : Changing) → option_and_then (change problem) moved ≡ Some changing → IsOfProblem changing problem × (named_by w.state.cells changing ≡ Some (changing_name changing))) →
+      ((problem : Problem ℕ) (changing : Changing) → option_and_then (change problem) moved ≡ Some changing →
+      IsOfProblem changing problem × (named_by w.state.cells changing ≡ Some (changing_name changing))) →
       IsFollowed C Holds w card (parametric_runs card fault change moved (counted w.state))
   parametric_runs_followed card fault change moved of_problem =
       unless_fault C Holds w owed card VerbFault.NoSetup w.state.setup _ (λ present e.
@@ -130,7 +135,8 @@ module _ (C : Checker) (reading : ReadingLaw C) (truth : JudgedLaws C) (Holds : 
       unless_fault C Holds w owed {X = Changing} card fault (option_and_then (change present.problem) moved) _ (λ changing c.
       unless_fault C Holds w owed {X = ℚ} card VerbFault.NoParmax w.state.cells.xparmax _ (λ last l.
       unless_fault C Holds w owed {X = ℚ} card VerbFault.ParmaxBelow (not_less w.state.cells.xparam last) _ (λ to t.
-      parametric_run_followed C reading truth Holds w owed lawful card present lp (record { changing = changing; from = w.state.cells.xparam; to = to; limit = steps_allowed w.state.cells }) e is (record {
+      parametric_run_followed C reading truth Holds w owed lawful card present lp
+      (record { changing = changing; from = w.state.cells.xparam; to = to; limit = steps_allowed w.state.cells }) e is (record {
         is_part = (of_problem present.problem changing c).0;
         is_named = (of_problem present.problem changing c).1;
         from_first = refl;
@@ -141,21 +147,30 @@ module _ (C : Checker) (reading : ReadingLaw C) (truth : JudgedLaws C) (Holds : 
 
   ranges_asked : (card : ℕ) (sheet : Sheet) (s : Basis) (go : AnswerTo OfRanges → StatementOutcome) → IsFollowed C Holds w card (Asks OfRanges sheet s go)
   ranges_asked card sheet s go = record {
-    comes = on_unless (GoesOn C Holds w card (Asks OfRanges sheet s go)) (EndsSo C Holds w card (Asks OfRanges sheet s go)) (open_question w OfRanges sheet go) (Finds (Wrong w.rest))
+    comes =
+        on_unless (GoesOn C Holds w card (Asks OfRanges sheet s go)) (EndsSo C Holds w card (Asks OfRanges sheet s go)) (open_question w OfRanges sheet go)
+        (Finds (Wrong w.rest))
         (never_either (open_stop w) (open_if (is_ranges w.rest) w) (never_stop w) (never_if (is_ranges w.rest) w)) (λ none. tt);
   }
 
   punch_asked : (card : ℕ) (sheet : Sheet) (s : Basis) (go : AnswerTo OfPunch → StatementOutcome) → IsFollowed C Holds w card (Asks OfPunch sheet s go)
   punch_asked card sheet s go = record {
-    comes = on_unless (GoesOn C Holds w card (Asks OfPunch sheet s go)) (EndsSo C Holds w card (Asks OfPunch sheet s go)) (open_question w OfPunch sheet go) (Finds (Wrong w.rest))
-        (never_either (open_stop w) (open_if (is_punched sheet.problem.name w.rest) w) (never_stop w) (never_if (is_punched sheet.problem.name w.rest) w)) (λ none. tt);
+    comes =
+        on_unless (GoesOn C Holds w card (Asks OfPunch sheet s go)) (EndsSo C Holds w card (Asks OfPunch sheet s go)) (open_question w OfPunch sheet go)
+        (Finds (Wrong w.rest))
+        (never_either (open_stop w) (open_if (is_punched sheet.problem.name w.rest) w) (never_stop w) (never_if (is_punched sheet.problem.name w.rest) w))
+        (λ none. tt);
   }
 
-  install_asked : (card : ℕ) (t : Basis) (sheet : Sheet) (s : Basis) (go : AnswerTo (OfInstall t) → StatementOutcome) → IsFollowed C Holds w card (Asks (OfInstall t) sheet s go)
+  install_asked : (card : ℕ) (t : Basis) (sheet : Sheet) (s : Basis) (go : AnswerTo (OfInstall t) → StatementOutcome) →
+      IsFollowed C Holds w card (Asks (OfInstall t) sheet s go)
   install_asked card t sheet s go = record {
-    comes = on_unless (GoesOn C Holds w card (Asks (OfInstall t) sheet s go)) (EndsSo C Holds w card (Asks (OfInstall t) sheet s go)) (open_question w (OfInstall t) sheet go) (Finds (Wrong w.rest))
+    comes =
+        on_unless (GoesOn C Holds w card (Asks (OfInstall t) sheet s go)) (EndsSo C Holds w card (Asks (OfInstall t) sheet s go))
+        (open_question w (OfInstall t) sheet go) (Finds (Wrong w.rest))
         (never_either (open_stop w) (option_or (open_if (is_inserted_by (go Installed) w.rest) w) (open_pending w)) (never_stop w)
-        (never_either (open_if (is_inserted_by (go Installed) w.rest) w) (open_pending w) (never_if (is_inserted_by (go Installed) w.rest) w) (never_pending w.pending))) (λ none. tt);
+        (never_either (open_if (is_inserted_by (go Installed) w.rest) w) (open_pending w) (never_if (is_inserted_by (go Installed) w.rest) w)
+        (never_pending w.pending))) (λ none. tt);
   }
 
   ranges_followed : (card : ℕ) → IsFollowed C Holds w card (ranges card (counted w.state))

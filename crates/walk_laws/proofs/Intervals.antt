@@ -30,7 +30,8 @@ use Rattle.walk_laws.proofs.Solution.{solved_if_held}
 use Rattle.walk_laws.proofs.Openings.{lawful_family}
 
 -- what is proved at both ends is so between them
-holds_between : BetweenLaws → (sheet : Sheet) (changing : Changing) → IsLinearProgram sheet.lp → ChangesFreely sheet changing → HoldsBetween (family_of sheet changing)
+holds_between : BetweenLaws → (sheet : Sheet) (changing : Changing) → IsLinearProgram sheet.lp → ChangesFreely sheet changing →
+    HoldsBetween (family_of sheet changing)
 holds_between between sheet (Row name) lawful may = between.objective sheet.lp (row_of sheet.problem name) lawful may.0 may.1
 holds_between between sheet (Set name) lawful may = between.rhs sheet.lp (shifts_of sheet.problem name) lawful
 
@@ -69,7 +70,8 @@ module _ (p q : LinearProgram) (z w : Vector) (y : Vector) where
   }
     where
       holds : (k : ℕ) (is : IsVariable p.matrix k)
-          → by_sign (compare_ℚ (for_min p.sense (y k)) zero_ℚ) (is_at (upper_of p k) (z k) && is_at (upper_of q k) (w k)) (is_at (lower_of p k) (z k) && is_at (lower_of q k) (w k)) ≡ true
+          → by_sign (compare_ℚ (for_min p.sense (y k)) zero_ℚ) (is_at (upper_of p k) (z k) && is_at (upper_of q k) (w k))
+          (is_at (lower_of p k) (z k) && is_at (lower_of q k) (w k)) ≡ true
       holds k is = (kept k is).0
 
 -- ---- an interval
@@ -93,14 +95,17 @@ pub record IsTrueInterval (family : ℚ → LinearProgram) (is_first : Bool) (ma
   pub is_true : IsTruePart family max part
   pub long : (part.from <ℚ part.to) ⊎ ((is_first ≡ true) × (part.from ≡ part.to))
 
-module _ (C : Checker) (between : BetweenLaws) (sheet : Sheet) (changing : Changing) (lawful : IsLinearProgram sheet.lp) (may : ChangesFreely sheet changing) where
+module _ (C : Checker) (between : BetweenLaws) (sheet : Sheet) (changing : Changing) (lawful : IsLinearProgram sheet.lp)
+    (may : ChangesFreely sheet changing) where
   abbrev family : ℚ → LinearProgram
   family = family_of sheet changing
 
   solved_at_end : (theta : ℚ) (value value_rate price price_rate : List ℚ) → end_test C sheet changing theta value value_rate price price_rate ≡ Checked
       → IsBestBy (family theta) (along theta value value_rate) (along theta price price_rate)
   solved_at_end theta value value_rate price price_rate e =
-      let each = each_checked (says C (making_steps sheet changing theta) ∷ says C (along_steps sheet theta value value_rate) ∷ says C (along_steps sheet theta price price_rate)
+      let each =
+      each_checked
+      (says C (making_steps sheet changing theta) ∷ says C (along_steps sheet theta value value_rate) ∷ says C (along_steps sheet theta price price_rate)
       ∷ says C (optimal_steps (family theta) (along theta value value_rate) (along theta price price_rate)) ∷ []) e in
       solved_if_held (family theta) (lawful_family sheet changing lawful may theta) (along theta value value_rate) (along theta price price_rate)
       (checked_hold C.arithmetic (optimal_steps (family theta) (along theta value value_rate) (along theta price price_rate)) each.1.1.1.0)
@@ -112,19 +117,23 @@ module _ (C : Checker) (between : BetweenLaws) (sheet : Sheet) (changing : Chang
         (along theta part.price part.price_rate k) k
 
     -- what both ends keep is checked at each variable
-    kept_at : AllHold (keeping_steps sheet changing part.from part.to part.value part.value_rate part.price part.price_rate) → (k : ℕ) → IsVariable sheet.lp.matrix k
+    kept_at : AllHold (keeping_steps sheet changing part.from part.to part.value part.value_rate part.price part.price_rate) → (k : ℕ)
+        → IsVariable sheet.lp.matrix k
         → AllHold (one_end part.from k) × AllHold (one_end part.to k)
     kept_at e k is = hold-append (one_end part.from k) (one_end part.to k)
         (each_hold (λ k. one_end part.from k ++ one_end part.to k) 1 (size sheet.lp.matrix) k e is.0 (omega (arith, is.1)))
 
-    part_is_true : (is_first : Bool) (max : ℚ) → part_test C sheet changing part.from part.to part.value part.value_rate part.price part.price_rate is_first max ≡ Checked
+    part_is_true : (is_first : Bool) (max : ℚ)
+        → part_test C sheet changing part.from part.to part.value part.value_rate part.price part.price_rate is_first max ≡ Checked
         → IsTrueInterval family is_first max part
     part_is_true is_first max e =
         let each = each_checked (asked (lt_ℚ part.from part.to || (is_first && eq_ℚ part.from part.to)) ∷ asked (le_ℚ part.to max)
         ∷ end_test C sheet changing part.from part.value part.value_rate part.price part.price_rate ∷ end_test C sheet changing part.to part.value part.value_rate part.price part.price_rate
         ∷ says C (keeping_steps sheet changing part.from part.to part.value part.value_rate part.price part.price_rate) ∷ []) e in
         let long = begins_before is_first part.from part.to (asked_holds _ each.0) in
-        let kept = kept_at (checked_hold C.arithmetic (keeping_steps sheet changing part.from part.to part.value part.value_rate part.price part.price_rate) each.1.1.1.1.0) in
+        let kept =
+        kept_at (checked_hold C.arithmetic
+        (keeping_steps sheet changing part.from part.to part.value part.value_rate part.price part.price_rate) each.1.1.1.1.0) in
         let proved : IsProvedAtEnds family part = record {
           forward = not_after long;
           first = solved_at_end part.from part.value part.value_rate part.price part.price_rate each.1.1.0;
@@ -140,5 +149,6 @@ module _ (C : Checker) (between : BetweenLaws) (sheet : Sheet) (changing : Chang
         not_after (inl less) = le_of_lt less
         not_after (inr same) = subst (λ (x : ℚ). part.from ≤ℚ x) same.1 (le_refl part.from)
 
-  pub interval_is_true : (is_first : Bool) (max : ℚ) (interval : ParametricInterval) → interval_test C sheet changing is_first max interval ≡ Checked → IsTrueInterval family is_first max (part_of interval)
+  pub interval_is_true : (is_first : Bool) (max : ℚ) (interval : ParametricInterval) → interval_test C sheet changing is_first max interval ≡ Checked →
+      IsTrueInterval family is_first max (part_of interval)
   interval_is_true is_first max interval e = part_is_true (part_of interval) is_first max e

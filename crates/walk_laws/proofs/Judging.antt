@@ -28,7 +28,8 @@ pub record IsPassed {X : Type 0} (test : X → Verdict) (parsed : Parsed X) (x :
   pub is_read : parsed ≡ Some (x, after)
   pub passes : test x ≡ Checked
 
-passed : {X : Type 0} (otherwise : Judged X) (test : X → Verdict) (parsed : Parsed X) (x : X) (after : List ℕ) → (otherwise ≡ Right x after → ⊥) → tested_or otherwise test parsed ≡ Right x after → IsPassed test parsed x after
+passed : {X : Type 0} (otherwise : Judged X) (test : X → Verdict) (parsed : Parsed X) (x : X) (after : List ℕ) → (otherwise ≡ Right x after → ⊥) →
+    tested_or otherwise test parsed ≡ Right x after → IsPassed test parsed x after
 passed otherwise test None x after never e = absurd (never e)
 passed {X = X} otherwise test (Some got) x after never e = by (test got.0) refl e
   where
@@ -45,7 +46,8 @@ never_right : {X : Type 0} (b : Bool) (x : X) (after : List ℕ) → ◌≡◌ {
 never_right true x after e = cc e
 never_right false x after e = cc e
 
-pub right_is_passed : (C : Checker) {X : Type 0} (test : X → Verdict) (reads : (List ℕ → Option ℚ) → List ℕ → Parsed X) (rest : List ℕ) (x : X) (after : List ℕ) →
+pub right_is_passed : (C : Checker) {X : Type 0} (test : X → Verdict) (reads : (List ℕ → Option ℚ) → List ℕ → Parsed X) (rest : List ℕ) (x : X)
+    (after : List ℕ) →
     tested_by C test reads rest ≡ Right x after → IsPassed test (reads (fraction_in C) rest) x after
 right_is_passed C test reads rest x after e =
     passed (unread C reads rest) test (reads (fraction_in C) rest) x after (never_right (is_some C.most_digits && is_some (reads (form_in C) rest)) x after) e

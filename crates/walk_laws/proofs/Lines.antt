@@ -20,7 +20,8 @@ use Rattle.walk_laws.proofs.Pieces.{Tells, Spells, after_text, after_word, done,
 -- ---- values
 
 value_spells : (of : List ℕ → Option ℚ) (spells : Spells of rational_text) (slot : Slot) → Spells (value_in of slot) value_text
-value_spells of spells AnyCode = meaning (named all_codes) at_text Code value_text (named_spells at_text (Basic ∷ Outside ∷ Equal ∷ Lower ∷ Upper ∷ Free ∷ [])) (λ at. refl)
+value_spells of spells AnyCode =
+    meaning (named all_codes) at_text Code value_text (named_spells at_text (Basic ∷ Outside ∷ Equal ∷ Lower ∷ Upper ∷ Free ∷ [])) (λ at. refl)
 value_spells of spells AnyNumber = meaning of rational_text Number value_text spells (λ x. refl)
 value_spells of spells (Known value) = record { by = λ word x e. by word x (bytes_eq (value_text value) word) refl e }
   where
@@ -31,13 +32,16 @@ value_spells of spells (Known value) = record { by = λ word x e. by word x (byt
 slot_tells : (of : List ℕ → Option ℚ) (spells : Spells of rational_text) (slot : Slot) → Tells [] (slot_in of slot) (λ value. codes " " ++ value_text value)
 slot_tells of spells slot =
     after_text [] (codes " ") (with_word (value_in of slot) (λ value left. Some (value, left))) _
-    (after_word (codes " ") (value_in of slot) value_text (λ value left. Some (value, left)) _ (value_spells of spells slot) (λ value. done (codes " " ++ value_text value) value _ refl))
+    (after_word (codes " ") (value_in of slot) value_text (λ value left. Some (value, left)) _ (value_spells of spells slot)
+    (λ value. done (codes " " ++ value_text value) value _ refl))
 
 -- one thing, and more after it
-then_tells : {X : Type 0} (one : List ℕ → Parsed X) (more : List ℕ → Parsed (List X)) (text : X → List ℕ) → Tells [] one text → Tells [] more (flat_map text) → Tells [] (λ rest. then_more (one rest) more) (flat_map text)
+then_tells : {X : Type 0} (one : List ℕ → Parsed X) (more : List ℕ → Parsed (List X)) (text : X → List ℕ) → Tells [] one text → Tells [] more (flat_map text) →
+    Tells [] (λ rest. then_more (one rest) more) (flat_map text)
 then_tells {X} one more text tells tells' = record { of = λ rest got e. by rest got (one rest) refl e }
   where
-    rest_by : (first : X × List ℕ) (got : List X × List ℕ) (o : Parsed (List X)) → more first.1 ≡ o → option_map {U = List X × List ℕ} (λ others. (first.0 ∷ others.0, others.1)) o ≡ Some got →
+    rest_by : (first : X × List ℕ) (got : List X × List ℕ) (o : Parsed (List X)) → more first.1 ≡ o →
+        option_map {U = List X × List ℕ} (λ others. (first.0 ∷ others.0, others.1)) o ≡ Some got →
         text first.0 ++ first.1 ≡ flat_map text got.0 ++ got.1
     rest_by first got None read e = absurd (cc e)
     rest_by first got (Some others) read e =
@@ -51,11 +55,13 @@ then_tells {X} one more text tells tells' = record { of = λ rest got e. by rest
 
 values_tell : (of : List ℕ → Option ℚ) (spells : Spells of rational_text) (slots : List Slot) → Tells [] (values_in of slots) values_text
 values_tell of spells [] = done [] [] values_text refl
-values_tell of spells (slot ∷ slots) = then_tells (slot_in of slot) (values_in of slots) (λ value. codes " " ++ value_text value) (slot_tells of spells slot) (values_tell of spells slots)
+values_tell of spells (slot ∷ slots) =
+    then_tells (slot_in of slot) (values_in of slots) (λ value. codes " " ++ value_text value) (slot_tells of spells slot) (values_tell of spells slots)
 
 -- ---- lines
 
-as_line : (number name values after : List ℕ) → ((number ++ (32 ∷ name)) ++ values) ++ (10 ∷ after) ≡ (number ++ (32 ∷ (name ++ (values ++ (10 ∷ []))))) ++ after
+as_line : (number name values after : List ℕ) →
+    ((number ++ (32 ∷ name)) ++ values) ++ (10 ∷ after) ≡ (number ++ (32 ∷ (name ++ (values ++ (10 ∷ []))))) ++ after
 as_line number name values after = simp append_assoc
 
 module _ (of : List ℕ → Option ℚ) (spells : Spells of rational_text) (sheet : Sheet) where
@@ -63,9 +69,11 @@ module _ (of : List ℕ → Option ℚ) (spells : Spells of rational_text) (shee
   line_tells slots k = record { of = λ rest got e. by rest got (with_text (line_head sheet k) (values_in of slots) rest) refl e }
     where
       head : Tells [] (with_text (line_head sheet k) (values_in of slots)) (λ values. line_head sheet k ++ values_text values)
-      head = after_text [] (line_head sheet k) (values_in of slots) _ (behind (line_head sheet k) (values_in of slots) values_text (values_tell of spells slots))
+      head =
+          after_text [] (line_head sheet k) (values_in of slots) _ (behind (line_head sheet k) (values_in of slots) values_text (values_tell of spells slots))
 
-      ended : (values : List Value) (left : List ℕ) (got : Line × List ℕ) (o : Option (List ℕ)) → left_after (codes "\n") left ≡ o → option_map {U = Line × List ℕ} (λ left. (line_of sheet k values, left)) o ≡ Some got →
+      ended : (values : List Value) (left : List ℕ) (got : Line × List ℕ) (o : Option (List ℕ)) → left_after (codes "\n") left ≡ o →
+          option_map {U = Line × List ℕ} (λ left. (line_of sheet k values, left)) o ≡ Some got →
           (line_head sheet k ++ values_text values) ++ left ≡ line_text got.0 ++ got.1
       ended values left got None end e = absurd (cc e)
       ended values left got (Some last) end e =
@@ -74,7 +82,8 @@ module _ (of : List ℕ → Option ℚ) (spells : Spells of rational_text) (shee
           ∙ as_line (number5 k) (name8 (name_of sheet k)) (values_text values) last ∙ ap (λ (g : Line × List ℕ). line_text g.0 ++ g.1) same
 
       by : (rest : List ℕ) (got : Line × List ℕ) (o : Parsed (List Value)) → with_text (line_head sheet k) (values_in of slots) rest ≡ o →
-          option_and_then (λ got. option_map {U = Line × List ℕ} (λ left. (line_of sheet k got.0, left)) (left_after (codes "\n") got.1)) o ≡ Some got → rest ≡ line_text got.0 ++ got.1
+          option_and_then (λ got. option_map {U = Line × List ℕ} (λ left. (line_of sheet k got.0, left)) (left_after (codes "\n") got.1)) o ≡ Some got →
+          rest ≡ line_text got.0 ++ got.1
       by rest got None read e = absurd (cc e)
       by rest got (Some values) read e = head.of rest values read ∙ ended values.0 values.1 got (left_after (codes "\n") values.1) refl e
 

@@ -62,7 +62,8 @@ module _ (C : Checker) (program : Program) (decks : List (List Card)) (listing :
   one_found w v found other first second finds finds' = by (cases_lt (steps first) (steps second))
     where
       by_more : (steps second ≡ steps first) ⊎ (steps second < steps first) → other ≡ found
-      by_more (inl as_many) = same_finding (turn C program w) (turn C program v) found other (ap (turn C program) (same_walker w v first second (sym as_many))) finds finds'
+      by_more (inl as_many) =
+          same_finding (turn C program w) (turn C program v) found other (ap (turn C program) (same_walker w v first second (sym as_many))) finds finds'
       by_more (inr fewer) = absurd (ends_here v other finds' (walks_on v w second first fewer))
 
       by : (steps first < steps second) ⊎ (steps second ≤ steps first) → other ≡ found
@@ -79,10 +80,12 @@ module _ (C : Checker) (program : Program) (decks : List (List Card)) (listing :
 
   -- with so many statements left, or fewer
   finds_within : (room : ℕ) (w : Walker) → Arrives w → max_executed ≤ w.state.executed + room → FindsSome
-  finds_within zero w reaches left = let h = limit_finds C program w (omega (arith, left)) in record { walker = w; found = h.found; reaches = reaches; finds = h.is }
+  finds_within zero w reaches left =
+      let h = limit_finds C program w (omega (arith, left)) in record { walker = w; found = h.found; reaches = reaches; finds = h.is }
   finds_within (suc room) w reaches left = by (turn C program w) refl (turn_counts C program w) (λ v reaches at. finds_within room v reaches at)
     where
-      by : (next : WalkTurn) → turn C program w ≡ next → CountsTurn (w.state.executed + 1) next → ((v : Walker) → Arrives v → max_executed ≤ v.state.executed + room → FindsSome) → FindsSome
+      by : (next : WalkTurn) → turn C program w ≡ next → CountsTurn (w.state.executed + 1) next →
+          ((v : Walker) → Arrives v → max_executed ≤ v.state.executed + room → FindsSome) → FindsSome
       by (Finds found) is counts later = record { walker = w; found = found; reaches = reaches; finds = is }
       by (Walks v) is counts later = later v (walked reaches is) (omega (arith, left, counts))
 
@@ -96,17 +99,23 @@ module _ (C : Checker) (bytes lines : List ℕ) where
   two_come found other (of_cards fault is finds) (of_cards fault' is' finds') =
       let e : Some fault ≡ Some fault' = sym is ∙ is' in
       let same : fault ≡ fault' = cc e in
-      same_finding (closes (first_walker [] lines) (CardStop fault)) (closes (first_walker [] lines) (CardStop fault')) found other (ap (λ f. closes (first_walker [] lines) (CardStop f)) same) finds finds'
+      same_finding (closes (first_walker [] lines) (CardStop fault)) (closes (first_walker [] lines) (CardStop fault')) found other
+      (ap (λ f. closes (first_walker [] lines) (CardStop f)) same) finds finds'
   two_come found other (of_cards fault is finds) (of_control fault' none is' finds') = let e : Some fault ≡ None = sym is ∙ none in absurd (cc e)
-  two_come found other (of_cards fault is finds) (of_walk program w is_program reaches finds') = let e : Some fault ≡ None = sym is ∙ is_program.is_read in absurd (cc e)
+  two_come found other (of_cards fault is finds) (of_walk program w is_program reaches finds') =
+      let e : Some fault ≡ None = sym is ∙ is_program.is_read in absurd (cc e)
   two_come found other (of_control fault none is finds) (of_cards fault' is' finds') = let e : Some fault' ≡ None = sym is' ∙ none in absurd (cc e)
   two_come found other (of_control fault none is finds) (of_control fault' none' is' finds') =
       let e : ◌≡◌ {A = Result Program ControlFault} (Err fault) (Err fault') = sym is ∙ is' in
       let same : fault ≡ fault' = cc e in
-      same_finding (closes (first_walker [] lines) (ControlStop fault)) (closes (first_walker [] lines) (ControlStop fault')) found other (ap (λ f. closes (first_walker [] lines) (ControlStop f)) same) finds finds'
-  two_come found other (of_control fault none is finds) (of_walk program w is_program reaches finds') = let e : ◌≡◌ {A = Result Program ControlFault} (Err fault) (Ok program) = sym is ∙ is_program.is_compiled in absurd (cc e)
-  two_come found other (of_walk program w is_program reaches finds) (of_cards fault is finds') = let e : Some fault ≡ None = sym is ∙ is_program.is_read in absurd (cc e)
-  two_come found other (of_walk program w is_program reaches finds) (of_control fault none is finds') = let e : ◌≡◌ {A = Result Program ControlFault} (Err fault) (Ok program) = sym is ∙ is_program.is_compiled in absurd (cc e)
+      same_finding (closes (first_walker [] lines) (ControlStop fault)) (closes (first_walker [] lines) (ControlStop fault')) found other
+      (ap (λ f. closes (first_walker [] lines) (ControlStop f)) same) finds finds'
+  two_come found other (of_control fault none is finds) (of_walk program w is_program reaches finds') =
+      let e : ◌≡◌ {A = Result Program ControlFault} (Err fault) (Ok program) = sym is ∙ is_program.is_compiled in absurd (cc e)
+  two_come found other (of_walk program w is_program reaches finds) (of_cards fault is finds') =
+      let e : Some fault ≡ None = sym is ∙ is_program.is_read in absurd (cc e)
+  two_come found other (of_walk program w is_program reaches finds) (of_control fault none is finds') =
+      let e : ◌≡◌ {A = Result Program ControlFault} (Err fault) (Ok program) = sym is ∙ is_program.is_compiled in absurd (cc e)
   two_come found other (of_walk program w is_program reaches finds) (of_walk program' w' is_program' reaches' finds') =
       let e : ◌≡◌ {A = Result Program ControlFault} (Ok program') (Ok program) = sym is_program'.is_compiled ∙ is_program.is_compiled in
       let same : program' ≡ program = cc e in
@@ -122,7 +131,8 @@ module _ (C : Checker) (bytes lines : List ℕ) where
   one_comes = by_cards (job_fault bytes) refl
     where
       by_program : (r : Result Program ControlFault) → job_fault bytes ≡ None → compiled (cards_of bytes) ≡ r → ComesSo
-      by_program (Err fault) none is = let h = closes_finds (first_walker [] lines) (ControlStop fault) in record { found = h.found; comes = of_control fault none is h.is }
+      by_program (Err fault) none is =
+          let h = closes_finds (first_walker [] lines) (ControlStop fault) in record { found = h.found; comes = of_control fault none is h.is }
       by_program (Ok program) none is =
           let h = finds_some C program (job_decks program bytes) lines in
           record { found = h.found; comes = of_walk program h.walker (record { is_read = none; is_compiled = is }) h.reaches h.finds }
@@ -132,4 +142,5 @@ module _ (C : Checker) (bytes lines : List ℕ) where
       by_cards None is = by_program (compiled (cards_of bytes)) is refl
 
 pub one_comes_laws : (C : Checker) → OneComesLaw C
-one_comes_laws C bytes lines = let one = one_comes C bytes lines in (one.found, one.comes, λ other comes. two_come C bytes lines one.found other one.comes comes)
+one_comes_laws C bytes lines =
+    let one = one_comes C bytes lines in (one.found, one.comes, λ other comes. two_come C bytes lines one.found other one.comes comes)

@@ -25,7 +25,8 @@ Owes C Holds None setup cells = Holds
 Owes C Holds (Some pending) setup cells = ProvesObjective setup cells pending.objective → C.takes pending.check ≡ true → Holds
 
 -- where nothing is pending it holds
-pub holds_settled : (C : Checker) (Holds : Type 0) (pending : Option Pending) (setup : Option Present) (cells : Cells) → Owes C Holds pending setup cells → pending ≡ None → Holds
+pub holds_settled : (C : Checker) (Holds : Type 0) (pending : Option Pending) (setup : Option Present) (cells : Cells) → Owes C Holds pending setup cells →
+    pending ≡ None → Holds
 holds_settled C Holds None setup cells owed none = owed
 holds_settled C Holds (Some pending) setup cells owed none = absurd (cc none)
 
@@ -40,7 +41,9 @@ module _ (setup : Option Present) (cells : Cells) (later : Option Present) (move
     present = program.present;
     is_setup = sym same.setups ∙ program.is_setup;
     lp = program.lp;
-    is_selected = ap₂ (λ (a b : Option Name). selected program.present.problem (record { objective = a; rhs = b; options = program.present.options })) (sym same.objectives) (sym same.rhs) ∙ program.is_selected;
+    is_selected =
+        ap₂ (λ (a b : Option Name). selected program.present.problem (record { objective = a; rhs = b; options = program.present.options }))
+        (sym same.objectives) (sym same.rhs) ∙ program.is_selected;
     is_problem = program.is_problem;
     is_linear_program = program.is_linear_program;
   }
@@ -49,19 +52,24 @@ module _ (setup : Option Present) (cells : Cells) (later : Option Present) (move
   proves_before objective proves = record { program = program_before proves.program; best = proves.best }
 
 -- what is owed is owed still where the cells select the same, and more holds
-pub owes_on : (C : Checker) (Holds More : Type 0) (pending : Option Pending) (setup : Option Present) (cells : Cells) (later : Option Present) (moved : Cells) → Owes C Holds pending setup cells → More →
+pub owes_on : (C : Checker) (Holds More : Type 0) (pending : Option Pending) (setup : Option Present) (cells : Cells) (later : Option Present) (moved : Cells) →
+    Owes C Holds pending setup cells → More →
     ((p : Pending) → pending ≡ Some p → SelectsSame setup cells later moved) → Owes C (Holds × More) pending later moved
 owes_on C Holds More None setup cells later moved owed more same = (owed, more)
-owes_on C Holds More (Some p) setup cells later moved owed more same = λ proves takes. (owed (proves_before setup cells later moved (same p refl) p.objective proves) takes, more)
+owes_on C Holds More (Some p) setup cells later moved owed more same =
+    λ proves takes. (owed (proves_before setup cells later moved (same p refl) p.objective proves) takes, more)
 
 -- what the cells select after a path, they selected before it
-abbrev pub program_before_path : (setup : Option Present) (cells : Cells) (present : Present) (bases : List Basis) → setup ≡ Some present → PresentProgram (Some (gone_through bases present)) cells →
+abbrev pub program_before_path : (setup : Option Present) (cells : Cells) (present : Present) (bases : List Basis) → setup ≡ Some present →
+    PresentProgram (Some (gone_through bases present)) cells →
     PresentProgram setup cells
 program_before_path setup cells present bases set program = record {
   present = present;
   is_setup = set;
   lp = program.lp;
-  is_selected = ap (λ (p : Present). selected p.problem (choice_of cells p.options)) (same_Some (gone_through bases present) program.present program.is_setup) ∙ program.is_selected;
+  is_selected =
+      ap (λ (p : Present). selected p.problem (choice_of cells p.options)) (same_Some (gone_through bases present) program.present program.is_setup)
+      ∙ program.is_selected;
   is_problem = subst (λ (p : Present). IsProblem p.problem) (sym (same_Some (gone_through bases present) program.present program.is_setup)) program.is_problem;
   is_linear_program = program.is_linear_program;
 }

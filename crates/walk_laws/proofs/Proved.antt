@@ -12,6 +12,8 @@ judged_is_true C between past = record {
   solution = solution_is_true C;
   verdict = verdict_is_true C;
   dual = dual_is_not_unbounded C;
-  opening = λ parametric_run sheet rest after bases verdict check lawful may e. opening_is_true C sheet parametric_run rest after bases verdict check lawful may e;
-  chain = λ parametric_run sheet rest after bases intervals end lawful may e. chain_is_true C between past sheet parametric_run lawful may rest after bases intervals end e;
+  opening =
+      λ parametric_run sheet rest after bases verdict check lawful may e. opening_is_true C sheet parametric_run rest after bases verdict check lawful may e;
+  chain =
+      λ parametric_run sheet rest after bases intervals end lawful may e. chain_is_true C between past sheet parametric_run lawful may rest after bases intervals end e;
 }

@@ -15,7 +15,8 @@ use Rattle.walk_definitions.specs.Tables.{then_more}
 use Rattle.walk_definitions.specs.Reading.{with_check}
 
 module _ {X : Type 0} (P : X → Type 0) where
-  pub after_text : (text : List ℕ) (reads : List ℕ → Option X) (rest : List ℕ) → ((left : List ℕ) → IfSome (reads left) P) → IfSome (with_text text reads rest) P
+  pub after_text : (text : List ℕ) (reads : List ℕ → Option X) (rest : List ℕ) → ((left : List ℕ) → IfSome (reads left) P) →
+      IfSome (with_text text reads rest) P
   after_text text reads rest h = by (left_after text rest)
     where
       by : (left : Option (List ℕ)) → IfSome (option_and_then reads left) P
@@ -38,7 +39,8 @@ module _ {X : Type 0} (P : X → Type 0) where
   if_none_else true o h = tt
   if_none_else false o h = h refl
 
-  pub after_check : (reads : Check → List ℕ → Option X) (rest : List ℕ) → ((check : Check) (left : List ℕ) → IfSome (reads check left) P) → IfSome (with_check reads rest) P
+  pub after_check : (reads : Check → List ℕ → Option X) (rest : List ℕ) → ((check : Check) (left : List ℕ) → IfSome (reads check left) P) →
+      IfSome (with_check reads rest) P
   after_check reads rest h =
       one_or_other (with_text (codes "CHECKED\n") (reads reports.Checked) rest) _
       (after_text (codes "CHECKED\n") (reads reports.Checked) rest (h reports.Checked))

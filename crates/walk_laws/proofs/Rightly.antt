@@ -32,7 +32,8 @@ on_any P all (Right x rest) = all x
 on_any P all Fails = tt
 on_any P all Refuses = tt
 
-pub on_tested : (C : Checker) {X : Type 0} (P : X → Type 0) (test : X → Verdict) → ((x : X) → test x ≡ Checked → P x) → (reads : (List ℕ → Option ℚ) → List ℕ → Parsed X) (rest : List ℕ) → OnRight P (tested_by C test reads rest)
+pub on_tested : (C : Checker) {X : Type 0} (P : X → Type 0) (test : X → Verdict) → ((x : X) → test x ≡ Checked → P x) →
+    (reads : (List ℕ → Option ℚ) → List ℕ → Parsed X) (rest : List ℕ) → OnRight P (tested_by C test reads rest)
 on_tested C {X} P test passes reads rest = by_reading (is_some C.most_digits && is_some (reads (form_in C) rest)) (reads (fraction_in C) rest)
   where
     by : (got : X × List ℕ) (verdict : Verdict) → test got.0 ≡ verdict → OnRight P (by_verdict verdict got.0 got.1)
@@ -72,8 +73,10 @@ module _ (C : Checker) where
 
   on_path : (solver : Solver) (limit : Option ℕ) (sheet : Sheet) (rest : List ℕ) → OnRight OfEnd (judged C (OfPath solver limit) sheet rest)
   on_path solver limit sheet rest =
-      on_map OfEnd (λ (claim : Claim). Reached [] claim.0 claim.1) (tested_by C (λ (claim : Claim). verdict_test C sheet claim.0 claim.1) (λ of. verdict_in of sheet solver) rest)
-      (on_tested C (λ (claim : Claim). TakesUnlessOptimal claim.0 claim.1) (λ (claim : Claim). verdict_test C sheet claim.0 claim.1) (λ claim e. word_tested sheet claim.0 claim.1 e) (λ of. verdict_in of sheet solver) rest)
+      on_map OfEnd (λ (claim : Claim). Reached [] claim.0 claim.1)
+      (tested_by C (λ (claim : Claim). verdict_test C sheet claim.0 claim.1) (λ of. verdict_in of sheet solver) rest)
+      (on_tested C (λ (claim : Claim). TakesUnlessOptimal claim.0 claim.1) (λ (claim : Claim). verdict_test C sheet claim.0 claim.1)
+      (λ claim e. word_tested sheet claim.0 claim.1 e) (λ of. verdict_in of sheet solver) rest)
 
   pub path_word : (solver : Solver) (limit : Option ℕ) (sheet : Sheet) (rest after : List ℕ) (bases : List Basis) (verdict : PathVerdict) (check : Check) →
       judged C (OfPath solver limit) sheet rest ≡ Right (Reached bases verdict check) after → TakesUnlessOptimal verdict check
@@ -103,10 +106,13 @@ module _ (C : Checker) where
 
     on_run : (rest : List ℕ) (left : Option (List ℕ)) → OnRight OfRunEnd (parametric_run_in C sheet parametric_run rest left)
     on_run rest None =
-        on_map OfRunEnd (λ (claim : Claim). Opening [] claim.0 claim.1) (tested_by C opening_test (λ of. verdict_in of sheet (parametric_solver parametric_run.changing)) rest)
-        (on_tested C (λ (claim : Claim). TakesUnlessOptimal claim.0 claim.1) opening_test opening_tested (λ of. verdict_in of sheet (parametric_solver parametric_run.changing)) rest)
+        on_map OfRunEnd (λ (claim : Claim). Opening [] claim.0 claim.1)
+        (tested_by C opening_test (λ of. verdict_in of sheet (parametric_solver parametric_run.changing)) rest)
+        (on_tested C (λ (claim : Claim). TakesUnlessOptimal claim.0 claim.1) opening_test opening_tested
+        (λ of. verdict_in of sheet (parametric_solver parametric_run.changing)) rest)
     on_run rest (Some after) =
-        on_map OfRunEnd (λ (run : Run). Chained [] run.0 run.1) (run_in C sheet parametric_run after 1 parametric_run.from after) (on_any (λ (run : Run). Unit {0}) (λ run. tt) _)
+        on_map OfRunEnd (λ (run : Run). Chained [] run.0 run.1) (run_in C sheet parametric_run after 1 parametric_run.from after)
+        (on_any (λ (run : Run). Unit {0}) (λ run. tt) _)
 
     not_optimal : (verdict : PathVerdict) (check : Check) → IsTrueAtFirst first_sheet verdict → TakesUnlessOptimal verdict check → C.takes check ≡ true
     not_optimal (OptimalAt steps objective) check truth takes = absurd truth

@@ -36,7 +36,8 @@ number_is of word value e = by (of word) e
 slot_is : (of : List ℕ → Option ℚ) (rest : List ℕ) → IfSome (slot_in of AnyNumber rest) (λ got. IsNumber got.0)
 slot_is of rest =
     after_text (λ (got : Value × List ℕ). IsNumber got.0) (codes " ") _ rest (λ left.
-    after_word (λ (got : Value × List ℕ). IsNumber got.0) (value_in of AnyNumber) (λ value left. Some (value, left)) left (λ value is on. number_is of _ value is))
+    after_word (λ (got : Value × List ℕ). IsNumber got.0) (value_in of AnyNumber) (λ value left. Some (value, left)) left
+    (λ value is on. number_is of _ value is))
 
 none_more : (of : List ℕ → Option ℚ) (rest : List ℕ) → IfSome (values_in of [] rest) (λ got. got.0 ≡ [])
 none_more of rest = refl
@@ -61,7 +62,8 @@ module _ (of : List ℕ → Option ℚ) (sheet : Sheet) where
       (λ got p. ended got p (left_after (codes "\n") got.1))
     where
       ended : (got : List Value × List ℕ) → P got.0 → (o : Option (List ℕ))
-          → IfSome {T = Line × List ℕ} (option_map {U = Line × List ℕ} (λ (left : List ℕ). (line_of sheet k got.0, left)) o) (λ got. (values : List Value) × P values × (got.0 ≡ line_of sheet k values))
+          → IfSome {T = Line × List ℕ} (option_map {U = Line × List ℕ} (λ (left : List ℕ). (line_of sheet k got.0, left)) o)
+          (λ got. (values : List Value) × P values × (got.0 ≡ line_of sheet k values))
       ended got p None = tt
       ended got p (Some left) = (got.0, p, refl)
 
@@ -89,7 +91,8 @@ module _ (of : List ℕ → Option ℚ) (sheet : Sheet) where
       (weaker (line_in of sheet (pair_slots first) first rest) (line_is AreTwo (pair_slots first) first rest (two_are of)))
       (pairs_are (suc first) n) (λ line lines is are. (is, are))
     where
-      weaker : (o : Parsed Line) → IfSome o (λ got. (values : List Value) × AreTwo values × (got.0 ≡ line_of sheet first values)) → IfSome o (λ got. IsPair first got.0)
+      weaker : (o : Parsed Line) → IfSome o (λ got. (values : List Value) × AreTwo values × (got.0 ≡ line_of sheet first values)) →
+          IfSome o (λ got. IsPair first got.0)
       weaker None h = tt
       weaker (Some got) h = pair_is first got.0 h.0 h.1 h.2
 
@@ -110,7 +113,8 @@ module _ (of : List ℕ → Option ℚ) (sheet : Sheet) where
       → IfSome (table_in of sheet pair_slots (variables sheet.lp.matrix) rest) (λ got. got.0 ≡ pair_lines sheet (column_of 0 got.0) (column_of 1 got.0))
   pair_lines_are rest = by (table_in of sheet pair_slots (variables sheet.lp.matrix) rest) (pairs_are 1 (size sheet.lp.matrix) rest)
     where
-      by : (o : Parsed (List Line)) → IfSome o (λ got. ArePairs 1 (size sheet.lp.matrix) got.0) → IfSome o (λ got. got.0 ≡ pair_lines sheet (column_of 0 got.0) (column_of 1 got.0))
+      by : (o : Parsed (List Line)) → IfSome o (λ got. ArePairs 1 (size sheet.lp.matrix) got.0) →
+          IfSome o (λ got. got.0 ≡ pair_lines sheet (column_of 0 got.0) (column_of 1 got.0))
       by None h = tt
       by (Some got) h =
           pairs_of (value_at (column_of 0 got.0)) (value_at (column_of 1 got.0)) 1 (size sheet.lp.matrix) got.0 h
@@ -131,7 +135,8 @@ module _ (of : List ℕ → Option ℚ) (sheet : Sheet) where
       (line_is IsOne (AnyNumber ∷ []) k rest (one_is of))
       (λ got h. if_none_else (λ (got : Line × List ℕ). IsMultiplier k got.0) (eq_ℚ (number_at 0 got.0) zero_ℚ) (Some got) (made got h.0 h.1 h.2))
     where
-      made : (got : Line × List ℕ) (values : List Value) → IsOne values → got.0 ≡ line_of sheet k values → eq_ℚ (number_at 0 got.0) zero_ℚ ≡ false → IsMultiplier k got.0
+      made : (got : Line × List ℕ) (values : List Value) → IsOne values → got.0 ≡ line_of sheet k values → eq_ℚ (number_at 0 got.0) zero_ℚ ≡ false →
+          IsMultiplier k got.0
       made got values one e apart =
           let whole : got.0 ≡ line_of sheet k (Number one.0 ∷ []) = e ∙ ap (line_of sheet k) one.1 in
           record { number = one.0; is_apart = sym (ap (λ line. eq_ℚ (number_at 0 line) zero_ℚ) whole) ∙ apart; is_line = whole }
@@ -198,22 +203,29 @@ module _ (of : List ℕ → Option ℚ) (sheet : Sheet) where
   some_of f first (suc n) lines (inl later) is =
       let nothing : f first ≡ zero_ℚ = is first (omega arith) (omega arith) ∙ none_before (suc first) n first lines (omega arith) later in
       some_of f (suc first) n lines later (λ k low high. is k (omega arith) (omega arith))
-      ∙ ap (λ b. lines_of sheet (λ k. Number (f k) ∷ []) (cond (not b) (first ∷ filter (λ k. not (eq_ℚ (f k) zero_ℚ)) (numbers_from (suc first) n)) (filter (λ k. not (eq_ℚ (f k) zero_ℚ)) (numbers_from (suc first) n))))
+      ∙ ap (λ b. lines_of sheet (λ k. Number (f k) ∷ [])
+      (cond (not b) (first ∷ filter (λ k. not (eq_ℚ (f k) zero_ℚ)) (numbers_from (suc first) n))
+      (filter (λ k. not (eq_ℚ (f k) zero_ℚ)) (numbers_from (suc first) n))))
       (sym (test_from_same (f first) zero_ℚ nothing))
   some_of f first (suc n) lines (inr h) is =
       let number : h.0.number ≡ first = number_of_line first h.0 h.3 in
       let here : f first ≡ h.3.number =
       is first (omega arith) (omega arith) ∙ ap (numbered first) h.2 ∙ own_number first h.0 h.1 number ∙ ap (number_at 0) h.3.is_line in
       let apart : eq_ℚ (f first) zero_ℚ ≡ false = ap (λ x. eq_ℚ x zero_ℚ) here ∙ h.3.is_apart in
-      let rest = some_of f (suc first) n h.1 h.4 (λ k low high. is k (omega arith) (omega arith) ∙ ap (numbered k) h.2 ∙ other_number k h.0 h.1 (λ same. absurd (omega (arith, same, number, low)))) in
+      let rest =
+      some_of f (suc first) n h.1 h.4
+      (λ k low high. is k (omega arith) (omega arith) ∙ ap (numbered k) h.2 ∙ other_number k h.0 h.1 (λ same. absurd (omega (arith, same, number, low)))) in
       h.2 ∙ ap₂ (λ (l : Line) (ls : List Line). l ∷ ls) (h.3.is_line ∙ ap (λ x. line_of sheet first (Number x ∷ [])) (sym here)) rest
-      ∙ ap (λ b. lines_of sheet (λ k. Number (f k) ∷ []) (cond (not b) (first ∷ filter (λ k. not (eq_ℚ (f k) zero_ℚ)) (numbers_from (suc first) n)) (filter (λ k. not (eq_ℚ (f k) zero_ℚ)) (numbers_from (suc first) n))))
+      ∙ ap (λ b. lines_of sheet (λ k. Number (f k) ∷ [])
+      (cond (not b) (first ∷ filter (λ k. not (eq_ℚ (f k) zero_ℚ)) (numbers_from (suc first) n))
+      (filter (λ k. not (eq_ℚ (f k) zero_ℚ)) (numbers_from (suc first) n))))
       (sym apart)
 
   pub ray_lines_are : (rest : List ℕ) → IfSome (ray_in of sheet (variables sheet.lp.matrix) rest) (λ got. got.0 ≡ ray_lines sheet (multipliers sheet got.0))
   ray_lines_are rest = by (ray_in of sheet (variables sheet.lp.matrix) rest) (some_are of sheet 1 (size sheet.lp.matrix) rest)
     where
-      by : (o : Parsed (List Line)) → IfSome o (λ got. AreOfSome of sheet 1 (size sheet.lp.matrix) got.0) → IfSome o (λ got. got.0 ≡ ray_lines sheet (multipliers sheet got.0))
+      by : (o : Parsed (List Line)) → IfSome o (λ got. AreOfSome of sheet 1 (size sheet.lp.matrix) got.0) →
+          IfSome o (λ got. got.0 ≡ ray_lines sheet (multipliers sheet got.0))
       by None h = tt
       by (Some got) h =
           some_of (value_at (multipliers sheet got.0)) 1 (size sheet.lp.matrix) got.0 h

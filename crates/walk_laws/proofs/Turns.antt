@@ -18,7 +18,8 @@ On Walked Ended (Walks v) = Walked v
 On Walked Ended (Finds (Attested count)) = Ended count
 On Walked Ended (Finds found) = Unit {0}
 
-pub on_map : (Walked Walked' : Walker → Type 0) (Ended Ended' : ℕ → Type 0) → ((v : Walker) → Walked v → Walked' v) → ((count : ℕ) → Ended count → Ended' count) →
+pub on_map : (Walked Walked' : Walker → Type 0) (Ended Ended' : ℕ → Type 0) → ((v : Walker) → Walked v → Walked' v) →
+    ((count : ℕ) → Ended count → Ended' count) →
     (turn : WalkTurn) → On Walked Ended turn → On Walked' Ended' turn
 on_map Walked Walked' Ended Ended' walks ends (Walks v) on = walks v on
 on_map Walked Walked' Ended Ended' walks ends (Finds (Attested count)) on = ends count on
@@ -54,8 +55,10 @@ never_stop w = never_if (is_open_stop w.rest) w
 pub never_outcome : (w : Walker) (outcome : StatementOutcome) → NeverAttests (open_outcome w outcome)
 never_outcome w (Ends gain ending) = never_either (open_stop w) (open_pending w) (never_stop w) (never_pending w.pending)
 never_outcome w (Goes Nothing after) = never_unmarked (is_none after.mark) w.pending
-never_outcome w (Goes (Prints report) after) = never_either (open_stop w) (if is_none after.mark then open_pending w else None) (never_stop w) (never_unmarked (is_none after.mark) w.pending)
-never_outcome w (Goes (Punches report cards) after) = never_either (open_stop w) (if is_none after.mark then open_pending w else None) (never_stop w) (never_unmarked (is_none after.mark) w.pending)
+never_outcome w (Goes (Prints report) after) =
+    never_either (open_stop w) (if is_none after.mark then open_pending w else None) (never_stop w) (never_unmarked (is_none after.mark) w.pending)
+never_outcome w (Goes (Punches report cards) after) =
+    never_either (open_stop w) (if is_none after.mark then open_pending w else None) (never_stop w) (never_unmarked (is_none after.mark) w.pending)
 
 pub none_either : (a b : Option Found) → option_or a b ≡ None → (a ≡ None) × (b ≡ None)
 none_either None b e = (refl, e)
@@ -71,7 +74,8 @@ marked true None p is none = absurd (cc is)
 marked true (Some q) p is none = absurd (cc none)
 marked false pending p is none = refl
 
-pub stays_marked : (w : Walker) (gain : Gain) (after : State) (p : Pending) → w.pending ≡ Some p → open_outcome w (Goes gain after) ≡ None → is_none after.mark ≡ false
+pub stays_marked : (w : Walker) (gain : Gain) (after : State) (p : Pending) → w.pending ≡ Some p → open_outcome w (Goes gain after) ≡ None →
+    is_none after.mark ≡ false
 stays_marked w Nothing after p is none = marked (is_none after.mark) w.pending p is none
 stays_marked w (Prints report) after p is none =
     marked (is_none after.mark) w.pending p is (none_either (open_stop w) (if is_none after.mark then open_pending w else None) none).1

@@ -28,8 +28,10 @@ both_parts false b e = absurd (cc e)
 
 no_evidence : (C : Checker) (move : StatementMove) → refuses_selection move ≡ false → HasEvidence (attested C) move → ⊥
 no_evidence C (Does outcome) e evidence = evidence
-no_evidence C (MayStop (InSelection problem choice) move) e (inl viewed) = (made_iff problem choice).0 (both_parts (is_made problem choice) (refuses_selection move) e).0 viewed.0 viewed.2.0
-no_evidence C (MayStop (InSelection problem choice) move) e (inr later) = no_evidence C move (both_parts (is_made problem choice) (refuses_selection move) e).1 later
+no_evidence C (MayStop (InSelection problem choice) move) e (inl viewed) =
+    (made_iff problem choice).0 (both_parts (is_made problem choice) (refuses_selection move) e).0 viewed.0 viewed.2.0
+no_evidence C (MayStop (InSelection problem choice) move) e (inr later) =
+    no_evidence C move (both_parts (is_made problem choice) (refuses_selection move) e).1 later
 no_evidence C (MayStop (InAnswer question sheet bases) move) e (inl viewed) = viewed.2
 no_evidence C (MayStop (InAnswer question sheet bases) move) e (inr later) = no_evidence C move e later
 no_evidence C (Asks question sheet s go) e evidence = evidence
@@ -39,10 +41,12 @@ no_evidence C (Asks question sheet s go) e evidence = evidence
 never_asked : (w : Walker) (question : Question) (sheet : Sheet) (go : AnswerTo question → StatementOutcome) → NeverAttests (open_question w question sheet go)
 never_asked w (OfSolution mark) sheet go = never_stop w
 never_asked w OfRanges sheet go = never_either (open_stop w) (open_if (is_ranges w.rest) w) (never_stop w) (never_if (is_ranges w.rest) w)
-never_asked w OfPunch sheet go = never_either (open_stop w) (open_if (is_punched sheet.problem.name w.rest) w) (never_stop w) (never_if (is_punched sheet.problem.name w.rest) w)
+never_asked w OfPunch sheet go =
+    never_either (open_stop w) (open_if (is_punched sheet.problem.name w.rest) w) (never_stop w) (never_if (is_punched sheet.problem.name w.rest) w)
 never_asked w (OfInstall basis) sheet go =
     never_either (open_stop w) (option_or (open_if (is_inserted_by (go Installed) w.rest) w) (open_pending w)) (never_stop w)
-    (never_either (open_if (is_inserted_by (go Installed) w.rest) w) (open_pending w) (never_if (is_inserted_by (go Installed) w.rest) w) (never_pending w.pending))
+    (never_either (open_if (is_inserted_by (go Installed) w.rest) w) (open_pending w) (never_if (is_inserted_by (go Installed) w.rest) w)
+    (never_pending w.pending))
 never_asked w (OfPath solver limit) sheet go = never_either (open_stop w) (open_pending w) (never_stop w) (never_pending w.pending)
 never_asked w (OfParametricRun parametric_run) sheet go = never_either (open_stop w) (open_pending w) (never_stop w) (never_pending w.pending)
 
@@ -53,7 +57,8 @@ never_opened w (Asks question sheet s go) = never_asked w question sheet go
 
 -- ---- the statement by which a walk ends attested
 
-is_due : (o : Option Found) (refused : Bool) (rest : List ℕ) (turn : WalkTurn) (count : ℕ) → NeverAttests o → unless_found o (if refused then Finds (Unchecked rest) else turn) ≡ Finds (Attested count) → refused ≡ false
+is_due : (o : Option Found) (refused : Bool) (rest : List ℕ) (turn : WalkTurn) (count : ℕ) → NeverAttests o →
+    unless_found o (if refused then Finds (Unchecked rest) else turn) ≡ Finds (Attested count) → refused ≡ false
 is_due None false rest turn count never e = refl
 is_due None true rest turn count never e = absurd (cc e)
 is_due (Some found) refused rest turn count never e =
@@ -68,7 +73,8 @@ module _ (C : Checker) (program : Program) (w : Walker) (count : ℕ) (outcome :
   by_move e = is_due (opened w move) (refuses_selection move) w.rest (due C w move) count (never_opened w move) e
 
   by_limit : (below : Bool) → nat_lt w.state.executed max_executed ≡ below →
-      (if below then walk_statement C w (slice_get program.statements (w.state.position - 1)) else closes w StatementLimit) ≡ Finds (Attested count) → refuses_selection move ≡ false
+      (if below then walk_statement C w (slice_get program.statements (w.state.position - 1)) else closes w StatementLimit) ≡ Finds (Attested count) →
+      refuses_selection move ≡ false
   by_limit true is e = by_move (subst (λ (o : Option (Statement ℕ)). walk_statement C w o ≡ Finds (Attested count)) step.is_at_position e)
   by_limit false is e =
       let limit = ltb-false w.state.executed max_executed is in
@@ -77,7 +83,8 @@ module _ (C : Checker) (program : Program) (w : Walker) (count : ℕ) (outcome :
 
   by_end : (past : Bool) → nat_lt (length program.statements) w.state.position ≡ past →
       (if past then closes w (Ended 0)
-      else if nat_lt w.state.executed max_executed then walk_statement C w (slice_get program.statements (w.state.position - 1)) else closes w StatementLimit) ≡ Finds (Attested count) →
+      else if nat_lt w.state.executed max_executed then walk_statement C w
+      (slice_get program.statements (w.state.position - 1)) else closes w StatementLimit) ≡ Finds (Attested count) →
       refuses_selection move ≡ false
   by_end true is e =
       let after = ltb-true (length program.statements) w.state.position is in
@@ -89,11 +96,13 @@ module _ (C : Checker) (program : Program) (w : Walker) (count : ℕ) (outcome :
   unfolding turn
   not_refused e = by_end (nat_lt (length program.statements) w.state.position) refl e
 
-pub ends_unstopped : (C : Checker) (program : Program) (w : Walker) (count : ℕ) (gain : Gain) (ending : Ending) → Step (attested C) program w.state (Ends gain ending) → turn C program w ≡ Finds (Attested count) → IsOverflow ending → ⊥
+pub ends_unstopped : (C : Checker) (program : Program) (w : Walker) (count : ℕ) (gain : Gain) (ending : Ending) →
+    Step (attested C) program w.state (Ends gain ending) → turn C program w ≡ Finds (Attested count) → IsOverflow ending → ⊥
 ends_unstopped C program w count gain ending step e stop =
     no_evidence C (verb_move step.statement.verb step.statement.card (counted w.state)) (not_refused C program w count (Ends gain ending) step e)
     (statement_evidence (attested C) step.statement.card gain stop.0 step.statement.verb (counted w.state)
-    (subst (λ (x : Ending). Gives (attested C) step.statement.card (verb_move step.statement.verb step.statement.card (counted w.state)) (Ends gain x)) stop.1 step.gives))
+    (subst (λ (x : Ending). Gives (attested C) step.statement.card (verb_move step.statement.verb step.statement.card (counted w.state))
+    (Ends gain x)) stop.1 step.gives))
 
 pub over_unstopped : (C : Checker) (program : Program) (state : State) (ending : Ending) → IsOver (attested C) program state ending → IsOverflow ending → ⊥
 over_unstopped C program state _ (at_end past) stop = let e = stop.1 in cc e

@@ -24,10 +24,13 @@ use Rattle.walk_laws.proofs.Lines.{table_tells, ray_tells}
 operation_spells : Spells (named all_operations) operation_text
 operation_spells = named_spells operation_text (Add ∷ Sub ∷ Mul ∷ Div ∷ [])
 
-as_check : (before op left right : List ℕ) → (((((before ++ codes "UNCHECKED ") ++ op) ++ codes " ") ++ left) ++ codes " ") ++ right ++ codes "\n" ≡ before ++ ((codes "UNCHECKED " ++ (op ++ (codes " " ++ (left ++ (codes " " ++ (right ++ [])))))) ++ codes "\n")
+as_check : (before op left right : List ℕ) →
+    (((((before ++ codes "UNCHECKED ") ++ op) ++ codes " ") ++ left) ++ codes " ") ++ right ++ codes "\n" ≡ before ++
+    ((codes "UNCHECKED " ++ (op ++ (codes " " ++ (left ++ (codes " " ++ (right ++ [])))))) ++ codes "\n")
 as_check before op left right = simp (append_assoc, append-nil)
 
-pub after_check : {X : Type 0} (before : List ℕ) (reads : Check → List ℕ → Parsed X) (whole : X → List ℕ) → ((check : Check) → Tells (before ++ (check_text check ++ codes "\n")) (reads check) whole) → Tells before (with_check reads) whole
+pub after_check : {X : Type 0} (before : List ℕ) (reads : Check → List ℕ → Parsed X) (whole : X → List ℕ) →
+    ((check : Check) → Tells (before ++ (check_text check ++ codes "\n")) (reads check) whole) → Tells before (with_check reads) whole
 after_check before reads whole tells =
     either before _ _ whole (after_text before (codes "CHECKED\n") (reads Checked) whole (tells Checked))
     (after_text before (codes "UNCHECKED ") _ whole (after_word _ (named all_operations) operation_text _ whole operation_spells (λ op.
@@ -41,21 +44,27 @@ after_check before reads whole tells =
 abbrev pub claim_text : Claim → List ℕ
 claim_text claim = verdict_head claim.0 ++ (codes " " ++ (check_text claim.1 ++ (codes "\n" ++ table_text (verdict_lines claim.0))))
 
-as_optimal : (steps objective check : List ℕ) → ((((codes "OPTIMAL STEPS " ++ steps) ++ codes " OBJECTIVE ") ++ objective) ++ codes " ") ++ (check ++ codes "\n") ≡
+as_optimal : (steps objective check : List ℕ) →
+    ((((codes "OPTIMAL STEPS " ++ steps) ++ codes " OBJECTIVE ") ++ objective) ++ codes " ") ++ (check ++ codes "\n") ≡
     (codes "OPTIMAL STEPS " ++ (steps ++ (codes " OBJECTIVE " ++ (objective ++ [])))) ++ (codes " " ++ (check ++ (codes "\n" ++ [])))
 as_optimal steps objective check = simp (append_assoc, append-nil)
 
-as_crossed : (number check : List ℕ) → ((codes "INFEASIBLE STEPS 0 CROSSED " ++ number) ++ codes " ") ++ (check ++ codes "\n") ≡ (codes "INFEASIBLE STEPS 0 CROSSED " ++ number) ++ (codes " " ++ (check ++ (codes "\n" ++ [])))
+as_crossed : (number check : List ℕ) →
+    ((codes "INFEASIBLE STEPS 0 CROSSED " ++ number) ++ codes " ") ++ (check ++ codes "\n") ≡ (codes "INFEASIBLE STEPS 0 CROSSED " ++ number) ++
+    (codes " " ++ (check ++ (codes "\n" ++ [])))
 as_crossed number check = simp (append_assoc, append-nil)
 
-as_infeasible : (first steps ray blank check end lines : List ℕ) → (((first ++ steps) ++ (ray ++ blank)) ++ (check ++ end)) ++ lines ≡ (first ++ (steps ++ (ray ++ []))) ++ (blank ++ (check ++ (end ++ lines)))
+as_infeasible : (first steps ray blank check end lines : List ℕ) →
+    (((first ++ steps) ++ (ray ++ blank)) ++ (check ++ end)) ++ lines ≡ (first ++ (steps ++ (ray ++ []))) ++ (blank ++ (check ++ (end ++ lines)))
 as_infeasible first steps ray blank check end lines = simp (append_assoc, append-nil)
 
 as_unbounded : (first steps then objective blank check end lines : List ℕ) → (((((first ++ steps) ++ then) ++ objective) ++ blank) ++ (check ++ end)) ++ lines ≡
     (first ++ (steps ++ (then ++ (objective ++ [])))) ++ (blank ++ (check ++ (end ++ lines)))
 as_unbounded first steps then objective blank check end lines = simp (append_assoc, append-nil)
 
-as_verdict : (solver head check lines : List ℕ) → (solver ++ codes " ") ++ (head ++ (codes " " ++ (check ++ (codes "\n" ++ lines)))) ≡ solver ++ (codes " " ++ (head ++ (codes " " ++ (check ++ (codes "\n" ++ (lines ++ []))))))
+as_verdict : (solver head check lines : List ℕ) →
+    (solver ++ codes " ") ++ (head ++ (codes " " ++ (check ++ (codes "\n" ++ lines)))) ≡ solver ++
+    (codes " " ++ (head ++ (codes " " ++ (check ++ (codes "\n" ++ (lines ++ []))))))
 as_verdict solver head check lines = simp (append_assoc, append-nil)
 
 module _ (of : List ℕ → Option ℚ) (spells : Spells of rational_text) (sheet : Sheet) where
@@ -68,7 +77,8 @@ module _ (of : List ℕ → Option ℚ) (spells : Spells of rational_text) (shee
 
   crossed_tells : Tells [] (crossed_in sheet) claim_text
   crossed_tells =
-      after_text [] (codes "INFEASIBLE STEPS 0 CROSSED ") _ claim_text (after_word _ (count_in (size sheet.lp.matrix)) digits _ claim_text (count_spells (size sheet.lp.matrix)) (λ k.
+      after_text [] (codes "INFEASIBLE STEPS 0 CROSSED ") _ claim_text
+      (after_word _ (count_in (size sheet.lp.matrix)) digits _ claim_text (count_spells (size sheet.lp.matrix)) (λ k.
       after_text _ (codes " ") _ claim_text (after_check _ _ claim_text (λ check.
       unless (λ rest. nat_eq k 0) _ _ claim_text (done _ (CrossedAt k, check) claim_text (as_crossed (digits k) (check_text check)))))))
 
@@ -76,7 +86,8 @@ module _ (of : List ℕ → Option ℚ) (spells : Spells of rational_text) (shee
   infeasible_tells =
       after_text [] (codes "INFEASIBLE STEPS ") _ claim_text (after_word _ (count_in max_count) digits _ claim_text (count_spells max_count) (λ steps.
       after_text _ (codes " RAY ") _ claim_text (after_check _ _ claim_text (λ check.
-      made _ (ray_in of sheet (variables sheet.lp.matrix)) table_text (λ lines. (InfeasibleBy steps lines, check)) claim_text (ray_tells of spells sheet (variables sheet.lp.matrix))
+      made _ (ray_in of sheet (variables sheet.lp.matrix)) table_text (λ lines. (InfeasibleBy steps lines, check)) claim_text
+      (ray_tells of spells sheet (variables sheet.lp.matrix))
       (λ lines. as_infeasible (codes "INFEASIBLE STEPS ") (digits steps) (codes " RAY") (codes " ") (check_text check) (codes "\n") (table_text lines))))))
 
   unbounded_tells : Tells [] (unbounded_in of sheet) claim_text
@@ -84,14 +95,25 @@ module _ (of : List ℕ → Option ℚ) (spells : Spells of rational_text) (shee
       after_text [] (codes "UNBOUNDED STEPS ") _ claim_text (after_word _ (count_in max_count) digits _ claim_text (count_spells max_count) (λ steps.
       after_text _ (codes " OBJECTIVE ") _ claim_text (after_word _ of rational_text _ claim_text spells (λ objective.
       after_text _ (codes " ") _ claim_text (after_check _ _ claim_text (λ check.
-      made _ (table_in of sheet pair_slots (variables sheet.lp.matrix)) table_text (λ lines. (UnboundedBy steps objective lines, check)) claim_text (table_tells of spells sheet pair_slots (variables sheet.lp.matrix))
-      (λ lines. as_unbounded (codes "UNBOUNDED STEPS ") (digits steps) (codes " OBJECTIVE ") (rational_text objective) (codes " ") (check_text check) (codes "\n") (table_text lines))))))))
+      made _ (table_in of sheet pair_slots (variables sheet.lp.matrix)) table_text (λ lines. (UnboundedBy steps objective lines, check)) claim_text
+      (table_tells of spells sheet pair_slots (variables sheet.lp.matrix))
+      (λ lines. as_unbounded (codes "UNBOUNDED STEPS ") (digits steps) (codes " OBJECTIVE ") (rational_text objective) (codes " ") (check_text check)
+      (codes "\n") (table_text lines))))))))
 
   claim_tells : (solver : Solver) → Tells [] (claim_in of sheet solver) claim_text
-  claim_tells Primal = either [] (optimal_in of sheet) _ claim_text optimal_tells (either [] (crossed_in sheet) _ claim_text crossed_tells (either [] (infeasible_in of sheet) (unbounded_in of sheet) claim_text infeasible_tells unbounded_tells))
-  claim_tells Dual = either [] (optimal_in of sheet) _ claim_text optimal_tells (either [] (crossed_in sheet) (infeasible_in of sheet) claim_text crossed_tells infeasible_tells)
-  claim_tells Paraobj = either [] (crossed_in sheet) _ claim_text crossed_tells (either [] (infeasible_in of sheet) (unbounded_in of sheet) claim_text infeasible_tells unbounded_tells)
-  claim_tells Pararhs = either [] (crossed_in sheet) _ claim_text crossed_tells (either [] (infeasible_in of sheet) (unbounded_in of sheet) claim_text infeasible_tells unbounded_tells)
+  claim_tells Primal =
+      either [] (optimal_in of sheet) _ claim_text optimal_tells
+      (either [] (crossed_in sheet) _ claim_text crossed_tells
+      (either [] (infeasible_in of sheet) (unbounded_in of sheet) claim_text infeasible_tells unbounded_tells))
+  claim_tells Dual =
+      either [] (optimal_in of sheet) _ claim_text optimal_tells
+      (either [] (crossed_in sheet) (infeasible_in of sheet) claim_text crossed_tells infeasible_tells)
+  claim_tells Paraobj =
+      either [] (crossed_in sheet) _ claim_text crossed_tells
+      (either [] (infeasible_in of sheet) (unbounded_in of sheet) claim_text infeasible_tells unbounded_tells)
+  claim_tells Pararhs =
+      either [] (crossed_in sheet) _ claim_text crossed_tells
+      (either [] (infeasible_in of sheet) (unbounded_in of sheet) claim_text infeasible_tells unbounded_tells)
 
   pub verdict_tells : (solver : Solver) → Tells [] (verdict_in of sheet solver) (λ claim. verdict_text solver claim.0 claim.1)
   verdict_tells solver =

@@ -36,13 +36,15 @@ module _ (C : Checker) (sheet : Sheet) (lawful : IsLinearProgram sheet.lp) where
   crossed_is_true : (k : ℕ) → IsVariable sheet.lp.matrix k → AllHold (crossed_steps sheet.lp k) → IsCrossed sheet.lp k × IsInfeasible sheet.lp
   crossed_is_true k is e = let crossed = crossed_if_held sheet.lp k is e in (crossed, infeasible_by_crossed sheet.lp k crossed)
 
-  ray_is_true : (lines : List Line) → lines ≡ ray_lines sheet (multipliers sheet lines) → AllHold (infeasible_steps sheet.lp (value_at (multipliers sheet lines)))
+  ray_is_true : (lines : List Line) → lines ≡ ray_lines sheet (multipliers sheet lines)
+      → AllHold (infeasible_steps sheet.lp (value_at (multipliers sheet lines)))
       → AreLinesOfRay sheet lines × IsInfeasible sheet.lp
   ray_is_true lines are e =
       let is_ray = infeasible_ray_if_held sheet.lp lawful.is_matrix (value_at (multipliers sheet lines)) e in
       (record { ray = multipliers sheet lines; is_ray = is_ray; are_lines = are }, infeasible_by_ray sheet.lp (value_at (multipliers sheet lines)) is_ray)
 
-  growth_is_true : (steps : ℕ) (objective : ℚ) (lines : List Line) → lines ≡ pair_lines sheet (column_of 0 lines) (column_of 1 lines) → claim_test C sheet (UnboundedBy steps objective lines) ≡ Checked
+  growth_is_true : (steps : ℕ) (objective : ℚ) (lines : List Line) → lines ≡ pair_lines sheet (column_of 0 lines) (column_of 1 lines)
+      → claim_test C sheet (UnboundedBy steps objective lines) ≡ Checked
       → AreLinesOfGrowth sheet objective lines × IsUnbounded sheet.lp
   growth_is_true steps objective lines are e =
       let z : Vector = value_at (column_of 0 lines) in
@@ -60,7 +62,8 @@ module _ (C : Checker) (sheet : Sheet) (lawful : IsLinearProgram sheet.lp) where
       )
 
   -- what is formed so and passes is true
-  pub claim_is_true : (solver : Solver) (verdict : PathVerdict) (check : Check) → (MayBeOptimal solver → ⊥) → IsFormed solver sheet verdict → verdict_test C sheet verdict check ≡ Checked → IsTrueAtFirst sheet verdict
+  pub claim_is_true : (solver : Solver) (verdict : PathVerdict) (check : Check) → (MayBeOptimal solver → ⊥) → IsFormed solver sheet verdict →
+      verdict_test C sheet verdict check ≡ Checked → IsTrueAtFirst sheet verdict
   claim_is_true solver (OptimalAt steps objective) check never formed e = never formed
   claim_is_true solver (CrossedAt k) check never formed e = crossed_is_true k formed (held (crossed_steps sheet.lp k) check e)
   claim_is_true solver (InfeasibleBy steps lines) check never formed e =
@@ -69,7 +72,8 @@ module _ (C : Checker) (sheet : Sheet) (lawful : IsLinearProgram sheet.lp) where
       growth_is_true steps objective lines formed.1 (each_checked (claim_test C sheet (UnboundedBy steps objective lines) ∷ asked (C.takes check) ∷ []) e).0
 
   -- without a change row the activity of the objective row is the objective
-  direction_of : sheet.lp.change ≡ None → (objective : ℚ) (lines : List Line) → AreLinesOfGrowth sheet objective lines → AreLinesOfDirection sheet objective lines
+  direction_of : sheet.lp.change ≡ None → (objective : ℚ) (lines : List Line) → AreLinesOfGrowth sheet objective lines →
+      AreLinesOfDirection sheet objective lines
   direction_of none objective lines h = record {
     point = h.point;
     direction = h.direction;
@@ -78,13 +82,15 @@ module _ (C : Checker) (sheet : Sheet) (lawful : IsLinearProgram sheet.lp) where
     are_lines = h.are_lines;
   }
 
-  pub verdict_of_claim : (solver : Solver) (verdict : PathVerdict) (check : Check) → sheet.lp.change ≡ None → IsFormed solver sheet verdict → verdict_test C sheet verdict check ≡ Checked → IsTrueUnlessOptimal sheet verdict
+  pub verdict_of_claim : (solver : Solver) (verdict : PathVerdict) (check : Check) → sheet.lp.change ≡ None → IsFormed solver sheet verdict →
+      verdict_test C sheet verdict check ≡ Checked → IsTrueUnlessOptimal sheet verdict
   verdict_of_claim solver (OptimalAt steps objective) check none formed e = tt
   verdict_of_claim solver (CrossedAt k) check none formed e = crossed_is_true k formed (held (crossed_steps sheet.lp k) check e)
   verdict_of_claim solver (InfeasibleBy steps lines) check none formed e =
       ray_is_true lines formed (held (infeasible_steps sheet.lp (value_at (multipliers sheet lines))) check e)
   verdict_of_claim solver (UnboundedBy steps objective lines) check none formed e =
-      let h = growth_is_true steps objective lines formed.1 (each_checked (claim_test C sheet (UnboundedBy steps objective lines) ∷ asked (C.takes check) ∷ []) e).0 in
+      let h =
+      growth_is_true steps objective lines formed.1 (each_checked (claim_test C sheet (UnboundedBy steps objective lines) ∷ asked (C.takes check) ∷ []) e).0 in
       (direction_of none objective lines h.0, h.1)
 
 -- ---- the answer to the question for a path
@@ -94,7 +100,8 @@ record IsJudged (C : Checker) (solver : Solver) (sheet : Sheet) (verdict : PathV
   formed : IsFormed solver sheet verdict
   passes : verdict_test C sheet verdict check ≡ Checked
 
-path_is_judged : (C : Checker) (solver : Solver) (limit : Option ℕ) (sheet : Sheet) (rest after : List ℕ) (bases : List Basis) (verdict : PathVerdict) (check : Check) →
+path_is_judged : (C : Checker) (solver : Solver) (limit : Option ℕ) (sheet : Sheet) (rest after : List ℕ) (bases : List Basis) (verdict : PathVerdict)
+    (check : Check) →
     judged C (OfPath solver limit) sheet rest ≡ Right (Reached bases verdict check) after → IsJudged C solver sheet verdict check
 path_is_judged C solver limit sheet rest after bases verdict check e =
     let test : Claim → Verdict = λ claim. verdict_test C sheet claim.0 claim.1 in
@@ -103,7 +110,8 @@ path_is_judged C solver limit sheet rest after bases verdict check e =
     let right = right_is_passed C test (λ of. verdict_in of sheet solver) rest made.made_of after made.is_right in
     of_same made.made_of made.is_made (verdict_formed (fraction_in C) sheet solver rest after made.made_of right.is_read) right.passes
   where
-    of_same : (claim : Claim) → Reached [] claim.0 claim.1 ≡ Reached bases verdict check → IsFormed solver sheet claim.0 → verdict_test C sheet claim.0 claim.1 ≡ Checked → IsJudged C solver sheet verdict check
+    of_same : (claim : Claim) → Reached [] claim.0 claim.1 ≡ Reached bases verdict check → IsFormed solver sheet claim.0 →
+        verdict_test C sheet claim.0 claim.1 ≡ Checked → IsJudged C solver sheet verdict check
     of_same claim e formed passes =
         let same : claim.0 ≡ verdict = cc in
         let word : claim.1 ≡ check = cc in
@@ -112,14 +120,16 @@ path_is_judged C solver limit sheet rest after bases verdict check e =
           passes = sym (λ i. verdict_test C sheet (same i) (word i)) ∙ passes;
         }
 
-pub verdict_is_true : (C : Checker) (solver : Solver) (limit : Option ℕ) (sheet : Sheet) (rest after : List ℕ) (bases : List Basis) (verdict : PathVerdict) (check : Check) →
+pub verdict_is_true : (C : Checker) (solver : Solver) (limit : Option ℕ) (sheet : Sheet) (rest after : List ℕ) (bases : List Basis) (verdict : PathVerdict)
+    (check : Check) →
     IsLinearProgram sheet.lp → sheet.lp.change ≡ None →
     judged C (OfPath solver limit) sheet rest ≡ Right (Reached bases verdict check) after → IsTrueUnlessOptimal sheet verdict
 verdict_is_true C solver limit sheet rest after bases verdict check lawful none e =
     let h = path_is_judged C solver limit sheet rest after bases verdict check e in
     verdict_of_claim C sheet lawful solver verdict check none h.formed h.passes
 
-pub dual_is_not_unbounded : (C : Checker) (limit : Option ℕ) (sheet : Sheet) (rest after : List ℕ) (bases : List Basis) (verdict : PathVerdict) (check : Check) →
+pub dual_is_not_unbounded : (C : Checker) (limit : Option ℕ) (sheet : Sheet) (rest after : List ℕ) (bases : List Basis) (verdict : PathVerdict)
+    (check : Check) →
     judged C (OfPath Dual limit) sheet rest ≡ Right (Reached bases verdict check) after → IsNotUnbounded verdict
 dual_is_not_unbounded C limit sheet rest after bases verdict check e = by verdict (path_is_judged C Dual limit sheet rest after bases verdict check e).formed
   where

@@ -45,7 +45,8 @@ module _ (C : Checker) (program : Program) (Holds : Type 0) (w : Walker) where
 
   pub data Finishes (count : ℕ) : Type 0 where
     over : (ending : Ending) → IsOver (attested C) program w.state ending → w.rest ≡ ending_text ending → count ≡ w.reports → Holds → Finishes count
-    by_statement : (gain : Gain) (ending : Ending) → Step (attested C) program w.state (Ends gain ending) → w.rest ≡ reports_text (printed_by gain) ++ ending_text ending →
+    by_statement : (gain : Gain) (ending : Ending) → Step (attested C) program w.state (Ends gain ending) →
+        w.rest ≡ reports_text (printed_by gain) ++ ending_text ending →
         count ≡ w.reports + length (printed_by gain) → Holds × All (Says C w.state) (printed_by gain) → Finishes count
 
 past_end : (statements : List (Statement ℕ)) (k : ℕ) → slice_get statements k ≡ None → length statements ≤ k
@@ -53,7 +54,8 @@ past_end [] k e = omega arith
 past_end (statement ∷ statements) zero e = absurd (cc e)
 past_end (statement ∷ statements) (suc k) e = let rest = past_end statements k e in omega (arith, rest)
 
-module _ (C : Checker) (reading : ReadingLaw C) (truth : JudgedLaws C) (program : Program) (Holds : Type 0) (w : Walker) (owed : Owes C Holds w.pending w.state.setup w.state.cells) (lawful : HasProblem w.state.setup)
+module _ (C : Checker) (reading : ReadingLaw C) (truth : JudgedLaws C) (program : Program) (Holds : Type 0) (w : Walker)
+    (owed : Owes C Holds w.pending w.state.setup w.state.cells) (lawful : HasProblem w.state.setup)
     (inside : length program.statements ≤ w.state.position - 1 → length program.statements < w.state.position) where
   closes_over : (ending : Ending) → IsOver (attested C) program w.state ending → On (StepsTo C program Holds w) (Finishes C program Holds w) (closes w ending)
   closes_over ending is = on_closes (StepsTo C program Holds w) (Finishes C program Holds w) w ending (λ settled text.
@@ -71,15 +73,18 @@ module _ (C : Checker) (reading : ReadingLaw C) (truth : JudgedLaws C) (program 
         counted = on.counted;
         owes = on.owes;
       })
-      (λ count so. by_statement so.gain so.ending (record { statement = statement; is_at_position = at; is_within_limit = below; gives = so.gives }) so.text so.counted so.holds)
+      (λ count so. by_statement so.gain so.ending
+      (record { statement = statement; is_at_position = at; is_within_limit = below; gives = so.gives }) so.text so.counted so.holds)
       (walk_move C w move) (verb_followed C reading truth Holds w owed lawful statement.verb statement.card).comes
 
-  stated : w.state.executed < max_executed → (o : Option (Statement ℕ)) → slice_get program.statements (w.state.position - 1) ≡ o → On (StepsTo C program Holds w) (Finishes C program Holds w) (walk_statement C w o)
+  stated : w.state.executed < max_executed → (o : Option (Statement ℕ)) → slice_get program.statements (w.state.position - 1) ≡ o →
+      On (StepsTo C program Holds w) (Finishes C program Holds w) (walk_statement C w o)
   stated below None at = closes_over (Ended 0) (at_end (inside (past_end program.statements (w.state.position - 1) at)))
   stated below (Some statement) at = executes statement at below
 
   limited : w.state.position ≤ length program.statements → (below : Bool) → nat_lt w.state.executed max_executed ≡ below →
-      On (StepsTo C program Holds w) (Finishes C program Holds w) (if below then walk_statement C w (slice_get program.statements (w.state.position - 1)) else closes w StatementLimit)
+      On (StepsTo C program Holds w) (Finishes C program Holds w)
+      (if below then walk_statement C w (slice_get program.statements (w.state.position - 1)) else closes w StatementLimit)
   limited within true is = stated (ltb-true w.state.executed max_executed is) (slice_get program.statements (w.state.position - 1)) refl
   limited within false is = closes_over StatementLimit (at_limit within (ltb-false w.state.executed max_executed is))
 
@@ -108,21 +113,28 @@ module _ (C : Checker) (reading : ReadingLaw C) (truth : JudgedLaws C) (bytes li
     pub owes : Owes C (HoldSoFar (attested C) (Says C) program decks reaches) w.pending w.state.setup w.state.cells
 
   -- the position is 1 or more, or there is a statement
-  stays_inside : (reports : List Report) (cards : List (List ℕ)) (state : State) → Reaches (attested C) program decks reports cards state → length program.statements ≤ state.position - 1 →
+  stays_inside : (reports : List Report) (cards : List (List ℕ)) (state : State) → Reaches (attested C) program decks reports cards state →
+      length program.statements ≤ state.position - 1 →
       length program.statements < state.position
   stays_inside _ _ _ begun past = omega (arith, past)
   stays_inside _ _ after (stepped {reports} {cards} {state} gain _ before step) past =
       let within = slice_get_within program.statements (state.position - 1) step.statement step.is_at_position in omega (arith, within, past)
 
-  setup_lawful : (reports : List Report) (cards : List (List ℕ)) (state : State) → Reaches (attested C) program decks reports cards state → HasProblem state.setup
-  setup_lawful reports cards state reaches = (job_reaching (attested C) bytes program reports cards state (record { is_program = is_program; reaches = reaches })).setup
+  setup_lawful : (reports : List Report) (cards : List (List ℕ)) (state : State) → Reaches (attested C) program decks reports cards state →
+      HasProblem state.setup
+  setup_lawful reports cards state reaches =
+      (job_reaching (attested C) bytes program reports cards state (record { is_program = is_program; reaches = reaches })).setup
 
-  turned_from : (w : Walker) (is : IsWalked w) → On (StepsTo C program (HoldSoFar (attested C) (Says C) program decks is.reaches) w) (Finishes C program (HoldSoFar (attested C) (Says C) program decks is.reaches) w) (turn C program w)
+  turned_from : (w : Walker) (is : IsWalked w) →
+      On (StepsTo C program (HoldSoFar (attested C) (Says C) program decks is.reaches) w)
+      (Finishes C program (HoldSoFar (attested C) (Says C) program decks is.reaches) w) (turn C program w)
   turned_from w is =
-      turned C reading truth program (HoldSoFar (attested C) (Says C) program decks is.reaches) w is.owes (setup_lawful is.reports is.cards w.state is.reaches) (stays_inside is.reports is.cards w.state is.reaches)
+      turned C reading truth program (HoldSoFar (attested C) (Says C) program decks is.reaches) w is.owes (setup_lawful is.reports is.cards w.state is.reaches)
+      (stays_inside is.reports is.cards w.state is.reaches)
 
   -- the text of some reports, and of more after them
-  more_text : (reports more : List Report) (rest after : List ℕ) → lines ≡ reports_text reports ++ rest → rest ≡ reports_text more ++ after → lines ≡ reports_text (reports ++ more) ++ after
+  more_text : (reports more : List Report) (rest after : List ℕ) → lines ≡ reports_text reports ++ rest → rest ≡ reports_text more ++ after →
+      lines ≡ reports_text (reports ++ more) ++ after
   more_text reports more rest after text next =
       text ∙ ap (λ (t : List ℕ). reports_text reports ++ t) next ∙ sym (append_assoc (reports_text reports) (reports_text more) after)
       ∙ ap (λ (t : List ℕ). t ++ after) (sym (flat_map-append report_text reports more))
@@ -147,7 +159,9 @@ module _ (C : Checker) (reading : ReadingLaw C) (truth : JudgedLaws C) (bytes li
   is_walked _ at_start = record { reports = []; cards = []; reaches = begun; text = refl; counted = refl; owes = tt }
   is_walked _ (gone_on {w} {v} before e) = walked_on w v (is_walked w before) e
 
-  finished : (w : Walker) (count : ℕ) (is : IsWalked w) → turn C program w ≡ Finds (Attested count) → Finishes C program (HoldSoFar (attested C) (Says C) program decks is.reaches) w count → (proved : IsTrueListing C bytes lines) × (length proved.reports ≡ count)
+  finished : (w : Walker) (count : ℕ) (is : IsWalked w) → turn C program w ≡ Finds (Attested count) →
+      Finishes C program (HoldSoFar (attested C) (Says C) program decks is.reaches) w count →
+      (proved : IsTrueListing C bytes lines) × (length proved.reports ≡ count)
   finished w count is e (over ending ends text counted holds) = (
     record {
       reports = is.reports;
@@ -173,7 +187,8 @@ module _ (C : Checker) (reading : ReadingLaw C) (truth : JudgedLaws C) (bytes li
     sym (more_counted is.reports (printed_by gain) w.reports count is.counted counted),
   )
 
-  pub walk_proved : (w : Walker) (count : ℕ) → IsCome C program decks lines w → turn C program w ≡ Finds (Attested count) → (proved : IsTrueListing C bytes lines) × (length proved.reports ≡ count)
+  pub walk_proved : (w : Walker) (count : ℕ) → IsCome C program decks lines w → turn C program w ≡ Finds (Attested count) →
+      (proved : IsTrueListing C bytes lines) × (length proved.reports ≡ count)
   walk_proved w count come e =
       let is : IsWalked w = is_walked w come in
       let Holds : Type 0 = HoldSoFar (attested C) (Says C) program decks is.reaches in

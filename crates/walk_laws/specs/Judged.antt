@@ -33,10 +33,12 @@ pub record JudgedLaws (C : Checker) : Type 0 where
   pub dual : (limit : Option ℕ) (sheet : Sheet) (rest after : List ℕ) (bases : List Basis) (verdict : PathVerdict) (check : Check) →
       judged C (OfPath Dual limit) sheet rest ≡ Right (Reached bases verdict check) after → IsNotUnbounded verdict
   -- the verdict of an opening is true at the first value, where its objective is the activity of the objective row
-  pub opening : (parametric_run : ParametricRun) (sheet : Sheet) (rest after : List ℕ) (bases : List Basis) (verdict : PathVerdict) (check : Check) → IsLinearProgram sheet.lp →
+  pub opening : (parametric_run : ParametricRun) (sheet : Sheet) (rest after : List ℕ) (bases : List Basis) (verdict : PathVerdict) (check : Check) →
+      IsLinearProgram sheet.lp →
       ChangesFreely sheet parametric_run.changing → judged C (OfParametricRun parametric_run) sheet rest ≡ Right (Opening bases verdict check) after →
       IsTrueAtFirst (sheet_at sheet parametric_run.changing parametric_run.from) verdict
   -- a parametric run is true at every value of the parameter between its first and its last end, and past that by how it closes
-  pub chain : (parametric_run : ParametricRun) (sheet : Sheet) (rest after : List ℕ) (bases : List Basis) (intervals : List ParametricInterval) (end : ChainEnd) → IsLinearProgram sheet.lp →
+  pub chain : (parametric_run : ParametricRun) (sheet : Sheet) (rest after : List ℕ) (bases : List Basis) (intervals : List ParametricInterval)
+      (end : ChainEnd) → IsLinearProgram sheet.lp →
       ChangesFreely sheet parametric_run.changing → judged C (OfParametricRun parametric_run) sheet rest ≡ Right (Chained bases intervals end) after →
       IsTrueRun (family_of sheet parametric_run.changing) parametric_run.from parametric_run.to (map part_of intervals) (past_of sheet end)

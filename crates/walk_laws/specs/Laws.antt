@@ -8,7 +8,8 @@ use Rattle.walk_definitions.specs.Found.{EndsIn}
 use Rattle.walk_laws.specs.Proved.{IsTrueListing}
 
 abbrev pub AttestedLaw : Checker → Type 0
-AttestedLaw C = (bytes lines : List ℕ) (count : ℕ) → EndsIn C bytes lines (Attested count) → (proved : IsTrueListing C bytes lines) × (length proved.reports ≡ count)
+AttestedLaw C =
+    (bytes lines : List ℕ) (count : ℕ) → EndsIn C bytes lines (Attested count) → (proved : IsTrueListing C bytes lines) × (length proved.reports ≡ count)
 
 abbrev pub OneComesLaw : Checker → Type 0
 OneComesLaw C = (bytes lines : List ℕ) → (found : Found) × EndsIn C bytes lines found × ((other : Found) → EndsIn C bytes lines other → other ≡ found)

@@ -53,13 +53,15 @@ pub record ShowsProved (setup : Option Present) (cells : Cells) (lines : Solutio
 pub record ShowsProvedChain (chain : Chain) (sheet : Sheet) (parametric_run : ParametricRun) : Type 0 where
   pub is_from : chain.from ≡ parametric_run.from
   pub is_change : chain.change ≡ changing_name parametric_run.changing
-  pub is_true : IsTrueRun (family_of sheet parametric_run.changing) parametric_run.from parametric_run.to (map part_of chain.intervals) (past_of sheet chain.end)
+  pub is_true : IsTrueRun (family_of sheet parametric_run.changing) parametric_run.from parametric_run.to (map part_of chain.intervals)
+      (past_of sheet chain.end)
 
 -- a verdict is true of the linear program that is selected, and that of an opening of the one at the first value
 abbrev pub SaysVerdict : State → Solver → PathVerdict → Type 0
 SaysVerdict state ByPrimal verdict = (program : PresentProgram state.setup state.cells) × IsTrueOf (sheet_of program) verdict
 SaysVerdict state ByDual verdict = (program : PresentProgram state.setup state.cells) × IsTrueOf (sheet_of program) verdict × IsNotUnbounded verdict
-SaysVerdict state solver verdict = ReportsOfRun state.setup state.cells solver (λ sheet parametric_run. IsTrueAtFirst (sheet_at sheet parametric_run.changing parametric_run.from) verdict)
+SaysVerdict state solver verdict =
+    ReportsOfRun state.setup state.cells solver (λ sheet parametric_run. IsTrueAtFirst (sheet_at sheet parametric_run.changing parametric_run.from) verdict)
 
 -- The checker takes the word of each verdict's check: that of 128 bits takes CHECKED alone. Ranges, punched bases and inserted ones don't
 -- come: the walk goes past none of them.

@@ -15,7 +15,8 @@ reported (OfSolution mark) lines = Solution mark lines ∷ []
 reported OfRanges lines = Ranges lines ∷ []
 reported (OfParametricRun parametric_run) (Opening bases verdict check) = Solved (parametric_solver parametric_run.changing) verdict check ∷ []
 reported (OfParametricRun parametric_run) (Chained bases intervals end) =
-    Parametric (parametric_solver parametric_run.changing) (record { from = parametric_run.from; change = changing_name parametric_run.changing; intervals = intervals; end = end }) ∷ []
+    Parametric (parametric_solver parametric_run.changing)
+    (record { from = parametric_run.from; change = changing_name parametric_run.changing; intervals = intervals; end = end }) ∷ []
 reported (OfParametricRun parametric_run) _ = []
 reported OfPunch cards = []
 reported (OfInstall basis) end = []

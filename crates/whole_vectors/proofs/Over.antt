@@ -76,5 +76,6 @@ over_whole x by (pos zero) one also some is = absurd (omega (arith, ints, some))
 over_whole x by (negsuc m) one also some is = absurd (omega (arith, ints, some))
 over_whole x by (pos (suc m)) one also some is =
     sym (div_is x by (fraction x.numerator (suc m)) (λ none. absurd (omega (arith, ints, sym is ∙ numerator_of_zero by none)))
-    (sym (is_whole x one) ∙ same_from_ratio (whole_ratio x.numerator) (mul_ratio (fraction_ratio x.numerator (suc m) (omega arith)) (whole_ratio (pos (suc m)))) (omega arith)
+    (sym (is_whole x one)
+    ∙ same_from_ratio (whole_ratio x.numerator) (mul_ratio (fraction_ratio x.numerator (suc m) (omega arith)) (whole_ratio (pos (suc m)))) (omega arith)
     ∙ ap (λ y. fraction x.numerator (suc m) *ℚ y) (ap whole (sym is) ∙ is_whole by also)))

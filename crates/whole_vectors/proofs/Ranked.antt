@@ -81,7 +81,8 @@ zeros_are (suc n) zero = refl
 zeros_are (suc n) (suc k) = zeros_are n k
 
 -- one quotient more is put in
-pub divided_next : (by : ℚ) (ks : List ℕ) (i p : ℕ) (ns : List ℤ) (old new : List ℚ) (x : ℤ) (v : ℚ) → i < length ks → p ≡ get_or ks i 0 → p < length ns → p < length new → x ≡ get_or ns p x → v ≡ whole x /ℚ by
+pub divided_next : (by : ℚ) (ks : List ℕ) (i p : ℕ) (ns : List ℤ) (old new : List ℚ) (x : ℤ) (v : ℚ) → i < length ks → p ≡ get_or ks i 0 → p < length ns
+    → p < length new → x ≡ get_or ns p x → v ≡ whole x /ℚ by
     → ((rank : ℕ → ℕ) → IsRank rank ks → AreWritten rank ks (λ n. get_or (wholes ns) n zero_ℚ /ℚ by) i old new)
     → (rank : ℕ → ℕ) → IsRank rank ks → AreWritten rank ks (λ n. get_or (wholes ns) n zero_ℚ /ℚ by) (i + 1) old (set new p v)
 divided_next by ks i p ns old new x v below is within inside is_x quotient so_far rank ranked =
@@ -98,9 +99,11 @@ reached_at_end ks ranks n h =
     ap (λ b. b && nat_eq (get_or ks (get_or ranks n 0) 0) n) first ∙ second
 
 -- all are written, where those that aren't listed are as they should be
-pub all_written : (ks ranks : List ℕ) (f : ℕ → ℚ) (xs ys : List ℚ) → AreRanked ks ranks → ((rank : ℕ → ℕ) → IsRank rank ks → AreWritten rank ks f (length ks) xs ys)
+pub all_written : (ks ranks : List ℕ) (f : ℕ → ℚ) (xs ys : List ℚ) → AreRanked ks ranks
+    → ((rank : ℕ → ℕ) → IsRank rank ks → AreWritten rank ks f (length ks) xs ys)
     → ((n : ℕ) → (IsListedAt ks ranks n → ⊥) → get_or xs n zero_ℚ ≡ f n) → (n : ℕ) → get_or ys n zero_ℚ ≡ f n
-all_written ks ranks f xs ys ranked written unlisted n = written (λ k. get_or ranks k 0) ranked.rank n ∙ at (is_reached (λ k. get_or ranks k 0) ks (length ks) n) refl
+all_written ks ranks f xs ys ranked written unlisted n =
+    written (λ k. get_or ranks k 0) ranked.rank n ∙ at (is_reached (λ k. get_or ranks k 0) ks (length ks) n) refl
   where
     at : (b : Bool) → is_reached (λ k. get_or ranks k 0) ks (length ks) n ≡ b → (if b then f n else get_or xs n zero_ℚ) ≡ f n
     at true e = refl
@@ -108,7 +111,8 @@ all_written ks ranks f xs ys ranked written unlisted n = written (λ k. get_or r
 
 -- a number is written at a place that is listed
 pub put_covered : (ns : List ℤ) (p : ℕ) (x : ℤ) (ks ranks more next : List ℕ) → ((n : ℕ) → (IsListedAt ks ranks n → ⊥) → get_or (wholes ns) n zero_ℚ ≡ zero_ℚ)
-    → ((n : ℕ) → IsListedAt ks ranks n → IsListedAt more next n) → IsListedAt more next p → (n : ℕ) → (IsListedAt more next n → ⊥) → get_or (wholes (set ns p x)) n zero_ℚ ≡ zero_ℚ
+    → ((n : ℕ) → IsListedAt ks ranks n → IsListedAt more next n) → IsListedAt more next p → (n : ℕ) → (IsListedAt more next n → ⊥)
+    → get_or (wholes (set ns p x)) n zero_ℚ ≡ zero_ℚ
 put_covered ns p x ks ranks more next covered others own n out =
     let apart : n ≢ p = (λ same. out (subst (λ k. IsListedAt more next k) (sym same) own)) in
     ap (λ xs. get_or xs n zero_ℚ) (map-set whole ns p x) ∙ get_or-set_other (wholes ns) p n (whole x) zero_ℚ apart ∙ covered n (λ h. out (others n h))
@@ -124,13 +128,15 @@ unranked ks ranks none = record {
     nothing i below = let length_is = ap length none in omega (arith, below, length_is)
 
 -- what isn't in the list stays, where a number at one of its places is written
-pub kept_next : (ks : List ℕ) (i p : ℕ) (old new : List ℤ) (v : ℤ) → i < length ks → p ≡ get_or ks i 0 → AreKept ks (wholes old) (wholes new) → AreKept ks (wholes old) (wholes (set new p v))
+pub kept_next : (ks : List ℕ) (i p : ℕ) (old new : List ℤ) (v : ℤ) → i < length ks → p ≡ get_or ks i 0 → AreKept ks (wholes old) (wholes new) →
+    AreKept ks (wholes old) (wholes (set new p v))
 kept_next ks i p old new v below is h n out =
     let apart : n ≢ p = (λ same. out i below (sym is ∙ sym same)) in
     ap (λ xs. get_or xs n zero_ℚ) (map-set whole new p v) ∙ get_or-set_other (wholes new) p n (whole v) zero_ℚ apart ∙ h n out
 
 -- and so does what isn't listed
-pub unlisted_kept : (ks ranks : List ℕ) (xs ys : List ℚ) → AreRanked ks ranks → AreKept ks xs ys → (n : ℕ) → (IsListedAt ks ranks n → ⊥) → get_or ys n zero_ℚ ≡ get_or xs n zero_ℚ
+pub unlisted_kept : (ks ranks : List ℕ) (xs ys : List ℚ) → AreRanked ks ranks → AreKept ks xs ys → (n : ℕ) → (IsListedAt ks ranks n → ⊥) →
+    get_or ys n zero_ℚ ≡ get_or xs n zero_ℚ
 unlisted_kept ks ranks xs ys ranked h n out = h n (λ i below same. out (listed_there i below same))
   where
     listed_there : (i : ℕ) → i < length ks → get_or ks i 0 ≡ n → IsListedAt ks ranks n

@@ -25,7 +25,8 @@ word_twice z h = ap read (to_z-of_z w64 z h) ∙ word_read z h
 module _ (x c e : ℤ) (x_word : FitsSigned w64 x) (c_word : FitsSigned w64 c) (e_word : FitsSigned w64 e) where
   product_is : read (read (to_z w64 (of_z w64 c)) *ℤ read (to_z w64 (of_z w64 e))) ≡ c *ℤ e
   product_is =
-      (word_product c e c e (wide c c_word) (wide e e_word) (rw (word_read c c_word) c_word) (rw (word_read e e_word) e_word) (sym (word_read c c_word)) (sym (word_read e e_word))).1
+      (word_product c e c e (wide c c_word) (wide e e_word) (rw (word_read c c_word) c_word) (rw (word_read e e_word) e_word) (sym (word_read c c_word))
+      (sym (word_read e e_word))).1
 
   word_abs : (z : ℤ) → FitsSigned w64 z → unsigned_abs z ≤ 2 ^ 63
   word_abs z h = omega (arith, ints)
@@ -38,7 +39,8 @@ module _ (x c e : ℤ) (x_word : FitsSigned w64 x) (c_word : FitsSigned w64 c) (
 
   pub word_total_fits : Fits (x +ℤ c *ℤ e)
   word_total_fits =
-      let bound : unsigned_abs c * unsigned_abs e ≤ 2 ^ 63 * 2 ^ 63 = mul-le (unsigned_abs c) (unsigned_abs e) (2 ^ 63) (2 ^ 63) (word_abs c c_word) (word_abs e e_word) in
+      let bound : unsigned_abs c * unsigned_abs e ≤ 2 ^ 63 * 2 ^ 63 =
+      mul-le (unsigned_abs c) (unsigned_abs e) (2 ^ 63) (2 ^ 63) (word_abs c c_word) (word_abs e e_word) in
       let product : unsigned_abs (c *ℤ e) ≤ 2 ^ 63 * 2 ^ 63 = rw (unsigned_abs-mul c e) bound in
       let first = word_abs x x_word in
       more x (c *ℤ e) first product
@@ -57,10 +59,12 @@ pub whole_total : (x c e : ℤ) → whole (x +ℤ c *ℤ e) ≡ whole x +ℚ who
 whole_total x c e = whole-add x (c *ℤ e) ∙ ap (λ q. whole x +ℚ q) (whole-mul c e)
 
 -- a sum that was checked
-pub checked_total : (o : Option ℤ) (P : Type 0) (a b s x y : ℤ) (q : ℚ) → a ≡ s → b ≡ x → y ≡ pos 1 → whole y ≡ q → SomeIff o P (a +ℤ b) → IfSome o (λ next. whole next ≡ whole s +ℚ whole x *ℚ q)
+pub checked_total : (o : Option ℤ) (P : Type 0) (a b s x y : ℤ) (q : ℚ) → a ≡ s → b ≡ x → y ≡ pos 1 → whole y ≡ q → SomeIff o P (a +ℤ b) →
+    IfSome o (λ next. whole next ≡ whole s +ℚ whole x *ℚ q)
 checked_total None P a b s x y q is_a is_b is_y is_q h = tt
 checked_total (Some next) P a b s x y q is_a is_b is_y is_q h =
-    ap whole (h.1 ∙ ap₂ (λ m n. m +ℤ n) is_a is_b) ∙ whole-add s x ∙ ap (λ t. whole s +ℚ t) (sym (mul-one (whole x)) ∙ ap (λ t. whole x *ℚ t) (sym (sym is_q ∙ ap whole is_y)))
+    ap whole (h.1 ∙ ap₂ (λ m n. m +ℤ n) is_a is_b) ∙ whole-add s x
+    ∙ ap (λ t. whole s +ℚ t) (sym (mul-one (whole x)) ∙ ap (λ t. whole x *ℚ t) (sym (sym is_q ∙ ap whole is_y)))
 
 -- a multiple
 pub multiple_is : (n t d r : ℤ) (by : ℚ) → whole d ≡ by → r ≡ pos 0 +ℤ t *ℤ d → n ≡ r → whole n ≡ whole t *ℚ by
@@ -78,7 +82,8 @@ pub by_multiple : (x s n d t : ℚ) → n ≡ x *ℚ d → s ≡ t *ℚ d → n 
 by_multiple x s n d t is_n is_s = ap (λ q. q *ℚ t) is_n ∙ by_ring3 x d t (λ x d t. (x ⊗ d) ⊗ t ≐ x ⊗ (t ⊗ d)) refl ∙ ap (λ q. x *ℚ q) (sym is_s)
 
 -- a sum with one product more, where both fit
-pub summed : (o : Option ℤ) (P : Type 0) (a b s x y : ℤ) (q : ℚ) → a ≡ s → b ≡ x *ℤ y → whole y ≡ q → SomeIff o P (a +ℤ b) → IfSome o (λ next. whole next ≡ whole s +ℚ whole x *ℚ q)
+pub summed : (o : Option ℤ) (P : Type 0) (a b s x y : ℤ) (q : ℚ) → a ≡ s → b ≡ x *ℤ y → whole y ≡ q → SomeIff o P (a +ℤ b) →
+    IfSome o (λ next. whole next ≡ whole s +ℚ whole x *ℚ q)
 summed None P a b s x y q is_a is_b is_q h = tt
 summed (Some next) P a b s x y q is_a is_b is_q h =
     ap whole (h.1 ∙ ap₂ (λ m n. m +ℤ n) is_a is_b) ∙ whole_total s x y ∙ ap (λ t. whole s +ℚ whole x *ℚ t) is_q

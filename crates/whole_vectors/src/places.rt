@@ -7,7 +7,8 @@ ghost use Rattle.whole_vectors.specs.Ranks.{AreRanked, IsListedAt};
 #[inline(always)]
 fn is_listed(listed: &[usize], ranks: &[usize], place: usize) -> bool
     requires { place < length ranks.now }
-    ensures { MatchBool result (IsListedAt listed.now ranks.now place) (IsListedAt listed.now ranks.now place → ⊥) }
+    ensures { MatchBool result (IsListedAt listed.now ranks.now place)
+        (IsListedAt listed.now ranks.now place → ⊥) }
 {
     match listed.get(ranks[place]) {
         Some(other) => *other == place,

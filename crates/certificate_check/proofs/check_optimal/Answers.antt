@@ -9,7 +9,8 @@ use Rattle.certificate_check.proofs.check_optimal.Goals as goal
 use Rattle.certificate_check.proofs.check_optimal.Goals.{After-verdict}
 
 -- the point is feasible, and the prices prove it best
-proved : (c : After-verdict) → c.verdict.result ≡ Checked → IsFeasible c.args.lp.now (value_at c.args.point.now) × IsDualCertificate c.args.lp.now (value_at c.args.point.now) (value_at c.args.prices.now)
+proved : (c : After-verdict) → c.verdict.result ≡ Checked →
+    IsFeasible c.args.lp.now (value_at c.args.point.now) × IsDualCertificate c.args.lp.now (value_at c.args.point.now) (value_at c.args.prices.now)
 proved c checked =
     optimal_if_checked c.args.lp.now c.number_of_variables-size.ensures.lawful.is_matrix (value_at c.args.point.now) (value_at c.args.prices.now)
     (sym (c.verdict.ensures ∙ c.optimal.ensures) ∙ checked)
@@ -27,5 +28,6 @@ returns-clause-prices c = λ checked. (proved c checked).1
 
 pub returns-clause-never_fails : goal.returns-clause-never_fails
 returns-clause-never_fails c = λ feasible certificate part number failed.
-    (never_optimal c.args.lp.now c.number_of_variables-size.ensures.lawful.is_matrix (value_at c.args.point.now) (value_at c.args.prices.now) feasible certificate).never part number
+    (never_optimal c.args.lp.now c.number_of_variables-size.ensures.lawful.is_matrix (value_at c.args.point.now)
+    (value_at c.args.prices.now) feasible certificate).never part number
     (sym (c.verdict.ensures ∙ c.optimal.ensures) ∙ failed)

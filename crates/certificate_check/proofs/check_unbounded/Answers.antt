@@ -20,4 +20,5 @@ returns-clause-unbounded c = λ checked. unbounded_by_direction c.args.lp.now (v
 
 pub returns-clause-never_fails : goal.returns-clause-never_fails
 returns-clause-never_fails c = λ proof part number failed.
-    (never_unbounded c.args.lp.now (value_at c.args.point.now) (value_at c.args.direction.now) proof).never part number (sym (c.verdict.ensures ∙ c.unbounded.ensures) ∙ failed)
+    (never_unbounded c.args.lp.now (value_at c.args.point.now) (value_at c.args.direction.now) proof).never part number
+    (sym (c.verdict.ensures ∙ c.unbounded.ensures) ∙ failed)

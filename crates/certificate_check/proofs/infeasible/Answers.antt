@@ -9,7 +9,8 @@ pub returns-in_err-vanishes : goal.returns-in_err-vanishes
 returns-in_err-vanishes c =
     let p = c.args.lp.now in
     let w = value_at c.args.ray.now in
-    part_exit c.from_residual.result (ray_columns p w) (ray_limits p w zero_ℚ (multiplied p w) ++ ray_sum p w) c.in_err-vanishes.field-0.0 c.in_err-vanishes.ensures c.from_residual.ensures.1
+    part_exit c.from_residual.result (ray_columns p w)
+    (ray_limits p w zero_ℚ (multiplied p w) ++ ray_sum p w) c.in_err-vanishes.field-0.0 c.in_err-vanishes.ensures c.from_residual.ensures.1
 
 pub returns : goal.returns
 returns c =

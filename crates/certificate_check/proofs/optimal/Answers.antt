@@ -9,14 +9,16 @@ returns-in_err-point_is_feasible c =
     let p = c.args.lp.now in
     let z = value_at c.args.point.now in
     let y = value_at c.args.prices.now in
-    part_exit c.from_residual.result (feasible_point p z) (reduced_costs p y ++ standing_prices p z y) c.in_err-point_is_feasible.field-0.0 c.in_err-point_is_feasible.ensures c.from_residual.ensures.1
+    part_exit c.from_residual.result (feasible_point p z)
+    (reduced_costs p y ++ standing_prices p z y) c.in_err-point_is_feasible.field-0.0 c.in_err-point_is_feasible.ensures c.from_residual.ensures.1
 
 pub returns-in_err-are_reduced_costs : goal.returns-in_err-are_reduced_costs
 returns-in_err-are_reduced_costs c =
     let p = c.args.lp.now in
     let z = value_at c.args.point.now in
     let y = value_at c.args.prices.now in
-    part_exit c.from_residual-in_err-are_reduced_costs.result (reduced_costs p y) (standing_prices p z y) c.in_err-are_reduced_costs.field-0.0 c.in_err-are_reduced_costs.ensures c.from_residual-in_err-are_reduced_costs.ensures.1
+    part_exit c.from_residual-in_err-are_reduced_costs.result (reduced_costs p y)
+    (standing_prices p z y) c.in_err-are_reduced_costs.field-0.0 c.in_err-are_reduced_costs.ensures c.from_residual-in_err-are_reduced_costs.ensures.1
     ∙ sym (goes_on (feasible_point p z) (reduced_costs p y ++ standing_prices p z y) (sym c.in_ok-point_is_feasible.ensures))
 
 pub returns : goal.returns

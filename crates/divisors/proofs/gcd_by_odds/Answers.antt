@@ -21,5 +21,6 @@ gcd_of_odds-requires-clause-b_odd c = (odd_part w128 c.min-small.result (search 
 pub returns : goal.returns
 returns c =
     ap (λ n. c.gcd_of_odds.result * 2 ^ n % 2 ^ bits w128) c.min.ensures
-    ∙ shifted_back w128 c.brought_near-near.result c.min-small.result c.gcd_of_odds.result (search rules) (search rules) (search rules) (search rules) c.gcd_of_odds.ensures
+    ∙ shifted_back w128 c.brought_near-near.result c.min-small.result c.gcd_of_odds.result (search rules) (search rules) (search rules)
+    (search rules) c.gcd_of_odds.ensures
     ∙ gcd-near c.args.a c.args.b _ _ _ c.max-large.ensures c.min-small.ensures c.brought_near-near.ensures

@@ -15,7 +15,9 @@ returns c = record {
   verdict = λ solver sheet s limit bases verdict check solved. (path_passes solver sheet s limit bases verdict check solved).never;
   solution = λ mark sheet s lines lawful at best viewed.
       subst (λ l. IsNotFailed (solution_test checker_of_128_bits sheet mark l)) (sym viewed.are_lines)
-      (solution_passes sheet s viewed.tableau mark lawful viewed.is_tableau at (λ optimal. let ended = best optimal in reported_is_best sheet.lp s viewed.tableau ended.point ended.prices viewed.is_tableau ended.ends at lawful)).never;
+      (solution_passes sheet s viewed.tableau mark lawful viewed.is_tableau at
+      (λ optimal. let ended = best optimal in reported_is_best sheet.lp s viewed.tableau ended.point ended.prices viewed.is_tableau ended.ends at lawful)).never;
   run = λ sheet s parametric_run bases intervals end after lawful free at chained fits end_fits plain.
-      fine_passes (Chained [] intervals end) after _ (answer_fine sheet.problem sheet.lp parametric_run lawful free s at bases intervals end after _ refl chained plain fits end_fits);
+      fine_passes (Chained [] intervals end) after _
+      (answer_fine sheet.problem sheet.lp parametric_run lawful free s at bases intervals end after _ refl chained plain fits end_fits);
 }

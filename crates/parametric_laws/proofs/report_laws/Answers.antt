@@ -11,7 +11,8 @@ use Rattle.parametric_laws.specs.Families.{HasOneFace}
 use Rattle.parametric_laws.proofs.NotBoth.{not_both}
 use Rattle.parametric_laws.proofs.report_laws.Goals as goal
 
-has_one_report : (p : LinearProgram) (family : ℚ → LinearProgram) (Face : ℚ → List Status → FaceTurn → Type 0) → HasOneFace p family Face → HasOneReport p family Face
+has_one_report : (p : LinearProgram) (family : ℚ → LinearProgram) (Face : ℚ → List Status → FaceTurn → Type 0) → HasOneFace p family Face →
+    HasOneReport p family Face
 has_one_report p family Face one = record { one_report = one_report p family Face one; not_both = not_both p family Face one }
 
 pub returns : goal.returns

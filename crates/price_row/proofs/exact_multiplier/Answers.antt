@@ -25,7 +25,8 @@ pub returns : goal.returns
 returns c = record {
   value = record {
     is_multiplier = λ d rate are.
-        let enters = q_in c.args.file.now c.size-size.ensures.passed c.args.place c.requires.within d c.eta-eta.result.p c.eta-eta.result.q c.eta-eta.result.entries.now c.eta-eta.ensures.lent in
+        let enters =
+        q_in c.args.file.now c.size-size.ensures.passed c.args.place c.requires.within d c.eta-eta.result.p c.eta-eta.result.q c.eta-eta.result.entries.now c.eta-eta.ensures.lent in
         c.neg.ensures
         ∙ multiplier_is c.args.file.now c.size-size.ensures.passed c.args.place c.requires.within d c.eta-eta.result.p c.eta-eta.result.q c.eta-eta.result.entries.now c.eta-eta.ensures.lent
         c.args.row c.requires.basic c.size-size.ensures.nonsingular c.args.out.now c.requires.known rate are

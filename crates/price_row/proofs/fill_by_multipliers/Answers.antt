@@ -8,7 +8,9 @@ pub loop-back-init : goal.loop-back-init
 loop-back-init c = record {
   counted = c.requires.places;
   filled = λ k from within. absurd (omega (arith, from, within));
-  over = begun c.whole-denominator.result c.args.multipliers.now c.clear.new.self c.whole-denominator.ensures (c.clear.ensures.places ∙ c.requires.number_places ∙ sym c.requires.multiplier_places) c.clear.ensures.zero;
+  over =
+      begun c.whole-denominator.result c.args.multipliers.now c.clear.new.self c.whole-denominator.ensures
+      (c.clear.ensures.places ∙ c.requires.number_places ∙ sym c.requires.multiplier_places) c.clear.ensures.zero;
   workspace = c.requires.workspace;
 }
 
@@ -22,7 +24,8 @@ loop-back-preserved c =
     record {
       counted = search rules;
       filled = subst (λ i. IsFilledDownTo c.args.file.now i c.args.row (set c.loop-back.out place c.in_ok-rate.rate)) here
-          (filled_before c.args.file.now place c.args.row c.loop-back.out c.in_ok-rate.rate below (subst (λ i. IsFilledDownTo c.args.file.now i c.args.row c.loop-back.out) next c.loop-back.invariant.filled) c.in_ok-rate.ensures.rate);
+          (filled_before c.args.file.now place c.args.row c.loop-back.out c.in_ok-rate.rate below
+          (subst (λ i. IsFilledDownTo c.args.file.now i c.args.row c.loop-back.out) next c.loop-back.invariant.filled) c.in_ok-rate.ensures.rate);
       over = c.in_ok-rate.ensures.over;
       workspace = c.in_ok-rate.ensures.workspace;
     }

@@ -8,7 +8,8 @@ pub returns-in-Some-clause-met : goal.returns-in-Some-clause-met
 returns-in-Some-clause-met c = λ rates row.
     number_there c.args.file.now c.args.sought.now.row c.args.place c.args.sought.now.wanted.now c.args.sought.now.up c.requires.within rates
     (whole c.in-Some.number) c.whole.result c.column_number.new.denominator c.is_up_over-up.result c.is_wanted_at.result c.column_number.ensures.over.apart
-    c.in-Some.ensures.rate c.is_up_over-up.ensures (c.whole.ensures ∙ ap whole (read_fitting c.in-Some.number c.in-Some.ensures.fits)) c.is_wanted_at.ensures row
+    c.in-Some.ensures.rate c.is_up_over-up.ensures
+    (c.whole.ensures ∙ ap whole (read_fitting c.in-Some.number c.in-Some.ensures.fits)) c.is_wanted_at.ensures row
 
 pub returns-clause-met : goal.returns-clause-met
 returns-clause-met c = λ rates row.

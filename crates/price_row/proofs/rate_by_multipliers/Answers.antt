@@ -24,7 +24,8 @@ returns c =
     c.numbers.ensures ∙ ap (λ n. column c.args.file.now.matrix (c.args.place + 1 - n)) c.rows-rows.ensures in
     record {
       rate =
-          value_gives c.sum_at.result (λ sum. sum ≡ sum_from zero_ℚ (products c.args.out.now c.numbers.result.now)) (IsRateOf c.args.file.now c.args.row (c.args.place + 1))
+          value_gives c.sum_at.result (λ sum. sum ≡ sum_from zero_ℚ (products c.args.out.now c.numbers.result.now))
+          (IsRateOf c.args.file.now c.args.row (c.args.place + 1))
           (λ v is_v.
           rate_of_column c.args.file.now c.args.row c.args.place c.args.out.now v c.size-size.ensures.lawful c.size-size.ensures.nonsingular c.requires.basic
           (sym c.is_basic.ensures ∙ c.if-is_basic.false) (omega (arith, c.if-place-rows.false, c.rows-rows.ensures)) c.requires.within c.requires.known

@@ -10,7 +10,8 @@ loop-slot-preserved-then-not-changes c =
     let unchanged : IsUnchanged c.args.exchange.now.p c.args.exchange.now.q c.index-lines-slot.result = c.changes.ensures.stays c.if-not-changes.true in
     record {
       within = omega (arith, c.loop-slot.invariant.within);
-      listed = changing_skipped c.args.exchange.now.p c.args.exchange.now.q c.args.lines.now c.loop-slot.changing c.loop-slot.slot c.loop-slot.count c.loop-slot.invariant.listed
+      listed =
+          changing_skipped c.args.exchange.now.p c.args.exchange.now.q c.args.lines.now c.loop-slot.changing c.loop-slot.slot c.loop-slot.count c.loop-slot.invariant.listed
           (λ d. subst (λ (line : Line). IsUnchanged c.args.exchange.now.p c.args.exchange.now.q line)
           (c.index-lines-slot.is ∙ get_or_default c.args.lines.now c.loop-slot.slot c.index-lines-slot.result d c.loop-slot-test.true) unchanged);
     }
@@ -18,7 +19,8 @@ loop-slot-preserved-then-not-changes c =
 pub loop-slot-preserved : goal.loop-slot-preserved
 loop-slot-preserved c = record {
   within = omega (arith, c.loop-slot.invariant.within);
-  listed = changing_listed c.args.exchange.now.p c.args.exchange.now.q c.args.lines.now c.loop-slot.changing c.loop-slot.slot c.loop-slot.count c.loop-slot.invariant.listed
+  listed =
+      changing_listed c.args.exchange.now.p c.args.exchange.now.q c.args.lines.now c.loop-slot.changing c.loop-slot.slot c.loop-slot.count c.loop-slot.invariant.listed
       (omega (arith, c.loop-slot.invariant.within, c.loop-slot-test.true, c.loop-slot.auto.changing, c.requires.room))
       (λ d same. c.changes.ensures.moves c.if-not-changes.false (subst (λ (line : Line). IsUnchanged c.args.exchange.now.p c.args.exchange.now.q line)
       (sym (c.index-lines-slot.is ∙ get_or_default c.args.lines.now c.loop-slot.slot c.index-lines-slot.result d c.loop-slot-test.true)) same));
@@ -27,4 +29,5 @@ loop-slot-preserved c = record {
 pub returns-clause-listed : goal.returns-clause-listed
 returns-clause-listed c =
     changing_to_end c.args.exchange.now.p c.args.exchange.now.q c.args.lines.now c.loop-slot.changing c.loop-slot.slot c.loop-slot.count c.loop-slot.invariant.listed
-    (omega (arith, c.loop-slot-test.false)) (omega (arith, c.loop-slot.auto.slot-end)) (omega (arith, c.loop-slot.invariant.within, c.loop-slot.auto.slot-end, c.loop-slot.auto.changing, c.requires.room))
+    (omega (arith, c.loop-slot-test.false)) (omega (arith, c.loop-slot.auto.slot-end))
+    (omega (arith, c.loop-slot.invariant.within, c.loop-slot.auto.slot-end, c.loop-slot.auto.changing, c.requires.room))

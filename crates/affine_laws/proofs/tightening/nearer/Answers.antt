@@ -15,7 +15,8 @@ returns-then-holds_at-clause-nearer c =
 pub returns-then-is_within-clause-nearer : goal.returns-then-is_within-clause-nearer
 returns-then-is_within-clause-nearer c =
     let is : c.args.kept ≡ Some c.in-Some.present = cc in
-    kept_before c.args.high c.args.bound.now c.requires.slope c.requires.side c.args.kept c.in-Some.present is c.in_ok-made-2.made c.in_ok-made-2.ensures.value (c.is_within.ensures.0 c.if-is_within.true)
+    kept_before c.args.high c.args.bound.now c.requires.slope c.requires.side c.args.kept c.in-Some.present is c.in_ok-made-2.made c.in_ok-made-2.ensures.value
+    (c.is_within.ensures.0 c.if-is_within.true)
 
 pub returns-clause-nearer : goal.returns-clause-nearer
 returns-clause-nearer c =

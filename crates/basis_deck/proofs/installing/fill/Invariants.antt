@@ -6,4 +6,5 @@ use Rattle.basis_deck.proofs.installing.fill.Given as goal
 -- the columns so far are through
 abbrev pub invariant-loop-c : goal.invariant-loop-c
 invariant-loop-c g l =
-    ((g.E.Rates.state l.engine).matrix ≡ l.lp.matrix) × IsUnderWay l.lp.matrix (basics_of l.basis) (g.E.Rates.state l.engine).basics (g.E.Rates.state l.engine).waypoints (l.lp.rows + l.c + 1)
+    ((g.E.Rates.state l.engine).matrix ≡ l.lp.matrix) × IsUnderWay l.lp.matrix (basics_of l.basis) (g.E.Rates.state l.engine).basics
+    (g.E.Rates.state l.engine).waypoints (l.lp.rows + l.c + 1)

@@ -5,4 +5,5 @@ use Rattle.basis_deck.proofs.installing.leaver.Given as goal
 
 -- none of the rows so far may leave, or one is found
 abbrev pub invariant-loop-k : goal.invariant-loop-k
-invariant-loop-k l = MatchOption l.found ((p : ℕ) → p ≤ l.k → IsLeaver l.lp.matrix (basics_of l.basis) l.direction p → ⊥) (IsLeaver l.lp.matrix (basics_of l.basis) l.direction)
+invariant-loop-k l =
+    MatchOption l.found ((p : ℕ) → p ≤ l.k → IsLeaver l.lp.matrix (basics_of l.basis) l.direction p → ⊥) (IsLeaver l.lp.matrix (basics_of l.basis) l.direction)

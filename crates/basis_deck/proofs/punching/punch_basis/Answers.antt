@@ -23,14 +23,17 @@ returns-in_err-limits-clause-writes g c =
     let p = err_from_is_err_and c.from_residual-in_err-limits.result c.from_residual-in_err-limits.ensures.1 in
     rw (p.1, p.2)
     (writes_same (deck_text c.args.problem.now c.args.lp.now c.args.basis.now c.bytes.result.now (c.bytes.ensures.bytes ∙ c.name-name.ensures.name))
-    (writes_then c.in_ok-put_name.ensures (writes_then c.in_ok-exchanges.ensures.writes (writes_more (after_limits c.args.problem.now c.args.lp.now c.args.basis.now) c.in_err-limits.ensures.writes))))
+    (writes_then c.in_ok-put_name.ensures
+    (writes_then c.in_ok-exchanges.ensures.writes
+    (writes_more (after_limits c.args.problem.now c.args.lp.now c.args.basis.now) c.in_err-limits.ensures.writes))))
 
 pub returns-in_err-put_all-clause-writes : goal.returns-in_err-put_all-clause-writes
 returns-in_err-put_all-clause-writes g c =
     let p = err_from_is_err_and c.from_residual-in_err-put_all.result c.from_residual-in_err-put_all.ensures.1 in
     rw (p.1, p.2)
     (writes_same (deck_text c.args.problem.now c.args.lp.now c.args.basis.now c.bytes.result.now (c.bytes.ensures.bytes ∙ c.name-name.ensures.name))
-    (writes_then c.in_ok-put_name.ensures (writes_then c.in_ok-exchanges.ensures.writes (writes_then c.in_ok-limits.ensures.writes (stops_so c.in_err-put_all.ensures)))))
+    (writes_then c.in_ok-put_name.ensures
+    (writes_then c.in_ok-exchanges.ensures.writes (writes_then c.in_ok-limits.ensures.writes (stops_so c.in_err-put_all.ensures)))))
 
 pub returns-clause-writes : goal.returns-clause-writes
 returns-clause-writes g c =

@@ -18,22 +18,28 @@ loop-c-preserved-then-not-stands_basic g c =
     let rows = ap (λ (p : LinearProgram). p.rows) c.lp.view_is in
     let cols = ap (λ (p : LinearProgram). p.cols) c.lp.view_is in
     let column = c.lp.inside.rows + c.loop-c.c + 1 in
-    let mark = sym (is_in-basics_of c.args.basis.now column (omega arith) (omega (arith, c.requires, c.loop-c-test.true, rows, cols))) ∙ sym c.stands_basic.ensures ∙ c.if-not-stands_basic.true in
-    let is = exchange_skipped c.args.problem.now lp c.args.basis.now c.loop-c.c c.loop-c.row (omega (arith, c.loop-c-test.true, cols)) column (omega (arith, rows)) mark in
+    let mark =
+    sym (is_in-basics_of c.args.basis.now column (omega arith) (omega (arith, c.requires, c.loop-c-test.true, rows, cols))) ∙ sym c.stands_basic.ensures
+    ∙ c.if-not-stands_basic.true in
+    let is =
+    exchange_skipped c.args.problem.now lp c.args.basis.now c.loop-c.c c.loop-c.row (omega (arith, c.loop-c-test.true, cols)) column
+    (omega (arith, rows)) mark in
     (h.0, h.1, ap (λ cards. h.0 ++ card_text cards) (sym is) ∙ h.2, ap (λ cards. c.loop-c.count + length cards) (sym is) ∙ h.3, omega (arith, h.4), h.5)
 
 pub returns-in_default-clause-writes : goal.returns-in_default-clause-writes
 returns-in_default-clause-writes g c =
     let h = c.loop-c.invariant in
     let cols = ap (λ (p : LinearProgram). p.cols) c.lp.view_is in
-    let none = exchange_none c.args.problem.now c.args.lp.now c.args.basis.now c.loop-c.c c.loop-c.row (omega (arith, c.loop-c-test.true, cols)) c.in_default.ensures in
+    let none =
+    exchange_none c.args.problem.now c.args.lp.now c.args.basis.now c.loop-c.c c.loop-c.row (omega (arith, c.loop-c-test.true, cols)) c.in_default.ensures in
     writes_done c.loop-c.count (writes_same (sym (append-nil h.0) ∙ ap (λ cards. h.0 ++ card_text cards) (sym none) ∙ h.2) h.1)
 
 pub returns-in_default-clause-counted : goal.returns-in_default-clause-counted
 returns-in_default-clause-counted g c =
     let h = c.loop-c.invariant in
     let cols = ap (λ (p : LinearProgram). p.cols) c.lp.view_is in
-    let none = exchange_none c.args.problem.now c.args.lp.now c.args.basis.now c.loop-c.c c.loop-c.row (omega (arith, c.loop-c-test.true, cols)) c.in_default.ensures in
+    let none =
+    exchange_none c.args.problem.now c.args.lp.now c.args.basis.now c.loop-c.c c.loop-c.row (omega (arith, c.loop-c-test.true, cols)) c.in_default.ensures in
     omega (arith, ap length none, h.3)
 
 pub returns-in_err-put_exchange-clause-writes : goal.returns-in_err-put_exchange-clause-writes
@@ -44,11 +50,16 @@ returns-in_err-put_exchange-clause-writes g c =
     let rows = ap (λ (p : LinearProgram). p.rows) c.lp.view_is in
     let cols = ap (λ (p : LinearProgram). p.cols) c.lp.view_is in
     let column = c.lp.inside.rows + c.loop-c.c + 1 in
-    let mark = sym (is_in-basics_of c.args.basis.now column (omega arith) (omega (arith, c.requires, c.loop-c-test.true, rows, cols))) ∙ sym c.stands_basic.ensures ∙ c.if-not-stands_basic.false in
-    let is = exchange_next c.args.problem.now lp c.args.basis.now c.loop-c.c c.loop-c.row (omega (arith, c.loop-c-test.true, cols)) column (omega (arith, rows)) mark c.in-Some.next c.in-Some.ensures.next in
+    let mark =
+    sym (is_in-basics_of c.args.basis.now column (omega arith) (omega (arith, c.requires, c.loop-c-test.true, rows, cols))) ∙ sym c.stands_basic.ensures
+    ∙ c.if-not-stands_basic.false in
+    let is =
+    exchange_next c.args.problem.now lp c.args.basis.now c.loop-c.c c.loop-c.row (omega (arith, c.loop-c-test.true, cols)) column
+    (omega (arith, rows)) mark c.in-Some.next c.in-Some.ensures.next in
     rw (p.1, p.2)
     (stops_so (writes_same (ap (λ cards. h.0 ++ card_text cards) (sym is) ∙ h.2)
-    (writes_then h.1 (writes_more (card_text (exchanges_from c.args.problem.now lp c.args.basis.now (c.loop-c.c + 1) c.in-Some.next)) c.in_err-put_exchange.ensures))))
+    (writes_then h.1
+    (writes_more (card_text (exchanges_from c.args.problem.now lp c.args.basis.now (c.loop-c.c + 1) c.in-Some.next)) c.in_err-put_exchange.ensures))))
 
 pub loop-c-preserved : goal.loop-c-preserved
 loop-c-preserved g c =
@@ -57,12 +68,15 @@ loop-c-preserved g c =
     let rows = ap (λ (p : LinearProgram). p.rows) c.lp.view_is in
     let cols = ap (λ (p : LinearProgram). p.cols) c.lp.view_is in
     let column = c.lp.inside.rows + c.loop-c.c + 1 in
-    let mark = sym (is_in-basics_of c.args.basis.now column (omega arith) (omega (arith, c.requires, c.loop-c-test.true, rows, cols))) ∙ sym c.stands_basic.ensures ∙ c.if-not-stands_basic.false in
+    let mark =
+    sym (is_in-basics_of c.args.basis.now column (omega arith) (omega (arith, c.requires, c.loop-c-test.true, rows, cols))) ∙ sym c.stands_basic.ensures
+    ∙ c.if-not-stands_basic.false in
     let card = exchange_card c.args.problem.now lp c.args.basis.now (column, c.in-Some.next) in
     let rest = exchanges_from c.args.problem.now lp c.args.basis.now (c.loop-c.c + 1) c.in-Some.next in
     let left = exchanges_from c.args.problem.now lp c.args.basis.now c.loop-c.c c.loop-c.row in
     let is : left ≡ card ∷ rest
-    = exchange_next c.args.problem.now lp c.args.basis.now c.loop-c.c c.loop-c.row (omega (arith, c.loop-c-test.true, cols)) column (omega (arith, rows)) mark c.in-Some.next c.in-Some.ensures.next in (
+    = exchange_next c.args.problem.now lp c.args.basis.now c.loop-c.c c.loop-c.row (omega (arith, c.loop-c-test.true, cols)) column
+    (omega (arith, rows)) mark c.in-Some.next c.in-Some.ensures.next in (
       h.0 ++ line card,
       writes_then h.1 c.in_ok-put_exchange.ensures,
       text_more h.0 card rest left _ is h.2,

@@ -5,4 +5,5 @@ use Rattle.basis_values.proofs.WantLaws.{wanted_lowers}
 use Rattle.basis_values.proofs.choices.may_lower.Goals as goal
 
 pub returns : goal.returns
-returns c = c.is_met.ensures ∙ ap (λ (w : Wanted). is_wanted w c.args.rate) c.want_of.ensures ∙ wanted_lowers c.args.lp.now c.args.basis.now c.args.rate c.args.k
+returns c =
+    c.is_met.ensures ∙ ap (λ (w : Wanted). is_wanted w c.args.rate) c.want_of.ensures ∙ wanted_lowers c.args.lp.now c.args.basis.now c.args.rate c.args.k

@@ -7,7 +7,11 @@ use Rattle.basis_values.proofs.Skips.{found_least, found_none}
 use Rattle.basis_values.proofs.choices.outside.Goals as goal
 
 pub returns-then-lies_outside : goal.returns-then-lies_outside
-returns-then-lies_outside c = found_least c.args.lp.now (λ k. is_in (basics_of c.args.basis.now) k && is_outside c.args.lp.now (value_at c.args.point.now) k) c.loop-k.k (omega arith) c.loop-k.invariant (sym c.lies_outside.ensures ∙ c.if-lies_outside.true)
+returns-then-lies_outside c =
+    found_least c.args.lp.now (λ k. is_in (basics_of c.args.basis.now) k && is_outside c.args.lp.now (value_at c.args.point.now) k) c.loop-k.k
+    (omega arith) c.loop-k.invariant (sym c.lies_outside.ensures ∙ c.if-lies_outside.true)
 
 pub returns : goal.returns
-returns c = found_none c.args.lp.now (λ k. is_in (basics_of c.args.basis.now) k && is_outside c.args.lp.now (value_at c.args.point.now) k) c.loop-k.k (omega arith) c.loop-k.invariant
+returns c =
+    found_none c.args.lp.now (λ k. is_in (basics_of c.args.basis.now) k && is_outside c.args.lp.now (value_at c.args.point.now) k) c.loop-k.k
+    (omega arith) c.loop-k.invariant

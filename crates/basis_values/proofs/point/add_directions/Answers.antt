@@ -28,7 +28,8 @@ pub returns-in_err-add_direction-clause-overflow : goal.returns-in_err-add_direc
 returns-in_err-add_direction-clause-overflow g c =
     let is_err : c.from_residual.result ≡ Err c.in_err-add_direction.field-0.0 = search rules in
     rw is_err (IfOverflow-map c.in_err-add_direction.field-0.0
-    (λ e h. point_refused_later c.args.lp.now (g.R.Rates.state c.args.rates.now).waypoints (g.R.Rates.state c.loop-k.rates).waypoints (g.R.Rates.state c.add_direction.new.rates).waypoints c.args.basis.now e c.loop-k.invariant.rates.1 h)
+    (λ e h. point_refused_later c.args.lp.now (g.R.Rates.state c.args.rates.now).waypoints (g.R.Rates.state c.loop-k.rates).waypoints
+    (g.R.Rates.state c.add_direction.new.rates).waypoints c.args.basis.now e c.loop-k.invariant.rates.1 h)
     c.in_err-add_direction.ensures.overflow)
 
 pub loop-k-preserved : goal.loop-k-preserved
@@ -43,4 +44,5 @@ pub returns-clause-point : goal.returns-clause-point
 returns-clause-point g c =
     let all : c.loop-k.k ≡ size c.args.lp.now.matrix = omega arith in
     so_far-ends c.args.lp.now c.args.basis.now c.requires.rates.is_basis c.requires.rates.nonsingular (value_at c.loop-k.point)
-    (subst (λ (n : ℕ). IsSoFar c.args.lp.now.matrix (basics_of c.args.basis.now) (standing c.args.lp.now c.args.basis.now) n (value_at c.loop-k.point)) all c.loop-k.invariant.so_far)
+    (subst (λ (n : ℕ). IsSoFar c.args.lp.now.matrix (basics_of c.args.basis.now) (standing c.args.lp.now c.args.basis.now) n
+    (value_at c.loop-k.point)) all c.loop-k.invariant.so_far)

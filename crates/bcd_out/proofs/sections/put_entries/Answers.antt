@@ -7,5 +7,8 @@ use Rattle.bcd_out.proofs.sections.put_entries.Goals as goal
 pub returns-in_err-put_entry : goal.returns-in_err-put_entry
 returns-in_err-put_entry g c =
     let p = err_from_is_err_and c.from_residual.result c.from_residual.ensures.1 in
-    rw (p.1, p.2) (writes_item (entry_line (map (λ row. row.name) c.args.rows.now) c.args.name) c.args.entries.now c.loop-entry.entry-index c.entry-item.result c.loop-entry-test.true c.loop-entry.invariant
+    rw (p.1, p.2)
+    (writes_item
+    (entry_line (map
+    (λ row. row.name) c.args.rows.now) c.args.name) c.args.entries.now c.loop-entry.entry-index c.entry-item.result c.loop-entry-test.true c.loop-entry.invariant
     (writes_same (ap (entry_line (map (λ row. row.name) c.args.rows.now) c.args.name) c.entry-item.is) c.in_err-put_entry.ensures))

@@ -7,5 +7,8 @@ use Rattle.bcd_out.proofs.sections.put_value_sets.Goals as goal
 pub returns-in_err-put_value_set : goal.returns-in_err-put_value_set
 returns-in_err-put_value_set g c =
     let p = err_from_is_err_and c.from_residual.result c.from_residual.ensures.1 in
-    rw (p.1, p.2) (writes_item (entry_lines (map (λ row. row.name) c.args.rows.now)) c.args.sets.now c.loop-set.set-index c.set-item.result c.loop-set-test.true c.loop-set.invariant
+    rw (p.1, p.2)
+    (writes_item
+    (entry_lines
+    (map (λ row. row.name) c.args.rows.now)) c.args.sets.now c.loop-set.set-index c.set-item.result c.loop-set-test.true c.loop-set.invariant
     (writes_same (ap (entry_lines (map (λ row. row.name) c.args.rows.now)) c.set-item.is) c.in_err-put_value_set.ensures))

@@ -21,5 +21,6 @@ pub returns-clause-waypoints : goal.returns-clause-waypoints
 returns-clause-waypoints g c =
     let p = c.args.lp.now in
     rw c.in_ok-basis.ensures (λ k d below.
-    inl (subst (HasColumnsWithin p.matrix (get_or (g.R.Rates.state c.in_ok-rates.rates).waypoints k d)) (c.in_ok-rates.ensures.waypoints k d below ∙ sym (basics_of-opening p))
+    inl (subst (HasColumnsWithin p.matrix (get_or (g.R.Rates.state c.in_ok-rates.rates).waypoints k d))
+    (c.in_ok-rates.ensures.waypoints k d below ∙ sym (basics_of-opening p))
     (within_itself p.matrix (get_or (g.R.Rates.state c.in_ok-rates.rates).waypoints k d))))

@@ -15,7 +15,9 @@ use Rattle.bounded_primal.proofs.path.walk.Goals as goal
 pub returns-in_err-point_of-clause-stops : goal.returns-in_err-point_of-clause-stops
 returns-in_err-point_of-clause-stops g c =
     let p = err_from_is_err_and c.from_residual.result c.from_residual.ensures.1 in
-    rw (p.1, p.2) (stops_at_once c.args.lp.now c.args.basis.now c.args.limit (g.R.Rates.state c.args.rates.now).waypoints (g.R.Rates.state c.point_of.new.rates).waypoints c.in_err-point_of.field-0.0 c.in_err-point_of.ensures.overflow)
+    rw (p.1, p.2)
+    (stops_at_once c.args.lp.now c.args.basis.now c.args.limit (g.R.Rates.state c.args.rates.now).waypoints
+    (g.R.Rates.state c.point_of.new.rates).waypoints c.in_err-point_of.field-0.0 c.in_err-point_of.ensures.overflow)
 
 pub loop-outcome-init : goal.loop-outcome-init
 loop-outcome-init g c = record {
@@ -25,17 +27,24 @@ loop-outcome-init g c = record {
   row_places = ap length c.as_mut_slice-row.ensures.value ∙ c.requires.sized.row;
   rates = c.in_ok-point_of.ensures.rates.0;
   wants = c.requires.wants;
-  point = point_agrees c.args.lp.now c.args.basis.now c.in_ok-point_of.ensures.rates.0.is_basis c.in_ok-point_of.ensures.rates.0.nonsingular (value_at c.point_of.new.out) c.in_ok-point_of.ensures.point;
+  point =
+      point_agrees c.args.lp.now c.args.basis.now c.in_ok-point_of.ensures.rates.0.is_basis c.in_ok-point_of.ensures.rates.0.nonsingular
+      (value_at c.point_of.new.out) c.in_ok-point_of.ensures.point;
   kept = λ _. c.in_ok-point_of.ensures.point;
   broken = c.outside-broken.ensures;
   within = omega arith;
-  reached = begins_at turn c.args.lp.now c.args.basis.now (g.R.Rates.state c.args.rates.now).waypoints (g.R.Rates.state c.point_of.new.rates).waypoints c.in_ok-point_of.ensures.rates.1;
+  reached =
+      begins_at turn c.args.lp.now c.args.basis.now (g.R.Rates.state c.args.rates.now).waypoints
+      (g.R.Rates.state c.point_of.new.rates).waypoints c.in_ok-point_of.ensures.rates.1;
 }
 
 pub returns-in_err-outcome-clause-stops : goal.returns-in_err-outcome-clause-stops
 returns-in_err-outcome-clause-stops g c =
     let p = err_from_is_err_and c.from_residual-in_err-outcome.result c.from_residual-in_err-outcome.ensures.1 in
-    rw (p.1, p.2) (stops_there c.args.lp.now c.args.basis.now (g.R.Rates.state c.args.rates.now).waypoints c.loop-outcome.basis (g.R.Rates.state c.loop-outcome.rates).waypoints c.loop-outcome.steps c.loop-outcome.invariant.reached c.args.limit (g.R.Rates.state c.next_turn.new.rates).waypoints c.in_err-outcome.field-0.0 c.loop-outcome.invariant.within c.in_err-outcome.ensures.turn)
+    rw (p.1, p.2)
+    (stops_there c.args.lp.now c.args.basis.now (g.R.Rates.state c.args.rates.now).waypoints c.loop-outcome.basis
+    (g.R.Rates.state c.loop-outcome.rates).waypoints c.loop-outcome.steps c.loop-outcome.invariant.reached c.args.limit
+    (g.R.Rates.state c.next_turn.new.rates).waypoints c.in_err-outcome.field-0.0 c.loop-outcome.invariant.within c.in_err-outcome.ensures.turn)
 
 pub step_over-requires-clause-step : goal.step_over-requires-clause-step
 step_over-requires-clause-step g c =
@@ -46,13 +55,22 @@ pub returns-in_err-kept-in-Moves-clause-stops : goal.returns-in_err-kept-in-Move
 returns-in_err-kept-in-Moves-clause-stops g c =
     let p = err_from_is_err_and c.from_residual-in_err-kept-in-Moves.result c.from_residual-in_err-kept-in-Moves.ensures.1 in
     let moves = rw c.in-Moves.is at c.in_ok-outcome.ensures.turn in
-    rw (p.1, p.2, c.in_err-kept-in-Moves.ensures.unchanged) (walk_stops c.args.lp.now c.loop-outcome.basis (value_at c.next_turn.new.direction) c.in-Moves.q c.in-Moves.by (c.args.limit - c.loop-outcome.steps) moves c.args.basis.now (g.R.Rates.state c.args.rates.now).waypoints (g.R.Rates.state c.loop-outcome.rates).waypoints c.loop-outcome.steps c.loop-outcome.invariant.reached (g.R.Rates.state c.next_turn.new.rates).waypoints (g.R.Rates.state c.step_over.new.rates).waypoints c.in_err-kept-in-Moves.field-0.0 c.args.limit c.loop-outcome.invariant.within refl c.in_ok-outcome.ensures.rates.1 c.in_err-kept-in-Moves.ensures.overflow)
+    rw (p.1, p.2, c.in_err-kept-in-Moves.ensures.unchanged)
+    (walk_stops c.args.lp.now c.loop-outcome.basis (value_at c.next_turn.new.direction) c.in-Moves.q c.in-Moves.by
+    (c.args.limit - c.loop-outcome.steps) moves c.args.basis.now (g.R.Rates.state c.args.rates.now).waypoints
+    (g.R.Rates.state c.loop-outcome.rates).waypoints c.loop-outcome.steps c.loop-outcome.invariant.reached
+    (g.R.Rates.state c.next_turn.new.rates).waypoints
+    (g.R.Rates.state c.step_over.new.rates).waypoints c.in_err-kept-in-Moves.field-0.0 c.args.limit c.loop-outcome.invariant.within refl c.in_ok-outcome.ensures.rates.1 c.in_err-kept-in-Moves.ensures.overflow)
 
 pub outside_after-broken-requires-clause-stays : goal.outside_after-broken-requires-clause-stays
 outside_after-broken-requires-clause-stays g c none =
     let moves = rw c.in-Moves.is at c.in_ok-outcome.ensures.turn in
-    stays_inside c.args.lp.now (g.R.Rates.state c.loop-outcome.rates).matrix (g.R.Rates.state c.loop-outcome.rates).basics c.loop-outcome.basis c.loop-outcome.invariant.rates (value_at c.loop-outcome.point) c.loop-outcome.invariant.point c.requires.uncrossed (sym c.loop-outcome.invariant.broken ∙ none)
-    c.requires.lawful (value_at c.next_turn.new.direction) c.in-Moves.q c.in-Moves.by (c.args.limit - c.loop-outcome.steps) moves c.step_over.new.basis c.in_ok-kept-in-Moves.ensures.basis (value_at c.step_over.new.point) c.in_ok-kept-in-Moves.ensures.point
+    stays_inside c.args.lp.now (g.R.Rates.state c.loop-outcome.rates).matrix
+    (g.R.Rates.state c.loop-outcome.rates).basics c.loop-outcome.basis c.loop-outcome.invariant.rates
+    (value_at c.loop-outcome.point) c.loop-outcome.invariant.point c.requires.uncrossed (sym c.loop-outcome.invariant.broken ∙ none)
+    c.requires.lawful (value_at c.next_turn.new.direction) c.in-Moves.q c.in-Moves.by
+    (c.args.limit - c.loop-outcome.steps) moves c.step_over.new.basis c.in_ok-kept-in-Moves.ensures.basis
+    (value_at c.step_over.new.point) c.in_ok-kept-in-Moves.ensures.point
 
 pub loop-outcome-preserved : goal.loop-outcome-preserved
 loop-outcome-preserved g c =
@@ -68,42 +86,55 @@ loop-outcome-preserved g c =
       kept = c.in_ok-kept-in-Moves.ensures.kept;
       broken = c.outside_after-broken.ensures;
       within = omega (arith, moves.was_left);
-      reached = walk_more c.args.lp.now c.loop-outcome.basis (value_at c.next_turn.new.direction) c.in-Moves.q c.in-Moves.by (c.args.limit - c.loop-outcome.steps) moves c.args.basis.now (g.R.Rates.state c.args.rates.now).waypoints (g.R.Rates.state c.loop-outcome.rates).waypoints c.loop-outcome.steps c.loop-outcome.invariant.reached c.step_over.new.basis (g.R.Rates.state c.next_turn.new.rates).waypoints (g.R.Rates.state c.step_over.new.rates).waypoints c.in_ok-kept-in-Moves.ensures.basis c.in_ok-outcome.ensures.rates.1 c.in_ok-kept-in-Moves.ensures.waypoints;
+      reached =
+          walk_more c.args.lp.now c.loop-outcome.basis (value_at c.next_turn.new.direction) c.in-Moves.q c.in-Moves.by
+          (c.args.limit - c.loop-outcome.steps) moves c.args.basis.now (g.R.Rates.state c.args.rates.now).waypoints
+          (g.R.Rates.state c.loop-outcome.rates).waypoints c.loop-outcome.steps c.loop-outcome.invariant.reached c.step_over.new.basis
+          (g.R.Rates.state c.next_turn.new.rates).waypoints
+          (g.R.Rates.state c.step_over.new.rates).waypoints c.in_ok-kept-in-Moves.ensures.basis c.in_ok-outcome.ensures.rates.1 c.in_ok-kept-in-Moves.ensures.waypoints;
     }
 
 pub returns-in_err-point_of-clause-waypoints : goal.returns-in_err-point_of-clause-waypoints
 returns-in_err-point_of-clause-waypoints g c =
     follows turn c.args.lp.now c.args.basis.now (g.R.Rates.state c.args.rates.now).waypoints c.args.basis.now (g.R.Rates.state c.point_of.new.rates).waypoints 0
-    (begins_at turn c.args.lp.now c.args.basis.now (g.R.Rates.state c.args.rates.now).waypoints (g.R.Rates.state c.point_of.new.rates).waypoints c.in_err-point_of.ensures.rates.1)
+    (begins_at turn c.args.lp.now c.args.basis.now (g.R.Rates.state c.args.rates.now).waypoints
+    (g.R.Rates.state c.point_of.new.rates).waypoints c.in_err-point_of.ensures.rates.1)
 
 pub returns-in_err-outcome-clause-waypoints : goal.returns-in_err-outcome-clause-waypoints
 returns-in_err-outcome-clause-waypoints g c =
-    follows_later turn c.args.lp.now c.args.basis.now (g.R.Rates.state c.args.rates.now).waypoints c.loop-outcome.basis (g.R.Rates.state c.loop-outcome.rates).waypoints c.loop-outcome.steps c.loop-outcome.invariant.reached
+    follows_later turn c.args.lp.now c.args.basis.now (g.R.Rates.state c.args.rates.now).waypoints c.loop-outcome.basis
+    (g.R.Rates.state c.loop-outcome.rates).waypoints c.loop-outcome.steps c.loop-outcome.invariant.reached
     (g.R.Rates.state c.next_turn.new.rates).waypoints c.in_err-outcome.ensures.rates.1
 
 pub returns-in-Ends-clause-waypoints : goal.returns-in-Ends-clause-waypoints
 returns-in-Ends-clause-waypoints g c =
-    follows_later turn c.args.lp.now c.args.basis.now (g.R.Rates.state c.args.rates.now).waypoints c.loop-outcome.basis (g.R.Rates.state c.loop-outcome.rates).waypoints c.loop-outcome.steps c.loop-outcome.invariant.reached
+    follows_later turn c.args.lp.now c.args.basis.now (g.R.Rates.state c.args.rates.now).waypoints c.loop-outcome.basis
+    (g.R.Rates.state c.loop-outcome.rates).waypoints c.loop-outcome.steps c.loop-outcome.invariant.reached
     (g.R.Rates.state c.next_turn.new.rates).waypoints c.in_ok-outcome.ensures.rates.1
 
 pub returns-in_err-kept-in-Moves-clause-waypoints : goal.returns-in_err-kept-in-Moves-clause-waypoints
 returns-in_err-kept-in-Moves-clause-waypoints g c =
-    rw c.in_err-kept-in-Moves.ensures.unchanged (follows_later turn c.args.lp.now c.args.basis.now (g.R.Rates.state c.args.rates.now).waypoints c.loop-outcome.basis (g.R.Rates.state c.loop-outcome.rates).waypoints c.loop-outcome.steps c.loop-outcome.invariant.reached
+    rw c.in_err-kept-in-Moves.ensures.unchanged
+    (follows_later turn c.args.lp.now c.args.basis.now (g.R.Rates.state c.args.rates.now).waypoints c.loop-outcome.basis
+    (g.R.Rates.state c.loop-outcome.rates).waypoints c.loop-outcome.steps c.loop-outcome.invariant.reached
     (g.R.Rates.state c.step_over.new.rates).waypoints
-    (keeps_then c.args.lp.now.matrix (basics_of c.loop-outcome.basis) (g.R.Rates.state c.loop-outcome.rates).waypoints (basics_of c.loop-outcome.basis) (g.R.Rates.state c.next_turn.new.rates).waypoints (g.R.Rates.state c.step_over.new.rates).waypoints
+    (keeps_then c.args.lp.now.matrix (basics_of c.loop-outcome.basis) (g.R.Rates.state c.loop-outcome.rates).waypoints (basics_of c.loop-outcome.basis)
+    (g.R.Rates.state c.next_turn.new.rates).waypoints (g.R.Rates.state c.step_over.new.rates).waypoints
     c.in_ok-outcome.ensures.rates.1 (rw (c.in_err-kept-in-Moves.ensures.unchanged) at c.in_err-kept-in-Moves.ensures.waypoints)))
 
 pub returns-in-Ends-clause-ends : goal.returns-in-Ends-clause-ends
 returns-in-Ends-clause-ends g c =
     let ends = rw c.in-Ends.is at c.in_ok-outcome.ensures.turn in
     let counted : c.loop-outcome.steps ≡ counted_steps c.loop-outcome.steps = omega (arith, c.loop-outcome.invariant.within) in
-    ends_there turn c.args.lp.now c.args.basis.now (g.R.Rates.state c.args.rates.now).waypoints c.loop-outcome.basis (g.R.Rates.state c.loop-outcome.rates).waypoints c.loop-outcome.steps c.loop-outcome.invariant.reached
+    ends_there turn c.args.lp.now c.args.basis.now (g.R.Rates.state c.args.rates.now).waypoints c.loop-outcome.basis
+    (g.R.Rates.state c.loop-outcome.rates).waypoints c.loop-outcome.steps c.loop-outcome.invariant.reached
     c.args.limit c.loop-outcome.steps c.in-Ends.outcome c.loop-outcome.invariant.within counted ends
 
 pub renew_wants-requires-clause-first : goal.renew_wants-requires-clause-first
 renew_wants-requires-clause-first g c =
     let moves = rw c.in-Moves.is at c.in_ok-outcome.ensures.turn in
-    leaves_variable c.args.lp.now c.loop-outcome.basis (value_at c.next_turn.new.direction) c.in-Moves.q c.in-Moves.by (c.args.limit - c.loop-outcome.steps) moves
+    leaves_variable c.args.lp.now c.loop-outcome.basis (value_at c.next_turn.new.direction) c.in-Moves.q c.in-Moves.by
+    (c.args.limit - c.loop-outcome.steps) moves
 
 pub renew_wants-requires-clause-second : goal.renew_wants-requires-clause-second
 renew_wants-requires-clause-second g c =
@@ -113,4 +144,6 @@ renew_wants-requires-clause-second g c =
 pub renew_wants-requires-clause-others : goal.renew_wants-requires-clause-others
 renew_wants-requires-clause-others g c =
     let moves = rw c.in-Moves.is at c.in_ok-outcome.ensures.turn in
-    wants_moved c.args.lp.now c.loop-outcome.basis c.loop-outcome.invariant.rates.is_basis c.loop-outcome.wanted c.loop-outcome.invariant.wants (value_at c.next_turn.new.direction) c.in-Moves.q c.in-Moves.by (c.args.limit - c.loop-outcome.steps) moves c.step_over.new.basis c.in_ok-kept-in-Moves.ensures.basis
+    wants_moved c.args.lp.now c.loop-outcome.basis c.loop-outcome.invariant.rates.is_basis c.loop-outcome.wanted c.loop-outcome.invariant.wants
+    (value_at c.next_turn.new.direction) c.in-Moves.q c.in-Moves.by
+    (c.args.limit - c.loop-outcome.steps) moves c.step_over.new.basis c.in_ok-kept-in-Moves.ensures.basis

@@ -6,4 +6,6 @@ use Rattle.bounded_primal.proofs.step.plainly_moved.Goals as goal
 
 pub returns-clause-needed : goal.returns-clause-needed
 returns-clause-needed c =
-    OnErr-map c.sum.result (λ some vanishes. some (c.in_ok-product.ensures.value ∙ ap (λ (x : ℚ). c.args.by.now.step *ℚ x) vanishes ∙ mul-zero c.args.by.now.step)) c.sum.ensures.right
+    OnErr-map c.sum.result
+    (λ some vanishes. some
+    (c.in_ok-product.ensures.value ∙ ap (λ (x : ℚ). c.args.by.now.step *ℚ x) vanishes ∙ mul-zero c.args.by.now.step)) c.sum.ensures.right

@@ -10,6 +10,9 @@ use Rattle.bounded_primal.proofs.stopping.nearest_computed.Goals as goal
 
 pub loop-k-preserved : goal.loop-k-preserved
 loop-k-preserved c =
-    subst (λ (o : Option Reach). IfSome o (Reaches (step_length c.args.lp.now (value_at c.args.point.now) (motion (value_at c.args.direction.now) c.args.up)) (size c.args.lp.now.matrix))) (sym c.nearer-nearest.ensures)
-    (sooner_reaches (step_length c.args.lp.now (value_at c.args.point.now) (motion (value_at c.args.direction.now) c.args.up)) (size c.args.lp.now.matrix) (c.loop-k.k + 1) c.loop-k.nearest c.in-Ok.length (omega arith) (omega arith)
+    subst (λ (o : Option Reach). IfSome o
+    (Reaches (step_length c.args.lp.now (value_at c.args.point.now) (motion (value_at c.args.direction.now) c.args.up)) (size c.args.lp.now.matrix)))
+    (sym c.nearer-nearest.ensures)
+    (sooner_reaches (step_length c.args.lp.now (value_at c.args.point.now) (motion (value_at c.args.direction.now) c.args.up)) (size c.args.lp.now.matrix)
+    (c.loop-k.k + 1) c.loop-k.nearest c.in-Ok.length (omega arith) (omega arith)
     c.in-Ok.ensures.length c.loop-k.invariant)

@@ -8,10 +8,17 @@ use Rattle.bounded_primal.proofs.stopping.stopper_from.Goals as goal
 use Rattle.lp_laws.proofs.Places.{value_read}
 
 pub returns-in-None-clause-stopper : goal.returns-in-None-clause-stopper
-returns-in-None-clause-stopper c = nothing_found c.args.lp.now (value_at c.args.point.now) (value_at c.args.direction.now) c.args.up c.in_ok-found.found c.in_ok-found.ensures.nearest c.in-None.is
+returns-in-None-clause-stopper c =
+    nothing_found c.args.lp.now (value_at c.args.point.now)
+    (value_at c.args.direction.now) c.args.up c.in_ok-found.found c.in_ok-found.ensures.nearest c.in-None.is
 
 pub returns-in-Some-clause-stopper : goal.returns-in-Some-clause-stopper
 returns-in-Some-clause-stopper c =
-    let within = found_within (step_length c.args.lp.now (value_at c.args.point.now) (motion (value_at c.args.direction.now) c.args.up)) (size c.args.lp.now.matrix) c.in_ok-found.found c.in-Some.nearest c.in_ok-found.ensures.nearest c.in-Some.is in
-    stop_found c.args.lp.now (value_at c.args.point.now) (value_at c.args.direction.now) c.args.up c.in_ok-found.found c.in-Some.nearest c.index-rates-nearest.result c.counted-speed.result c.counted.result c.limit_reached.result
-    c.in_ok-found.ensures.nearest c.in-Some.is (value_read c.args.direction.now c.in-Some.nearest.p c.index-rates-nearest.result (omega (arith, within.0, within.1)) (rw c.values-rates.ensures at c.index-rates-nearest.is)) c.counted-speed.ensures c.counted.ensures c.limit_reached.ensures
+    let within =
+    found_within (step_length c.args.lp.now (value_at c.args.point.now) (motion (value_at c.args.direction.now) c.args.up))
+    (size c.args.lp.now.matrix) c.in_ok-found.found c.in-Some.nearest c.in_ok-found.ensures.nearest c.in-Some.is in
+    stop_found c.args.lp.now (value_at c.args.point.now)
+    (value_at c.args.direction.now) c.args.up c.in_ok-found.found c.in-Some.nearest c.index-rates-nearest.result c.counted-speed.result c.counted.result c.limit_reached.result
+    c.in_ok-found.ensures.nearest c.in-Some.is
+    (value_read c.args.direction.now c.in-Some.nearest.p c.index-rates-nearest.result (omega (arith, within.0, within.1))
+    (rw c.values-rates.ensures at c.index-rates-nearest.is)) c.counted-speed.ensures c.counted.ensures c.limit_reached.ensures

@@ -4,4 +4,5 @@ use Rattle.basis_values.specs.Motions.{motion}
 use Rattle.bounded_primal.proofs.turns.signed_direction.Given as goal
 
 abbrev pub invariant-loop-k : goal.invariant-loop-k
-invariant-loop-k l = record { places : vec_len l.values ≡ l.k; speeds : (j : ℕ) → 1 ≤ j → j ≤ l.k → value_at l.values.items j ≡ motion (value_at l.direction) l.up j }
+invariant-loop-k l =
+    record { places : vec_len l.values ≡ l.k; speeds : (j : ℕ) → 1 ≤ j → j ≤ l.k → value_at l.values.items j ≡ motion (value_at l.direction) l.up j }

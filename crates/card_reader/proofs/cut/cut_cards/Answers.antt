@@ -13,7 +13,13 @@ pub returns-then-len-eq-MAX_JOB_CARDS-clause-fault : goal.returns-then-len-eq-MA
 returns-then-len-eq-MAX_JOB_CARDS-clause-fault c =
     let bytes = c.args.bytes.now in
     let spans = c.loop-start.spans.items in
-    let many : MAX_JOB_CARDS < length (cards_of bytes) = omega (arith, length-cards_at bytes spans, cards_left bytes c.loop-start.start (cards_at bytes spans) c.loop-start-test.true c.loop-start.invariant.cards) in
+    let many : MAX_JOB_CARDS < length (cards_of bytes) =
+    omega (
+      arith,
+      length-cards_at bytes spans,
+      cards_left bytes c.loop-start.start
+          (cards_at bytes spans) c.loop-start-test.true c.loop-start.invariant.cards,
+    ) in
     job_fault-cards bytes many
 
 pub loop-start-preserved : goal.loop-start-preserved

@@ -26,4 +26,5 @@ loop-j-preserved c =
 pub returns-clause-listed : goal.returns-clause-listed
 returns-clause-listed c =
     let all : c.loop-j.j ≡ c.lp.inside.cols = search rules in
-    subst (λ (last : ℕ). AreListed (λ k. value_at c.args.values.now (c.args.lp.now.rows + k)) 0 (take c.loop-j.count c.loop-j.listed) last) all c.loop-j.invariant.1
+    subst (λ (last : ℕ). AreListed (λ k. value_at c.args.values.now (c.args.lp.now.rows + k)) 0
+    (take c.loop-j.count c.loop-j.listed) last) all c.loop-j.invariant.1

@@ -8,4 +8,6 @@ pub returns-clause-keeps : goal.returns-clause-keeps
 returns-clause-keeps c = λ checked. keeps_if_checked c.args.lp.now 1 (value_at c.args.point.now) (sym (c.verdict.ensures ∙ c.equations_hold.ensures) ∙ checked)
 
 pub returns-clause-never_fails : goal.returns-clause-never_fails
-returns-clause-never_fails c = λ holds part number failed. (never_equations c.args.lp.now 1 (value_at c.args.point.now) holds).never part number (sym (c.verdict.ensures ∙ c.equations_hold.ensures) ∙ failed)
+returns-clause-never_fails c =
+    λ holds part number failed. (never_equations c.args.lp.now 1 (value_at c.args.point.now) holds).never part number
+    (sym (c.verdict.ensures ∙ c.equations_hold.ensures) ∙ failed)

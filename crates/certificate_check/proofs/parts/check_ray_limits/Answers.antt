@@ -8,4 +8,6 @@ pub returns-clause-meets : goal.returns-clause-meets
 returns-clause-meets c = λ checked. meets_if_checked c.args.lp.now (value_at c.args.ray.now) (sym (c.verdict.ensures ∙ c.limits_are_met.ensures) ∙ checked)
 
 pub returns-clause-never_fails : goal.returns-clause-never_fails
-returns-clause-never_fails c = λ holds part number failed. (never_limits_met c.args.lp.now (value_at c.args.ray.now) holds).never part number (sym (c.verdict.ensures ∙ c.limits_are_met.ensures) ∙ failed)
+returns-clause-never_fails c =
+    λ holds part number failed. (never_limits_met c.args.lp.now (value_at c.args.ray.now) holds).never part number
+    (sym (c.verdict.ensures ∙ c.limits_are_met.ensures) ∙ failed)

@@ -7,7 +7,8 @@ use Rattle.certificate_check.proofs.point.point_is_feasible.Goals as goal
 pub returns-in_err-equations_hold : goal.returns-in_err-equations_hold
 returns-in_err-equations_hold c =
     let z = value_at c.args.point.now in
-    part_exit c.from_residual.result (equations c.args.lp.now 1 z) (within_limits c.args.lp.now z) c.in_err-equations_hold.field-0.0 c.in_err-equations_hold.ensures c.from_residual.ensures.1
+    part_exit c.from_residual.result (equations c.args.lp.now 1 z)
+    (within_limits c.args.lp.now z) c.in_err-equations_hold.field-0.0 c.in_err-equations_hold.ensures c.from_residual.ensures.1
 
 pub returns : goal.returns
 returns c =

@@ -11,4 +11,5 @@ returns-in_err-is_reduced_cost c =
 
 pub loop-i-preserved : goal.loop-i-preserved
 loop-i-preserved c =
-    each_passed (reduced_cost c.args.lp.now (value_at c.args.prices.now)) c.args.lp.now.cols c.loop-i.i c.loop-i.invariant (search rules) c.in_ok-is_reduced_cost.ensures
+    each_passed (reduced_cost c.args.lp.now (value_at c.args.prices.now)) c.args.lp.now.cols c.loop-i.i c.loop-i.invariant
+    (search rules) c.in_ok-is_reduced_cost.ensures

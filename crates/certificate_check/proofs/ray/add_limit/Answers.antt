@@ -14,6 +14,8 @@ returns-then-is_zero c =
 pub returns : goal.returns
 returns c =
     let apart : c.value_of-multiplier.result ≢ zero_ℚ = search rules in
-    adds_one c.args.lp.now (value_at c.args.ray.now) c.add_met.result c.args.sum c.args.k c.value_of-multiplier.result c.limit_met.result c.value_of-multiplier.ensures
-    (c.limit_met.ensures ∙ ap (λ (m : ℚ). if lt_ℚ zero_ℚ m then upper_of c.args.lp.now c.args.k else lower_of c.args.lp.now c.args.k) c.value_of-multiplier.ensures)
+    adds_one c.args.lp.now
+    (value_at c.args.ray.now) c.add_met.result c.args.sum c.args.k c.value_of-multiplier.result c.limit_met.result c.value_of-multiplier.ensures
+    (c.limit_met.ensures
+    ∙ ap (λ (m : ℚ). if lt_ℚ zero_ℚ m then upper_of c.args.lp.now c.args.k else lower_of c.args.lp.now c.args.k) c.value_of-multiplier.ensures)
     (λ e. apart (c.value_of-multiplier.ensures ∙ e)) c.add_met.ensures

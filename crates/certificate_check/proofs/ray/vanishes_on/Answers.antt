@@ -13,11 +13,13 @@ pub returns-in_err-sum : goal.returns-in_err-sum
 returns-in_err-sum c =
     let n = variable_is (goal.at.returns-in_err-sum c).After-column_sum in
     ray_exit c.args.lp.now (value_at c.args.ray.now) c.args.column c.column.result.now c.column.ensures
-    c.value_of.result (c.value_of.ensures ∙ ap (value_at c.args.ray.now) n) c.from_residual.result c.in_err-sum.field-0.0 c.in_err-sum.ensures c.from_residual.ensures.1
+    c.value_of.result
+    (c.value_of.ensures ∙ ap (value_at c.args.ray.now) n) c.from_residual.result c.in_err-sum.field-0.0 c.in_err-sum.ensures c.from_residual.ensures.1
 
 pub returns : goal.returns
 returns c =
     let n = variable_is (goal.at.returns c).After-column_sum in
-    c.compare.ensures ∙ ap (λ b. verdict_of (comparison 1 (c.lp.inside.rows + c.args.column) b ∷ [])) (c.is_equal.ensures ∙ ap (eq_ℚ c.in_ok-sum.sum) c.whole.ensures)
+    c.compare.ensures
+    ∙ ap (λ b. verdict_of (comparison 1 (c.lp.inside.rows + c.args.column) b ∷ [])) (c.is_equal.ensures ∙ ap (eq_ℚ c.in_ok-sum.sum) c.whole.ensures)
     ∙ ray_done c.args.lp.now (value_at c.args.ray.now) c.args.column c.column.result.now c.column.ensures
     c.value_of.result (c.value_of.ensures ∙ ap (value_at c.args.ray.now) n) c.in_ok-sum.sum c.in_ok-sum.ensures (c.lp.inside.rows + c.args.column) n

@@ -12,7 +12,8 @@ use Rattle.certificate_check.proofs.sums.add_entry.Goals as goal
 pub returns-in-Some : goal.returns-in-Some
 returns-in-Some c =
     let rows : c.lp.inside.rows ≡ c.args.lp.now.rows = ap (λ (p : LinearProgram). p.rows) c.lp.view_is in
-    let number : c.in-Some.number ≡ entry c.args.lp.now.matrix c.args.row c.args.column = c.in-Some.ensures ∙ ap (λ (es : List Entry). on_row es c.args.row) c.column.ensures in
+    let number : c.in-Some.number ≡ entry c.args.lp.now.matrix c.args.row c.args.column =
+    c.in-Some.ensures ∙ ap (λ (es : List Entry). on_row es c.args.row) c.column.ensures in
     let value = c.value_of.ensures ∙ ap (λ k. value_at c.args.values.now (k + c.args.column)) rows in
     subst (λ (t : Product). SumsTo c.add_product.result c.args.sum (t ∷ []))
     (same_product c.args.lp.now (value_at c.args.values.now) c.args.row c.args.column c.in-Some.number c.value_of.result number value) c.add_product.ensures

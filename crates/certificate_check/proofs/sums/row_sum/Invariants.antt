@@ -13,4 +13,5 @@ invariant-loop-column l = IsListLeft l.lp (value_at l.values) l.row l.sum (drop 
 
 -- the columns that are left are to be added to the sum so far
 abbrev pub invariant-loop-place : goal.invariant-loop-place
-invariant-loop-place l = TermsFit l.sum × IsLeft zero_ℚ (row_products l.lp (value_at l.values) l.row) l.sum (columns_left l.lp (value_at l.values) l.row (l.last + l.place))
+invariant-loop-place l =
+    TermsFit l.sum × IsLeft zero_ℚ (row_products l.lp (value_at l.values) l.row) l.sum (columns_left l.lp (value_at l.values) l.row (l.last + l.place))

@@ -16,4 +16,5 @@ returns-in-Infeasible c =
     (subst (λ (w : List ℚ). Judges (infeasible_check p (value_at w)) result) c.deref.ensures.value c.check_ray.ensures)
 
 pub returns-in-Unbounded : goal.returns-in-Unbounded
-returns-in-Unbounded c = subst (λ (claim : Claim). Judges (claim_test checker_of_128_bits c.args.lp.now claim) c.check_pair.result) (sym c.in-Unbounded.is) c.check_pair.ensures
+returns-in-Unbounded c =
+    subst (λ (claim : Claim). Judges (claim_test checker_of_128_bits c.args.lp.now claim) c.check_pair.result) (sym c.in-Unbounded.is) c.check_pair.ensures

@@ -10,4 +10,6 @@ use Rattle.checks_of_128_bits.proofs.claim_tests.check_opening.Goals as goal
 pub returns : goal.returns
 returns c =
     let request = c.args.request.now in
-    subst (λ (theta : ℚ). Judges (opening_test checker_of_128_bits (sheet_view c.args.sheet) (changing_of request.name request.change) theta c.args.claim.now) c.check_claim_at.result) c.in_ok-from.ensures.1 c.check_claim_at.ensures
+    subst (λ (theta : ℚ). Judges
+    (opening_test checker_of_128_bits (sheet_view c.args.sheet)
+    (changing_of request.name request.change) theta c.args.claim.now) c.check_claim_at.result) c.in_ok-from.ensures.1 c.check_claim_at.ensures

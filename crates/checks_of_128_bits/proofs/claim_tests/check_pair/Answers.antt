@@ -11,4 +11,5 @@ returns c =
     let pair = c.args.pair.now in
     let made = c.in_ok-made.ensures in
     judges_same c.test_pair.result (pair_test checker_of_128_bits p c.args.objective.now pair) c.judge.result
-    (c.test_pair.ensures ∙ pair_is p c.in_ok-objective.objective c.args.objective.now c.in_ok-made.made pair c.in_ok-objective.ensures.1 made.0 made.1) c.judge.ensures
+    (c.test_pair.ensures
+    ∙ pair_is p c.in_ok-objective.objective c.args.objective.now c.in_ok-made.made pair c.in_ok-objective.ensures.1 made.0 made.1) c.judge.ensures

@@ -18,6 +18,13 @@ returns-in-Set c =
     let w = value_at c.args.ray.now in
     let result = c.check_past_infeasible.result in
     let serves = rw c.in-Set.is at c.requires.asked.serves in
-    subst (λ (change : Change). Judges (infeasible_test checker_of_128_bits sheet (changing_of request.name change) request.to c.args.last c.args.value c.args.ray.now) result) (sym c.in-Set.is)
-    (subst (λ (shift : List ℚ). Judges (past_test request.to c.args.last c.args.value (infeasible_past checker_of_128_bits sheet (Set request.name) shift c.args.value w)) result) (c.deref.ensures.value ∙ sym serves.0)
-    (subst (λ (change : Change). Judges (past_test request.to c.args.last c.args.value (infeasible_past checker_of_128_bits sheet (changing_of request.name change) c.deref.result.now c.args.value w)) result) c.in-Set.is c.check_past_infeasible.ensures))
+    subst (λ (change : Change). Judges
+    (infeasible_test checker_of_128_bits sheet (changing_of request.name change) request.to c.args.last c.args.value c.args.ray.now) result)
+    (sym c.in-Set.is)
+    (subst (λ (shift : List ℚ). Judges
+    (past_test request.to c.args.last c.args.value (infeasible_past checker_of_128_bits sheet (Set request.name) shift c.args.value w)) result)
+    (c.deref.ensures.value ∙ sym serves.0)
+    (subst (λ (change : Change). Judges
+    (past_test request.to c.args.last c.args.value
+    (infeasible_past checker_of_128_bits sheet
+    (changing_of request.name change) c.deref.result.now c.args.value w)) result) c.in-Set.is c.check_past_infeasible.ensures))

@@ -27,7 +27,8 @@ returns-in_err-judge c =
     let result = c.from_residual-in_err-judge.result in
     past_is sheet changing shift t w q result c.in_ok-program.ensures.1
     (then_by making making (in_turn (combined ∷ met ∷ low ∷ falling ∷ fallen ∷ [])) result refl c.in_ok-program.ensures.0
-    (exit_by c.check_combination.result combined (in_turn (met ∷ low ∷ falling ∷ fallen ∷ [])) result c.in_err-judge.field-0.0 c.check_combination.ensures.exact c.in_err-judge.ensures c.from_residual-in_err-judge.ensures.1))
+    (exit_by c.check_combination.result combined
+    (in_turn (met ∷ low ∷ falling ∷ fallen ∷ [])) result c.in_err-judge.field-0.0 c.check_combination.ensures.exact c.in_err-judge.ensures c.from_residual-in_err-judge.ensures.1))
 
 pub returns-in_err-sum : goal.returns-in_err-sum
 returns-in_err-sum c =
@@ -68,7 +69,8 @@ returns-in_err-ask c =
     (then_by making making (in_turn (combined ∷ met ∷ low ∷ falling ∷ fallen ∷ [])) result refl c.in_ok-program.ensures.0
     (then_by c.check_combination.result combined (in_turn (met ∷ low ∷ falling ∷ fallen ∷ [])) result c.check_combination.ensures.exact c.in_ok-judge.ensures
     (then_by met met (in_turn (low ∷ falling ∷ fallen ∷ [])) result refl c.in_ok-sum.ensures.0
-    (exit_by (asked c.is_at_most.result) low (in_turn (falling ∷ fallen ∷ [])) result c.in_err-ask.field-0.0 (ap asked (c.is_at_most.ensures ∙ ap₂ le_ℚ c.in_ok-sum.ensures.1 c.whole.ensures)) c.in_err-ask.ensures c.from_residual-in_err-ask.ensures.1))))
+    (exit_by (asked c.is_at_most.result) low (in_turn (falling ∷ fallen ∷ [])) result c.in_err-ask.field-0.0
+    (ap asked (c.is_at_most.ensures ∙ ap₂ le_ℚ c.in_ok-sum.ensures.1 c.whole.ensures)) c.in_err-ask.ensures c.from_residual-in_err-ask.ensures.1))))
 
 pub returns-in_err-fall : goal.returns-in_err-fall
 returns-in_err-fall c =
@@ -89,8 +91,10 @@ returns-in_err-fall c =
     (then_by making making (in_turn (combined ∷ met ∷ low ∷ falling ∷ fallen ∷ [])) result refl c.in_ok-program.ensures.0
     (then_by c.check_combination.result combined (in_turn (met ∷ low ∷ falling ∷ fallen ∷ [])) result c.check_combination.ensures.exact c.in_ok-judge.ensures
     (then_by met met (in_turn (low ∷ falling ∷ fallen ∷ [])) result refl c.in_ok-sum.ensures.0
-    (then_by (asked c.is_at_most.result) low (in_turn (falling ∷ fallen ∷ [])) result (ap asked (c.is_at_most.ensures ∙ ap₂ le_ℚ c.in_ok-sum.ensures.1 c.whole.ensures)) c.in_ok-ask.ensures
-    (exit_by falling falling (in_turn (fallen ∷ [])) result c.in_err-fall.field-0.0 refl (c.in_err-fall.ensures changing) c.from_residual-in_err-fall.ensures.1)))))
+    (then_by (asked c.is_at_most.result) low (in_turn (falling ∷ fallen ∷ [])) result
+    (ap asked (c.is_at_most.ensures ∙ ap₂ le_ℚ c.in_ok-sum.ensures.1 c.whole.ensures)) c.in_ok-ask.ensures
+    (exit_by falling falling (in_turn (fallen ∷ [])) result c.in_err-fall.field-0.0 refl
+    (c.in_err-fall.ensures changing) c.from_residual-in_err-fall.ensures.1)))))
 
 pub returns : goal.returns
 returns c =
@@ -111,6 +115,8 @@ returns c =
     (then_by making making (in_turn (combined ∷ met ∷ low ∷ falling ∷ fallen ∷ [])) result refl c.in_ok-program.ensures.0
     (then_by c.check_combination.result combined (in_turn (met ∷ low ∷ falling ∷ fallen ∷ [])) result c.check_combination.ensures.exact c.in_ok-judge.ensures
     (then_by met met (in_turn (low ∷ falling ∷ fallen ∷ [])) result refl c.in_ok-sum.ensures.0
-    (then_by (asked c.is_at_most.result) low (in_turn (falling ∷ fallen ∷ [])) result (ap asked (c.is_at_most.ensures ∙ ap₂ le_ℚ c.in_ok-sum.ensures.1 c.whole.ensures)) c.in_ok-ask.ensures
+    (then_by (asked c.is_at_most.result) low (in_turn (falling ∷ fallen ∷ [])) result
+    (ap asked (c.is_at_most.ensures ∙ ap₂ le_ℚ c.in_ok-sum.ensures.1 c.whole.ensures)) c.in_ok-ask.ensures
     (then_by falling falling (in_turn (fallen ∷ [])) result refl (c.in_ok-fall.ensures changing).0
-    (last_by (asked c.is_less.result) fallen result (ap asked (c.is_less.ensures ∙ ap₂ lt_ℚ (c.in_ok-fall.ensures changing).1 c.whole-2.ensures)) c.ask-2.ensures))))))
+    (last_by (asked c.is_less.result) fallen result
+    (ap asked (c.is_less.ensures ∙ ap₂ lt_ℚ (c.in_ok-fall.ensures changing).1 c.whole-2.ensures)) c.ask-2.ensures))))))

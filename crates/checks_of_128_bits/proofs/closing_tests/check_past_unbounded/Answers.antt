@@ -15,7 +15,12 @@ returns c changing =
     let pair = c.args.pair.now in
     let result = c.check_unbounded_past.result in
     let proof = unbounded_past checker_of_128_bits sheet changing c.args.row value (value_at pair.point.items) (value_at pair.direction.items) in
-    let same : unbounded_past checker_of_128_bits sheet changing c.args.row value (value_at c.deref.result.now) (value_at c.deref-2.result.now) ≡ proof = λ i. unbounded_past checker_of_128_bits sheet changing c.args.row value (value_at (c.deref.ensures.value i)) (value_at (c.deref-2.ensures.value i)) in
-    then_by (asked c.is_equal.result) (asked (eq_ℚ value c.args.last)) (in_turn (asked (lt_ℚ value c.args.max) ∷ proof ∷ [])) result (ap asked c.is_equal.ensures) c.in_ok-ask.ensures
+    let same : unbounded_past checker_of_128_bits sheet changing c.args.row value (value_at c.deref.result.now) (value_at c.deref-2.result.now) ≡ proof =
+    λ i. unbounded_past checker_of_128_bits sheet changing c.args.row value (value_at (c.deref.ensures.value i)) (value_at (c.deref-2.ensures.value i)) in
+    then_by (asked c.is_equal.result) (asked (eq_ℚ value c.args.last)) (in_turn (asked (lt_ℚ value c.args.max) ∷ proof ∷ [])) result
+    (ap asked c.is_equal.ensures) c.in_ok-ask.ensures
     (then_by (asked c.is_less.result) (asked (lt_ℚ value c.args.max)) (in_turn (proof ∷ [])) result (ap asked c.is_less.ensures) c.in_ok-ask-2.ensures
-    (last_by proof proof result refl (judges_same (unbounded_past checker_of_128_bits sheet changing c.args.row value (value_at c.deref.result.now) (value_at c.deref-2.result.now)) proof result same (c.check_unbounded_past.ensures changing))))
+    (last_by proof proof result refl
+    (judges_same
+    (unbounded_past checker_of_128_bits sheet changing c.args.row value (value_at c.deref.result.now) (value_at c.deref-2.result.now)) proof result same
+    (c.check_unbounded_past.ensures changing))))

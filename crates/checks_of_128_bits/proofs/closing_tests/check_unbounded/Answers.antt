@@ -17,6 +17,11 @@ returns-in-Row c =
     let pair = c.args.pair.now in
     let result = c.check_past_unbounded.result in
     let serves = rw c.in-Row.is at c.requires.serves in
-    subst (λ (change : Change). Judges (unbounded_test checker_of_128_bits sheet (changing_of request.name change) request.to c.args.last c.args.value pair.point.items pair.direction.items) result) (sym c.in-Row.is)
-    (subst (λ (h : ℕ). Judges (past_test request.to c.args.last c.args.value (unbounded_past checker_of_128_bits sheet (Row request.name) h c.args.value (value_at pair.point.items) (value_at pair.direction.items))) result) (sym serves.0)
+    subst (λ (change : Change). Judges
+    (unbounded_test checker_of_128_bits sheet
+    (changing_of request.name change) request.to c.args.last c.args.value pair.point.items pair.direction.items) result) (sym c.in-Row.is)
+    (subst (λ (h : ℕ). Judges
+    (past_test request.to c.args.last c.args.value
+    (unbounded_past checker_of_128_bits sheet (Row request.name) h c.args.value (value_at pair.point.items) (value_at pair.direction.items))) result)
+    (sym serves.0)
     (c.check_past_unbounded.ensures (Row request.name)))

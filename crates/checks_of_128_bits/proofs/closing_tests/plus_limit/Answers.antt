@@ -22,4 +22,5 @@ returns c =
     let is : c.index-ray-k.result ≡ value_at ray c.args.k = value_read ray c.args.k c.index-ray-k.result (omega arith) c.index-ray-k.is in
     let apart : c.index-ray-k.result ≢ zero_ℚ = search rules in
     adds_made p (value_at ray) c.args.sum c.args.k c.index-ray-k.result c.limit_met.result is
-    (c.limit_met.ensures ∙ ap (λ (m : ℚ). if lt_ℚ zero_ℚ m then upper_of p c.args.k else lower_of p c.args.k) is) (λ e. apart (is ∙ e)) c.plus_met.result c.plus_met.ensures
+    (c.limit_met.ensures ∙ ap (λ (m : ℚ). if lt_ℚ zero_ℚ m then upper_of p c.args.k else lower_of p c.args.k) is)
+    (λ e. apart (is ∙ e)) c.plus_met.result c.plus_met.ensures

@@ -32,10 +32,12 @@ returns-in_err-next c =
     let in_value : c.loop-i.i < length value = omega (arith, below, c.requires.value_places) in
     let in_rate : c.loop-i.i < length rate = omega (arith, below, c.requires.rate_places) in
     let stop = c.in_err-next.field-0.0 in
-    made_handed {X = Vec Frac Global} (λ made. IsAlong p c.args.theta value rate made.items) (verdict_of (along_steps (sheet_view c.args.sheet) c.args.theta value rate)) c.from_residual.result stop
+    made_handed {X = Vec Frac Global} (λ made. IsAlong p c.args.theta value rate made.items)
+    (verdict_of (along_steps (sheet_view c.args.sheet) c.args.theta value rate)) c.from_residual.result stop
     (each_stops (along_step c.args.theta value rate) (size p.matrix) c.loop-i.i stop c.loop-i.invariant.left below
     (subst (λ (v : Verdict). Stops stop v)
-    (along_same c.args.theta value rate (c.loop-i.i + 1) c.index-value-place.result c.index-rate-place.result (sym (value_next value c.loop-i.i c.index-value-place.result in_value c.index-value-place.is))
+    (along_same c.args.theta value rate (c.loop-i.i + 1) c.index-value-place.result c.index-rate-place.result
+    (sym (value_next value c.loop-i.i c.index-value-place.result in_value c.index-value-place.is))
     (sym (value_next rate c.loop-i.i c.index-rate-place.result in_rate c.index-rate-place.is)))
     c.in_err-next.ensures))
     c.from_residual.ensures.1
@@ -58,7 +60,8 @@ loop-i-preserved c =
           (c.in_ok-next.ensures.1 ∙ ap₂ (λ (v r : ℚ). v +ℚ c.args.theta *ℚ r) is_value is_rate);
       left =
           each_goes_on (along_step c.args.theta value rate) (size p.matrix) c.loop-i.i c.loop-i.invariant.left below
-          (sym (along_same c.args.theta value rate (c.loop-i.i + 1) c.index-value-place.result c.index-rate-place.result is_value is_rate) ∙ c.in_ok-next.ensures.0);
+          (sym (along_same c.args.theta value rate (c.loop-i.i + 1) c.index-value-place.result c.index-rate-place.result is_value is_rate)
+          ∙ c.in_ok-next.ensures.0);
     }
 
 pub returns : goal.returns

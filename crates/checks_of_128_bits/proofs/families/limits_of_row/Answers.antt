@@ -16,9 +16,11 @@ returns-in_err-lower c =
     let by = c.index-shift-i.result in
     let is_by : by ≡ value_at shift c.args.i = value_read shift c.args.i by (omega arith) c.index-shift-i.is in
     let stop = c.in_err-lower.field-0.0 in
-    made_handed (λ (made : Option ℚ × Option ℚ). (made.0 ≡ moved c.args.theta (value_at shift c.args.i) (lower_of sheet.lp c.args.i)) × (made.1 ≡ moved c.args.theta (value_at shift c.args.i) (upper_of sheet.lp c.args.i)))
+    made_handed (λ (made : Option ℚ × Option ℚ). (made.0 ≡ moved c.args.theta (value_at shift c.args.i) (lower_of sheet.lp c.args.i)) ×
+    (made.1 ≡ moved c.args.theta (value_at shift c.args.i) (upper_of sheet.lp c.args.i)))
     (verdict_of (row_steps sheet shift c.args.theta c.args.i)) c.from_residual.result stop
-    (low_stops sheet shift c.args.theta c.args.i by is_by c.lower_limit.result (upper_of sheet.lp c.args.i) c.lower_limit.ensures (λ i. upper_of sheet.lp c.args.i) stop (c.in_err-lower.ensures sheet))
+    (low_stops sheet shift c.args.theta c.args.i by is_by c.lower_limit.result (upper_of sheet.lp c.args.i) c.lower_limit.ensures
+    (λ i. upper_of sheet.lp c.args.i) stop (c.in_err-lower.ensures sheet))
     c.from_residual.ensures.1
 
 pub returns-in_err-upper : goal.returns-in_err-upper
@@ -28,9 +30,11 @@ returns-in_err-upper c =
     let by = c.index-shift-i.result in
     let is_by : by ≡ value_at shift c.args.i = value_read shift c.args.i by (omega arith) c.index-shift-i.is in
     let stop = c.in_err-upper.field-0.0 in
-    made_handed (λ (made : Option ℚ × Option ℚ). (made.0 ≡ moved c.args.theta (value_at shift c.args.i) (lower_of sheet.lp c.args.i)) × (made.1 ≡ moved c.args.theta (value_at shift c.args.i) (upper_of sheet.lp c.args.i)))
+    made_handed (λ (made : Option ℚ × Option ℚ). (made.0 ≡ moved c.args.theta (value_at shift c.args.i) (lower_of sheet.lp c.args.i)) ×
+    (made.1 ≡ moved c.args.theta (value_at shift c.args.i) (upper_of sheet.lp c.args.i)))
     (verdict_of (row_steps sheet shift c.args.theta c.args.i)) c.from_residual-in_err-upper.result stop
-    (high_stops sheet shift c.args.theta c.args.i by is_by c.lower_limit.result c.upper_limit.result c.lower_limit.ensures c.upper_limit.ensures stop (c.in_ok-lower.ensures sheet).0 (c.in_err-upper.ensures sheet))
+    (high_stops sheet shift c.args.theta c.args.i by is_by c.lower_limit.result c.upper_limit.result c.lower_limit.ensures c.upper_limit.ensures stop
+    (c.in_ok-lower.ensures sheet).0 (c.in_err-upper.ensures sheet))
     c.from_residual-in_err-upper.ensures.1
 
 pub returns : goal.returns
@@ -39,7 +43,8 @@ returns c =
     let shift = c.args.shift.now in
     let by = c.index-shift-i.result in
     let is_by : by ≡ value_at shift c.args.i = value_read shift c.args.i by (omega arith) c.index-shift-i.is in (
-      row_passes sheet shift c.args.theta c.args.i by is_by c.lower_limit.result c.upper_limit.result c.lower_limit.ensures c.upper_limit.ensures (c.in_ok-lower.ensures sheet).0 (c.in_ok-upper.ensures sheet).0,
+      row_passes sheet shift c.args.theta c.args.i by is_by c.lower_limit.result c.upper_limit.result c.lower_limit.ensures c.upper_limit.ensures
+          (c.in_ok-lower.ensures sheet).0 (c.in_ok-upper.ensures sheet).0,
       (
         (c.in_ok-lower.ensures sheet).1 ∙ ap₂ (moved c.args.theta) is_by c.lower_limit.ensures,
         (c.in_ok-upper.ensures sheet).1 ∙ ap₂ (moved c.args.theta) is_by c.upper_limit.ensures,

@@ -22,7 +22,8 @@ returns-in_err-limits c =
     let shift = c.args.shift.now in
     let stop = c.in_err-limits.field-0.0 in
     made_handed (AreLimits sheet.lp shift c.args.theta (row_numbers sheet.lp)) (verdict_of (shift_steps sheet shift c.args.theta)) c.from_residual.result stop
-    (each_stops (row_steps sheet shift c.args.theta) sheet.lp.rows c.loop-i.i stop c.loop-i.invariant.left (search rules) c.in_err-limits.ensures) c.from_residual.ensures.1
+    (each_stops (row_steps sheet shift c.args.theta) sheet.lp.rows c.loop-i.i stop c.loop-i.invariant.left
+    (search rules) c.in_err-limits.ensures) c.from_residual.ensures.1
 
 pub loop-i-preserved : goal.loop-i-preserved
 loop-i-preserved c =
@@ -34,8 +35,12 @@ loop-i-preserved c =
     let pushed_low : c.push.new.self.items ≡ c.loop-i.lower.items ++ (c.in_ok-limits.limits.0 ∷ []) = search rules in
     let pushed_high : c.push-in-loop-i.new.self.items ≡ c.loop-i.upper.items ++ (c.in_ok-limits.limits.1 ∷ []) = search rules in
     record {
-      lower = pushed_low ∙ one_more (low_at p shift c.args.theta) c.loop-i.lower.items c.loop-i.i c.in_ok-limits.limits.0 c.loop-i.invariant.lower (limits.1.0 ∙ row_low p shift c.args.theta (c.loop-i.i + 1) is_row);
-      upper = pushed_high ∙ one_more (high_at p shift c.args.theta) c.loop-i.upper.items c.loop-i.i c.in_ok-limits.limits.1 c.loop-i.invariant.upper (limits.1.1 ∙ row_high p shift c.args.theta (c.loop-i.i + 1) is_row);
+      lower =
+          pushed_low ∙ one_more (low_at p shift c.args.theta) c.loop-i.lower.items c.loop-i.i c.in_ok-limits.limits.0 c.loop-i.invariant.lower
+          (limits.1.0 ∙ row_low p shift c.args.theta (c.loop-i.i + 1) is_row);
+      upper =
+          pushed_high ∙ one_more (high_at p shift c.args.theta) c.loop-i.upper.items c.loop-i.i c.in_ok-limits.limits.1 c.loop-i.invariant.upper
+          (limits.1.1 ∙ row_high p shift c.args.theta (c.loop-i.i + 1) is_row);
       left = each_goes_on (row_steps (sheet_view c.args.sheet) shift c.args.theta) p.rows c.loop-i.i c.loop-i.invariant.left below limits.0;
     }
 

@@ -9,13 +9,15 @@ pub with_limits-requires-clause-lower : goal.with_limits-requires-clause-lower
 with_limits-requires-clause-lower c =
     let limits = c.in_ok-limits.ensures c.args.shift.now c.args.theta c.in_ok-rows.ensures.1 in
     let counted : vec_len c.in_ok-limits.limits.lower ≡ length c.in_ok-limits.limits.lower.items = search rules in
-    counted ∙ ap (λ (xs : List (Option ℚ)). length xs) limits.lower ∙ (lawful_rhs c.args.sheet.lp.now c.args.shift.now c.requires.lawful c.args.theta).lower_counted
+    counted ∙ ap (λ (xs : List (Option ℚ)). length xs) limits.lower
+    ∙ (lawful_rhs c.args.sheet.lp.now c.args.shift.now c.requires.lawful c.args.theta).lower_counted
 
 pub with_limits-requires-clause-upper : goal.with_limits-requires-clause-upper
 with_limits-requires-clause-upper c =
     let limits = c.in_ok-limits.ensures c.args.shift.now c.args.theta c.in_ok-rows.ensures.1 in
     let counted : vec_len c.in_ok-limits.limits.upper ≡ length c.in_ok-limits.limits.upper.items = search rules in
-    counted ∙ ap (λ (xs : List (Option ℚ)). length xs) limits.upper ∙ (lawful_rhs c.args.sheet.lp.now c.args.shift.now c.requires.lawful c.args.theta).upper_counted
+    counted ∙ ap (λ (xs : List (Option ℚ)). length xs) limits.upper
+    ∙ (lawful_rhs c.args.sheet.lp.now c.args.shift.now c.requires.lawful c.args.theta).upper_counted
 
 pub with_limits-requires-clause-objective : goal.with_limits-requires-clause-objective
 with_limits-requires-clause-objective c =

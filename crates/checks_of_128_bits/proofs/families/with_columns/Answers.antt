@@ -21,10 +21,12 @@ loop-j-preserved c = λ shift theta are.
     let pushed_low : c.push.new.self.items ≡ c.loop-j.lower.items ++ (c.lower_limit.result ∷ []) = search rules in
     let pushed_high : c.push-in-loop-j.new.self.items ≡ c.loop-j.upper.items ++ (c.upper_limit.result ∷ []) = search rules in (
       pushed_low
-          ∙ one_more (low_at p shift theta) c.loop-j.lower.items (p.rows + c.loop-j.j) c.lower_limit.result before.0 (c.lower_limit.ensures ∙ ap (lower_of p) k ∙ column_low p shift theta (p.rows + c.loop-j.j + 1) more)
+          ∙ one_more (low_at p shift theta) c.loop-j.lower.items (p.rows + c.loop-j.j) c.lower_limit.result before.0
+          (c.lower_limit.ensures ∙ ap (lower_of p) k ∙ column_low p shift theta (p.rows + c.loop-j.j + 1) more)
           ∙ ap (λ n. map (low_at p shift theta) (numbers_from 1 n)) next,
       pushed_high
-          ∙ one_more (high_at p shift theta) c.loop-j.upper.items (p.rows + c.loop-j.j) c.upper_limit.result before.1 (c.upper_limit.ensures ∙ ap (upper_of p) k ∙ column_high p shift theta (p.rows + c.loop-j.j + 1) more)
+          ∙ one_more (high_at p shift theta) c.loop-j.upper.items (p.rows + c.loop-j.j) c.upper_limit.result before.1
+          (c.upper_limit.ensures ∙ ap (upper_of p) k ∙ column_high p shift theta (p.rows + c.loop-j.j + 1) more)
           ∙ ap (λ n. map (high_at p shift theta) (numbers_from 1 n)) next,
     )
 

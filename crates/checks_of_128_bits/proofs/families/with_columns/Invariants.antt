@@ -9,4 +9,5 @@ use Rattle.checks_of_128_bits.proofs.families.with_columns.Given as goal
 abbrev pub invariant-loop-j : goal.invariant-loop-j
 invariant-loop-j l =
     (shift : List ℚ) (theta : ℚ) → AreLimits l.lp shift theta (row_numbers l.lp) l.fn.limits →
-    (l.lower.items ≡ map (low_at l.lp shift theta) (numbers_from 1 (l.lp.rows + l.j))) × (l.upper.items ≡ map (high_at l.lp shift theta) (numbers_from 1 (l.lp.rows + l.j)))
+    (l.lower.items ≡ map (low_at l.lp shift theta) (numbers_from 1 (l.lp.rows + l.j))) ×
+    (l.upper.items ≡ map (high_at l.lp shift theta) (numbers_from 1 (l.lp.rows + l.j)))

@@ -21,14 +21,16 @@ pub check_optimal-requires-clause-point_places : goal.check_optimal-requires-cla
 check_optimal-requires-clause-point_places c =
     let sheet = sheet_view c.args.sheet in
     let changing = changing_of c.args.request.now.name c.args.request.now.change in
-    ap length c.deref-5.ensures.value ∙ along_counted sheet.lp (along c.args.theta c.deref.result.now c.deref-2.result.now) c.in_ok-point.point.items c.in_ok-point.ensures.1
+    ap length c.deref-5.ensures.value
+    ∙ along_counted sheet.lp (along c.args.theta c.deref.result.now c.deref-2.result.now) c.in_ok-point.point.items c.in_ok-point.ensures.1
     ∙ sym (ap size (ap (λ (p : LinearProgram). p.matrix) c.in_ok-program.ensures.1 ∙ family_matrix sheet changing c.args.theta))
 
 pub check_optimal-requires-clause-price_places : goal.check_optimal-requires-clause-price_places
 check_optimal-requires-clause-price_places c =
     let sheet = sheet_view c.args.sheet in
     let changing = changing_of c.args.request.now.name c.args.request.now.change in
-    ap length c.deref-6.ensures.value ∙ along_counted sheet.lp (along c.args.theta c.deref-3.result.now c.deref-4.result.now) c.in_ok-prices.prices.items c.in_ok-prices.ensures.1
+    ap length c.deref-6.ensures.value
+    ∙ along_counted sheet.lp (along c.args.theta c.deref-3.result.now c.deref-4.result.now) c.in_ok-prices.prices.items c.in_ok-prices.ensures.1
     ∙ sym (ap size (ap (λ (p : LinearProgram). p.matrix) c.in_ok-program.ensures.1 ∙ family_matrix sheet changing c.args.theta))
 
 pub returns-in_err-judge : goal.returns-in_err-judge
@@ -40,9 +42,13 @@ returns-in_err-judge c =
     let making = verdict_of (making_steps sheet changing theta) in
     let values = verdict_of (along_steps sheet theta columns.value.items columns.value_rate.items) in
     let prices = verdict_of (along_steps sheet theta columns.price.items columns.price_rate.items) in
-    let best = optimal_check (family_of sheet changing theta) (along theta columns.value.items columns.value_rate.items) (along theta columns.price.items columns.price_rate.items) in
-    let point_made = along_given sheet theta c.deref.result.now c.deref-2.result.now columns.value.items columns.value_rate.items c.in_ok-point.point.items c.deref.ensures.value c.deref-2.ensures.value c.in_ok-point.ensures.0 c.in_ok-point.ensures.1 in
-    let prices_made = along_given sheet theta c.deref-3.result.now c.deref-4.result.now columns.price.items columns.price_rate.items c.in_ok-prices.prices.items c.deref-3.ensures.value c.deref-4.ensures.value c.in_ok-prices.ensures.0 c.in_ok-prices.ensures.1 in
+    let best =
+    optimal_check (family_of sheet changing theta) (along theta columns.value.items columns.value_rate.items)
+    (along theta columns.price.items columns.price_rate.items) in
+    let point_made =
+    along_given sheet theta c.deref.result.now c.deref-2.result.now columns.value.items columns.value_rate.items c.in_ok-point.point.items c.deref.ensures.value c.deref-2.ensures.value c.in_ok-point.ensures.0 c.in_ok-point.ensures.1 in
+    let prices_made =
+    along_given sheet theta c.deref-3.result.now c.deref-4.result.now columns.price.items columns.price_rate.items c.in_ok-prices.prices.items c.deref-3.ensures.value c.deref-4.ensures.value c.in_ok-prices.ensures.0 c.in_ok-prices.ensures.1 in
     let is : c.check_optimal.result ≡ best =
     c.check_optimal.ensures.exact
     ∙ best_given sheet changing theta columns c.requires.counted c.in_ok-program.program c.deref-5.result.now c.deref-6.result.now c.in_ok-point.point.items c.in_ok-prices.prices.items c.in_ok-program.ensures.1 c.deref-5.ensures.value c.deref-6.ensures.value
@@ -51,7 +57,8 @@ returns-in_err-judge c =
     made_handed (IsEnd sheet changing theta columns) (end_verdict sheet changing theta columns) c.from_residual-in_err-judge.result stop
     (stops_next stop making (in_turn (values ∷ prices ∷ best ∷ [])) c.in_ok-program.ensures.0
     (stops_next stop values (in_turn (prices ∷ best ∷ [])) point_made.0
-    (stops_next stop prices (in_turn (best ∷ [])) prices_made.0 (stops_first stop best Checked (subst (λ (v : Verdict). Stops stop v) is c.in_err-judge.ensures)))))
+    (stops_next stop prices (in_turn (best ∷ [])) prices_made.0
+    (stops_first stop best Checked (subst (λ (v : Verdict). Stops stop v) is c.in_err-judge.ensures)))))
     c.from_residual-in_err-judge.ensures.1
 
 pub returns : goal.returns
@@ -63,9 +70,13 @@ returns c =
     let making = verdict_of (making_steps sheet changing theta) in
     let values = verdict_of (along_steps sheet theta columns.value.items columns.value_rate.items) in
     let prices = verdict_of (along_steps sheet theta columns.price.items columns.price_rate.items) in
-    let best = optimal_check (family_of sheet changing theta) (along theta columns.value.items columns.value_rate.items) (along theta columns.price.items columns.price_rate.items) in
-    let point_made = along_given sheet theta c.deref.result.now c.deref-2.result.now columns.value.items columns.value_rate.items c.in_ok-point.point.items c.deref.ensures.value c.deref-2.ensures.value c.in_ok-point.ensures.0 c.in_ok-point.ensures.1 in
-    let prices_made = along_given sheet theta c.deref-3.result.now c.deref-4.result.now columns.price.items columns.price_rate.items c.in_ok-prices.prices.items c.deref-3.ensures.value c.deref-4.ensures.value c.in_ok-prices.ensures.0 c.in_ok-prices.ensures.1 in
+    let best =
+    optimal_check (family_of sheet changing theta) (along theta columns.value.items columns.value_rate.items)
+    (along theta columns.price.items columns.price_rate.items) in
+    let point_made =
+    along_given sheet theta c.deref.result.now c.deref-2.result.now columns.value.items columns.value_rate.items c.in_ok-point.point.items c.deref.ensures.value c.deref-2.ensures.value c.in_ok-point.ensures.0 c.in_ok-point.ensures.1 in
+    let prices_made =
+    along_given sheet theta c.deref-3.result.now c.deref-4.result.now columns.price.items columns.price_rate.items c.in_ok-prices.prices.items c.deref-3.ensures.value c.deref-4.ensures.value c.in_ok-prices.ensures.0 c.in_ok-prices.ensures.1 in
     let is : c.check_optimal.result ≡ best =
     c.check_optimal.ensures.exact
     ∙ best_given sheet changing theta columns c.requires.counted c.in_ok-program.program c.deref-5.result.now c.deref-6.result.now c.in_ok-point.point.items c.in_ok-prices.prices.items c.in_ok-program.ensures.1 c.deref-5.ensures.value c.deref-6.ensures.value

@@ -10,11 +10,14 @@ loop-i-init c = each_left (kept_steps c.args.start.now c.args.end.now) (size c.a
 
 pub returns-in_err-check_prices_of : goal.returns-in_err-check_prices_of
 returns-in_err-check_prices_of c =
-    each_exit (kept_steps c.args.start.now c.args.end.now) (size c.args.start.now.program.matrix) c.loop-i.i c.from_residual.result c.in_err-check_prices_of.field-0.0
+    each_exit (kept_steps c.args.start.now c.args.end.now)
+    (size c.args.start.now.program.matrix) c.loop-i.i c.from_residual.result c.in_err-check_prices_of.field-0.0
     c.loop-i.invariant (search rules) c.in_err-check_prices_of.ensures c.from_residual.ensures.1
 
 pub loop-i-preserved : goal.loop-i-preserved
-loop-i-preserved c = each_goes_on (kept_steps c.args.start.now c.args.end.now) (size c.args.start.now.program.matrix) c.loop-i.i c.loop-i.invariant (search rules) c.in_ok-check_prices_of.ensures
+loop-i-preserved c =
+    each_goes_on (kept_steps c.args.start.now c.args.end.now) (size c.args.start.now.program.matrix) c.loop-i.i c.loop-i.invariant
+    (search rules) c.in_ok-check_prices_of.ensures
 
 pub returns : goal.returns
 returns c = each_ends (kept_steps c.args.start.now c.args.end.now) (size c.args.start.now.program.matrix) c.loop-i.i (search rules) c.loop-i.invariant

@@ -15,5 +15,6 @@ returns c =
     let part = c.args.part.now in
     let interval = c.in_ok-interval.interval in
     let max = c.args.request.now.to in
-    judges_same (interval_verdict sheet changing interval c.args.is_first max) (part_verdict checker_of_128_bits sheet changing from part.to part.columns c.args.is_first max) c.check_interval.result
+    judges_same (interval_verdict sheet changing interval c.args.is_first max)
+    (part_verdict checker_of_128_bits sheet changing from part.to part.columns c.args.is_first max) c.check_interval.result
     (part_is sheet changing from part interval c.args.is_first max c.in_ok-interval.ensures) c.check_interval.ensures

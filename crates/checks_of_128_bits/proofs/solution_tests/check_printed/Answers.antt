@@ -15,5 +15,6 @@ returns c =
     let y : c.deref-5.result.now ≡ printed.prices.items = c.deref-5.ensures.value ∙ c.in_ok-prices.ensures ∙ c.deref-2.ensures.value in
     let slack : c.deref-6.result.now ≡ printed.slacks.items = c.deref-6.ensures.value ∙ c.in_ok-slacks.ensures ∙ c.deref-3.ensures.value in
     judges_same (printed_test checker_of_128_bits sheet mark (value_at c.deref-4.result.now) (value_at c.deref-5.result.now) (value_at c.deref-6.result.now))
-    (printed_test checker_of_128_bits sheet mark (value_at printed.point.items) (value_at printed.prices.items) (value_at printed.slacks.items)) c.check_values.result
+    (printed_test checker_of_128_bits sheet mark (value_at printed.point.items) (value_at printed.prices.items)
+    (value_at printed.slacks.items)) c.check_values.result
     (λ i. printed_test checker_of_128_bits sheet mark (value_at (z i)) (value_at (y i)) (value_at (slack i))) c.check_values.ensures

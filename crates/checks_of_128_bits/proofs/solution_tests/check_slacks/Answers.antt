@@ -11,12 +11,17 @@ loop-i-init c = each_left (slack_steps (sheet_view c.args.sheet) (value_at c.arg
 
 pub returns-in_err-check_slack : goal.returns-in_err-check_slack
 returns-in_err-check_slack c =
-    each_exit (slack_steps (sheet_view c.args.sheet) (value_at c.args.point.now) (value_at c.args.slacks.now)) c.args.sheet.lp.now.rows c.loop-i.i c.from_residual.result c.in_err-check_slack.field-0.0
+    each_exit (slack_steps (sheet_view c.args.sheet) (value_at c.args.point.now)
+    (value_at c.args.slacks.now)) c.args.sheet.lp.now.rows c.loop-i.i c.from_residual.result c.in_err-check_slack.field-0.0
     c.loop-i.invariant (search rules) c.in_err-check_slack.ensures c.from_residual.ensures.1
 
 pub loop-i-preserved : goal.loop-i-preserved
 loop-i-preserved c =
-    each_goes_on (slack_steps (sheet_view c.args.sheet) (value_at c.args.point.now) (value_at c.args.slacks.now)) c.args.sheet.lp.now.rows c.loop-i.i c.loop-i.invariant (search rules) c.in_ok-check_slack.ensures
+    each_goes_on
+    (slack_steps (sheet_view c.args.sheet) (value_at c.args.point.now) (value_at c.args.slacks.now)) c.args.sheet.lp.now.rows c.loop-i.i c.loop-i.invariant
+    (search rules) c.in_ok-check_slack.ensures
 
 pub returns : goal.returns
-returns c = each_ends (slack_steps (sheet_view c.args.sheet) (value_at c.args.point.now) (value_at c.args.slacks.now)) c.args.sheet.lp.now.rows c.loop-i.i (search rules) c.loop-i.invariant
+returns c =
+    each_ends (slack_steps (sheet_view c.args.sheet) (value_at c.args.point.now) (value_at c.args.slacks.now)) c.args.sheet.lp.now.rows c.loop-i.i
+    (search rules) c.loop-i.invariant

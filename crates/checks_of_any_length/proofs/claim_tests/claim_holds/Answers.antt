@@ -29,4 +29,5 @@ returns-in_ok-shown-in-Infeasible c = λ x is.
 pub returns-in_ok-goes_on-in-Unbounded : goal.returns-in_ok-goes_on-in-Unbounded
 returns-in_ok-goes_on-in-Unbounded c = λ x is.
     let q = program_of c.args.at.now.lp.now c.args.at.now.change x in
-    subst (λ (claim : Claim). Answers c.in_ok-goes_on-in-Unbounded.goes_on (claim_test checker_of_any_length q claim)) (sym c.in-Unbounded.is) (c.in_ok-goes_on-in-Unbounded.ensures x is)
+    subst (λ (claim : Claim). Answers c.in_ok-goes_on-in-Unbounded.goes_on (claim_test checker_of_any_length q claim)) (sym c.in-Unbounded.is)
+    (c.in_ok-goes_on-in-Unbounded.ensures x is)

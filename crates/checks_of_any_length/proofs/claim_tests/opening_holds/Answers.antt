@@ -15,5 +15,6 @@ returns c =
     let sheet = sheet_view c.args.sheet in
     let request = c.args.request.now in
     let from = request.from in
-    opening_shown sheet (changing_of request.name request.change) from (program_of c.args.sheet.lp.now c.change_at.result from) c.args.claim.now c.in_ok-holds.holds
+    opening_shown sheet (changing_of request.name request.change) from
+    (program_of c.args.sheet.lp.now c.change_at.result from) c.args.claim.now c.in_ok-holds.holds
     (c.change_at.ensures.family sheet c.args.request.now.name c.requires.asked.serves from) (c.in_ok-holds.ensures from c.in_ok-theta.ensures)

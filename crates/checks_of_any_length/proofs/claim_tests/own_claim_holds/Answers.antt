@@ -14,4 +14,5 @@ returns c =
     let p = c.args.lp.now in
     let at = c.as_it_is-at.result in
     let same = (λ i. program_of (c.as_it_is-at.ensures.program i) at.change (own_theta p)) ∙ c.as_it_is-at.ensures.same in
-    subst (λ (q : LinearProgram). Answers c.in_ok-holds.holds (claim_test checker_of_any_length q c.args.claim.now)) same (c.in_ok-holds.ensures (own_theta p) c.in_ok-theta.ensures)
+    subst (λ (q : LinearProgram). Answers c.in_ok-holds.holds (claim_test checker_of_any_length q c.args.claim.now)) same
+    (c.in_ok-holds.ensures (own_theta p) c.in_ok-theta.ensures)

@@ -5,4 +5,6 @@ use Rattle.checks_of_any_length.proofs.closing_tests.ends_at.Goals as goal
 
 pub returns : goal.returns
 returns c = λ t l is also.
-    c.both.ensures ∙ (λ i. (c.is_eq-same.ensures ∙ ap is_equal (c.in_ok-order.ensures t l is also)) i && (c.is_eq-ends.ensures ∙ ap is_equal (c.in_ok-most_order.ensures t is)) i)
+    c.both.ensures
+    ∙ (λ i. (c.is_eq-same.ensures ∙ ap is_equal (c.in_ok-order.ensures t l is also)) i &&
+    (c.is_eq-ends.ensures ∙ ap is_equal (c.in_ok-most_order.ensures t is)) i)

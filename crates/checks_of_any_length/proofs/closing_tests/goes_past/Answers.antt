@@ -5,4 +5,6 @@ use Rattle.checks_of_any_length.proofs.closing_tests.goes_past.Goals as goal
 
 pub returns : goal.returns
 returns c = λ t l is also.
-    c.both.ensures ∙ (λ i. (c.is_eq-same.ensures ∙ ap is_equal (c.in_ok-order.ensures t l is also)) i && (c.is_lt-goes_on.ensures ∙ ap is_less (c.in_ok-most_order.ensures t is)) i)
+    c.both.ensures
+    ∙ (λ i. (c.is_eq-same.ensures ∙ ap is_equal (c.in_ok-order.ensures t l is also)) i &&
+    (c.is_lt-goes_on.ensures ∙ ap is_less (c.in_ok-most_order.ensures t is)) i)

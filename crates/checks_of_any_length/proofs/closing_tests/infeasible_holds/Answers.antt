@@ -25,12 +25,17 @@ returns-in_ok-shown-in-Set c = λ l is.
     let result = c.both.result in
     let serves = rw c.in-Set.is at c.requires.serves in
     let shifts = c.deref.ensures.value ∙ sym serves.0 in
-    subst (λ (change : Change). Answers result (infeasible_test checker_of_any_length sheet (changing_of request.name change) request.to l t ray)) (sym c.in-Set.is)
-    (subst (λ (shift : List ℚ). Answers result (past_test request.to l t (infeasible_past checker_of_any_length sheet (Set request.name) shift t (value_at ray)))) shifts
+    subst (λ (change : Change). Answers result (infeasible_test checker_of_any_length sheet (changing_of request.name change) request.to l t ray))
+    (sym c.in-Set.is)
+    (subst (λ (shift : List ℚ). Answers result
+    (past_test request.to l t (infeasible_past checker_of_any_length sheet (Set request.name) shift t (value_at ray)))) shifts
     (past_shown request.to l t c.in_ok-past-in-Set.past c.in_ok-shown-in-Set.shown result _ (c.in_ok-past-in-Set.ensures t l c.in_ok-theta-in-Set.ensures is)
-    (c.in_ok-shown-in-Set.ensures t sheet.problem (Set request.name) c.in_ok-theta-in-Set.ensures (ap (λ (shift : List ℚ). rhs_family sheet.lp shift t) shifts)) c.both.ensures))
+    (c.in_ok-shown-in-Set.ensures t sheet.problem (Set request.name) c.in_ok-theta-in-Set.ensures
+    (ap (λ (shift : List ℚ). rhs_family sheet.lp shift t) shifts)) c.both.ensures))
 
 pub returns-in-Row : goal.returns-in-Row
 returns-in-Row c = λ l is.
     let request = c.args.request.now in
-    subst (λ (change : Change). Answers false (infeasible_test checker_of_any_length (sheet_view c.args.sheet) (changing_of request.name change) request.to l c.args.value.now c.args.ray.now)) (sym c.in-Row.is) tt
+    subst (λ (change : Change). Answers false
+    (infeasible_test checker_of_any_length (sheet_view c.args.sheet) (changing_of request.name change) request.to l c.args.value.now c.args.ray.now))
+    (sym c.in-Row.is) tt

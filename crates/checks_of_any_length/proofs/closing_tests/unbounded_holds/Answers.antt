@@ -25,8 +25,11 @@ returns-in_ok-shown-in-Row c = λ l is.
     let t = c.args.value.now in
     let result = c.both.result in
     let serves = rw c.in-Row.is at c.requires.serves in
-    subst (λ (change : Change). Answers result (unbounded_test checker_of_any_length sheet (changing_of request.name change) request.to l t pair.point.items pair.direction.items)) (sym c.in-Row.is)
-    (subst (λ (h : ℕ). Answers result (past_test request.to l t (unbounded_past checker_of_any_length sheet (Row request.name) h t (value_at pair.point.items) (value_at pair.direction.items)))) (sym serves.0)
+    subst (λ (change : Change). Answers result
+    (unbounded_test checker_of_any_length sheet (changing_of request.name change) request.to l t pair.point.items pair.direction.items)) (sym c.in-Row.is)
+    (subst (λ (h : ℕ). Answers result
+    (past_test request.to l t
+    (unbounded_past checker_of_any_length sheet (Row request.name) h t (value_at pair.point.items) (value_at pair.direction.items)))) (sym serves.0)
     (past_shown request.to l t c.in_ok-past-in-Row.past c.in_ok-shown-in-Row.shown result _ (c.in_ok-past-in-Row.ensures t l c.in_ok-theta-in-Row.ensures is)
     (c.in_ok-shown-in-Row.ensures t sheet.problem (Row request.name) c.in_ok-theta-in-Row.ensures) c.both.ensures))
 
@@ -34,4 +37,6 @@ pub returns-in-Set : goal.returns-in-Set
 returns-in-Set c = λ l is.
     let request = c.args.request.now in
     let pair = c.args.pair.now in
-    subst (λ (change : Change). Answers false (unbounded_test checker_of_any_length (sheet_view c.args.sheet) (changing_of request.name change) request.to l c.args.value.now pair.point.items pair.direction.items)) (sym c.in-Set.is) tt
+    subst (λ (change : Change). Answers false
+    (unbounded_test checker_of_any_length (sheet_view c.args.sheet)
+    (changing_of request.name change) request.to l c.args.value.now pair.point.items pair.direction.items)) (sym c.in-Set.is) tt

@@ -18,7 +18,9 @@ returns c = λ x d is over.
     let q = program_of p change x in
     let v = value_at d in
     let keeps = c.in_ok-keeps.keeps in
-    let improves = c.is_lt-improves.ensures ∙ ap is_less (c.in_ok-order.ensures d x over is) ∙ ap (λ (s : Sense). lt_ℚ (for_min s (objective_value q v)) zero_ℚ) (sym (sense_at p change x)) in
+    let improves =
+    c.is_lt-improves.ensures ∙ ap is_less (c.in_ok-order.ensures d x over is)
+    ∙ ap (λ (s : Sense). lt_ℚ (for_min s (objective_value q v)) zero_ℚ) (sym (sense_at p change x)) in
     direction_shown q v keeps c.direction_is_free-free.result c.is_lt-improves.result c.both.result
     (subst (λ (steps : List Step). IsTrue keeps ↔ AllHold steps) (sym (equations_at p change x 3 v)) (c.in_ok-keeps.ensures d over 3))
     (c.direction_is_free-free.ensures change x d over) improves

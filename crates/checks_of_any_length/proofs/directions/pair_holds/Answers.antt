@@ -24,6 +24,8 @@ returns c = λ x is.
     let point = subst (λ (z : List ℚ). IsOver z c.in_ok-point.point) c.deref.ensures.value c.in_ok-point.ensures in
     let direction = subst (λ (d : List ℚ). IsOver d c.in_ok-direction.direction) c.deref-2.ensures.value c.in_ok-direction.ensures in
     let row = ap (λ (p : LinearProgram). p.objective) c.lp.view_is ∙ objective_row p change x in
-    pair_shown q objective pair c.in_ok-begins.begins c.in_ok-goes_on.goes_on c.in_ok-is_value.is_value c.both.result (c.in_ok-begins.ensures x pair.point.items is point)
-    (c.in_ok-goes_on.ensures x pair.direction.items is direction) (c.in_ok-is_value.ensures objective pair.point.items c.in_ok-own.ensures point ∙ ap (λ k. eq_ℚ objective (value_at pair.point.items k)) row)
+    pair_shown q objective pair c.in_ok-begins.begins c.in_ok-goes_on.goes_on c.in_ok-is_value.is_value c.both.result
+    (c.in_ok-begins.ensures x pair.point.items is point)
+    (c.in_ok-goes_on.ensures x pair.direction.items is direction)
+    (c.in_ok-is_value.ensures objective pair.point.items c.in_ok-own.ensures point ∙ ap (λ k. eq_ℚ objective (value_at pair.point.items k)) row)
     (c.both.ensures ∙ ap (λ b. b && c.in_ok-is_value.is_value) c.both-proof.ensures)

@@ -16,7 +16,11 @@ returns c = λ x d is over.
     let v = value_at d in
     let y = v c.args.row in
     let sense = ap (λ (p : LinearProgram). p.sense) c.lp.view_is in
-    let stays = c.is_at_most-stays.ensures ∙ ap (λ (o : Ordering). not_above_by (Some o)) (c.in_ok-order.ensures d x over is) ∙ not_above_is (Some zero_ℚ) (for_min p.sense (v p.objective +ℚ x *ℚ y)) in
+    let stays =
+    c.is_at_most-stays.ensures ∙ ap (λ (o : Ordering). not_above_by (Some o)) (c.in_ok-order.ensures d x over is)
+    ∙ not_above_is (Some zero_ℚ) (for_min p.sense (v p.objective +ℚ x *ℚ y)) in
     let signed = c.sign_of.ensures ∙ sign_over y (whole c.args.direction.now.bottom) (whole c.top_of.result.now) over.positive (c.top_of.ensures d over) in
-    let slope = c.counted-slope.ensures ∙ ap (counted_by c.lp.inside.sense) signed ∙ counted_is c.lp.inside.sense y ∙ ap (λ (s : Sense). compare_ℚ (for_min s y) zero_ℚ) sense in
+    let slope =
+    c.counted-slope.ensures ∙ ap (counted_by c.lp.inside.sense) signed ∙ counted_is c.lp.inside.sense y
+    ∙ ap (λ (s : Sense). compare_ℚ (for_min s y) zero_ℚ) sense in
     c.both.ensures ∙ (λ i. stays i && (c.is_lt-improves.ensures ∙ ap is_less slope) i)

@@ -29,6 +29,8 @@ returns c = λ x problem changing is.
     let direction = subst (λ (d : List ℚ). IsOver d c.in_ok-direction.direction) c.deref-2.ensures.value c.in_ok-direction.ensures in
     let begins = c.in_ok-begins.begins in
     let keeps = c.in_ok-keeps.keeps in
-    past_pair_shown (record { problem = problem; lp = p }) changing c.args.row x (value_at z) (value_at d) begins keeps c.direction_is_free-free.result c.in_ok-improves.improves c.both.result
-    (c.in_ok-begins.ensures x z is point) (c.in_ok-keeps.ensures d direction 3) (c.direction_is_free-free.ensures Unchanged x d direction) (c.in_ok-improves.ensures x d is direction)
+    past_pair_shown (record { problem = problem; lp = p }) changing c.args.row x (value_at z)
+    (value_at d) begins keeps c.direction_is_free-free.result c.in_ok-improves.improves c.both.result
+    (c.in_ok-begins.ensures x z is point) (c.in_ok-keeps.ensures d direction 3) (c.direction_is_free-free.ensures Unchanged x d direction)
+    (c.in_ok-improves.ensures x d is direction)
     (c.both.ensures ∙ ap (λ b. begins && b) (c.both-rest.ensures ∙ ap (λ b. keeps && b) c.both-last.ensures))

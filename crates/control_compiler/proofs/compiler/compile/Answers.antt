@@ -10,7 +10,8 @@ use Rattle.control_compiler.proofs.Ends.{stopped, pend_within, ends_at, refused,
 use Rattle.control_compiler.proofs.compiler.compile.Goals as goal
 
 -- a job's program is what settling gave
-program_given : (outcome : Result Program ControlFault) (program : Program) (result : Result Program (CardStop ControlFault)) → outcome ≡ Ok program → IfOk result (λ given. given ≡ program) → IfOk result (λ given. outcome ≡ Ok given)
+program_given : (outcome : Result Program ControlFault) (program : Program) (result : Result Program (CardStop ControlFault)) → outcome ≡ Ok program →
+    IfOk result (λ given. given ≡ program) → IfOk result (λ given. outcome ≡ Ok given)
 program_given outcome program (Ok given) is same = is ∙ ap Ok (sym same)
 program_given outcome program (Err stop) is same = tt
 
@@ -22,11 +23,14 @@ returns-in_err-reading-clause-fault c =
 pub returns-in-Err-clause-fault : goal.returns-in-Err-clause-fault
 returns-in-Err-clause-fault c =
     refused c.args.cards.now c.in_ok-reading.reading c.in_ok-reading.ensures c.in-Err.fault
-    (ends_at c.args.cards.now c.in_ok-reading.reading c.in_ok-reading.ensures c.count.result c.missing.result (Err c.in-Err.fault) c.count.ensures.count c.missing.ensures c.in-Err.ensures)
+    (ends_at c.args.cards.now c.in_ok-reading.reading c.in_ok-reading.ensures c.count.result c.missing.result
+    (Err c.in-Err.fault) c.count.ensures.count c.missing.ensures c.in-Err.ensures)
 
 pub overflow_add-pend : goal.overflow_add-pend
 overflow_add-pend c =
-    let ends = ends_at c.args.cards.now c.in_ok-reading.reading c.in_ok-reading.ensures c.count.result c.missing.result (Ok c.in-Ok.pend) c.count.ensures.count c.missing.ensures c.in-Ok.ensures in
+    let ends =
+    ends_at c.args.cards.now c.in_ok-reading.reading c.in_ok-reading.ensures c.count.result c.missing.result
+    (Ok c.in-Ok.pend) c.count.ensures.count c.missing.ensures c.in-Ok.ensures in
     let is = c.in_ok-reading.ensures in
     let within = pend_within c.in_ok-reading.reading.end c.in-Ok.pend _ ends.0 is.within in
     let len = c.count.ensures.count in
@@ -35,10 +39,12 @@ overflow_add-pend c =
 
 pub settle-requires : goal.settle-requires
 settle-requires c = whole_program c.args.cards.now c.in_ok-reading.reading c.in_ok-reading.ensures c.in-Ok.pend
-    (ends_at c.args.cards.now c.in_ok-reading.reading c.in_ok-reading.ensures c.count.result c.missing.result (Ok c.in-Ok.pend) c.count.ensures.count c.missing.ensures c.in-Ok.ensures)
+    (ends_at c.args.cards.now c.in_ok-reading.reading c.in_ok-reading.ensures c.count.result c.missing.result
+    (Ok c.in-Ok.pend) c.count.ensures.count c.missing.ensures c.in-Ok.ensures)
 
 pub returns-in-Ok-clause-program : goal.returns-in-Ok-clause-program
 returns-in-Ok-clause-program c = program_given (compiled c.args.cards.now) _ c.settle.result
     (compiled_is c.args.cards.now c.in_ok-reading.reading c.in_ok-reading.ensures c.in-Ok.pend
-    (ends_at c.args.cards.now c.in_ok-reading.reading c.in_ok-reading.ensures c.count.result c.missing.result (Ok c.in-Ok.pend) c.count.ensures.count c.missing.ensures c.in-Ok.ensures))
+    (ends_at c.args.cards.now c.in_ok-reading.reading c.in_ok-reading.ensures c.count.result c.missing.result
+    (Ok c.in-Ok.pend) c.count.ensures.count c.missing.ensures c.in-Ok.ensures))
     c.settle.ensures.ok

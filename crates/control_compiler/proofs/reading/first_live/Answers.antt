@@ -13,10 +13,15 @@ returns-then-not-is_skipped c =
       positive = omega arith;
       within = omega (arith, c.count.ensures.count, c.loop-number-test.true);
       there = c.card.ensures;
-      live = c.loop-number.invariant ∙ live_next c.args.cards.now c.loop-number.number c.card.result.bytes.now (ap (λ (n : ℕ). slice_get c.args.cards.now n) (same_place c.loop-number.number) ∙ c.card.ensures) kept;
+      live =
+          c.loop-number.invariant
+          ∙ live_next c.args.cards.now c.loop-number.number c.card.result.bytes.now
+          (ap (λ (n : ℕ). slice_get c.args.cards.now n) (same_place c.loop-number.number) ∙ c.card.ensures) kept;
     }
 
 pub loop-number-preserved : goal.loop-number-preserved
 loop-number-preserved c =
     let skipped : is_skipped c.card.result.bytes.now ≡ true = search rules in
-    c.loop-number.invariant ∙ skipped_next c.args.cards.now c.loop-number.number c.card.result.bytes.now (ap (λ (n : ℕ). slice_get c.args.cards.now n) (same_place c.loop-number.number) ∙ c.card.ensures) skipped
+    c.loop-number.invariant
+    ∙ skipped_next c.args.cards.now c.loop-number.number c.card.result.bytes.now
+    (ap (λ (n : ℕ). slice_get c.args.cards.now n) (same_place c.loop-number.number) ∙ c.card.ensures) skipped

@@ -8,7 +8,8 @@ use Rattle.control_compiler.proofs.Live.{same_place}
 
 pub returns-then-is_skipped : goal.returns-then-is_skipped
 returns-then-is_skipped c = passed_over c.args.cards.now c.args.number c.card-card.result.bytes.now c.args.draft.now
-    (ap (λ (n : ℕ). slice_get c.args.cards.now n) (same_place c.args.number) ∙ c.card-card.ensures) (sym c.is_skipped.ensures ∙ c.if-is_skipped.true) c.requires.underway
+    (ap (λ (n : ℕ). slice_get c.args.cards.now n) (same_place c.args.number) ∙ c.card-card.ensures)
+    (sym c.is_skipped.ensures ∙ c.if-is_skipped.true) c.requires.underway
 
 pub returns : goal.returns
 returns c = passed c.args.cards.now c.args.number c.bytes.result.now c.args.draft.now c.take.new.self

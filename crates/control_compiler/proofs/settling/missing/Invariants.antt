@@ -6,4 +6,6 @@ use Rattle.control_compiler.specs.Settled.{lacks_label}
 use Rattle.control_compiler.proofs.settling.missing.Given as goal
 
 abbrev pub invariant-loop-statement : goal.invariant-loop-statement
-invariant-loop-statement l = find (λ statement. lacks_label l.draft.labels (viewed statement.verb)) l.draft.statements.items ≡ find (λ statement. lacks_label l.draft.labels (viewed statement.verb)) (drop l.statement-index l.draft.statements.items)
+invariant-loop-statement l =
+    find (λ statement. lacks_label l.draft.labels (viewed statement.verb)) l.draft.statements.items ≡ find
+    (λ statement. lacks_label l.draft.labels (viewed statement.verb)) (drop l.statement-index l.draft.statements.items)

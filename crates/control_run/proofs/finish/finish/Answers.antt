@@ -5,4 +5,5 @@ use Rattle.control_run.proofs.finish.finish.Goals as goal
 
 pub returns-in-Err-clause-finishes : goal.returns-in-Err-clause-finishes
 returns-in-Err-clause-finishes g c =
-    lines_cut (ending_view c.ending_of.result) (end_view c.args.end.now) c.ending_of.ensures.viewed c.in-Err.stop c.status_of_cut.result c.status_of_cut.ensures.cut c.in-Err.ensures
+    lines_cut (ending_view c.ending_of.result)
+    (end_view c.args.end.now) c.ending_of.ensures.viewed c.in-Err.stop c.status_of_cut.result c.status_of_cut.ensures.cut c.in-Err.ensures

@@ -13,7 +13,9 @@ bytes_left None = 0
 bytes_left (Some rest) = suc (length rest.now)
 
 abbrev pub invariant-loop-rest : goal.invariant-loop-rest
-invariant-loop-rest l = option_and_then (all_added l.chosen) (choices (parts_after l.rest)) ≡ option_and_then (all_added nothing_chosen) (choices (split_outside is_comma l.fn.text))
+invariant-loop-rest l =
+    option_and_then (all_added l.chosen) (choices (parts_after l.rest)) ≡ option_and_then (all_added nothing_chosen)
+    (choices (split_outside is_comma l.fn.text))
 
 abbrev pub decreases-loop-rest : goal.decreases-loop-rest
 decreases-loop-rest l = bytes_left l.rest

@@ -5,4 +5,6 @@ use Rattle.control_definitions.specs.Statements.{marked, marked_from, outside}
 use Rattle.control_verbs.proofs.quotes.place_outside.Given as goal
 
 abbrev pub invariant-loop-place : goal.invariant-loop-place
-invariant-loop-place l = position_or_len (outside (λ byte. eqb byte l.wanted)) (marked l.text) ≡ l.place + position_or_len (outside (λ byte. eqb byte l.wanted)) (marked_from l.inside (drop l.place l.text))
+invariant-loop-place l =
+    position_or_len (outside (λ byte. eqb byte l.wanted)) (marked l.text) ≡ l.place + position_or_len (outside (λ byte. eqb byte l.wanted))
+    (marked_from l.inside (drop l.place l.text))

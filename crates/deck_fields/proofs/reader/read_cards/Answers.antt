@@ -26,11 +26,14 @@ loop-number-preserved g c =
     record {
       made = subst (g.D.Draft.is_made_of c.args.draft.now c.read_card.new.draft)
           (sym (live-append seen (record { number = c.loop-number.number; bytes = c.card.result.bytes.now } ∷ []))
-          ∙ ap live (sym (cards_more c.args.first c.loop-number.number cards c.card.result.bytes.now c.requires.from_one c.loop-number.auto.number c.card.ensures)))
+          ∙ ap live (sym
+          (cards_more c.args.first c.loop-number.number cards c.card.result.bytes.now c.requires.from_one c.loop-number.auto.number c.card.ensures)))
           (c.in_ok-read_card.ensures.made c.args.draft.now (live seen) c.loop-number.invariant.made);
-      no_fault = next_fine (g.D.Draft.test c.args.draft.now) c.args.first c.loop-number.number cards c.card.result.bytes.now c.requires.from_one c.loop-number.auto.number c.card.ensures c.loop-number.invariant.no_fault
+      no_fault =
+          next_fine (g.D.Draft.test c.args.draft.now) c.args.first c.loop-number.number cards c.card.result.bytes.now c.requires.from_one c.loop-number.auto.number c.card.ensures c.loop-number.invariant.no_fault
           (c.in_ok-read_card.ensures.no_fault c.args.draft.now (live seen) c.loop-number.invariant.made);
-      printable = next_printable c.args.first c.loop-number.number cards c.card.result.bytes.now c.requires.from_one c.loop-number.auto.number c.card.ensures c.loop-number.invariant.printable c.card.result.printable;
+      printable =
+          next_printable c.args.first c.loop-number.number cards c.card.result.bytes.now c.requires.from_one c.loop-number.auto.number c.card.ensures c.loop-number.invariant.printable c.card.result.printable;
     }
 
 pub returns-in_err-read_card-clause-stop : goal.returns-in_err-read_card-clause-stop
@@ -46,8 +49,11 @@ returns-in_err-read_card-clause-stop g c =
 pub returns-then-not-is_ended-clause-stop : goal.returns-then-not-is_ended-clause-stop
 returns-then-not-is_ended-clause-stop g c =
     let ordered : c.args.first ≤ c.min-end.result + 1 = omega (arith, c.min-end.ensures, c.requires.ordered, c.requires.within, c.count.ensures.count) in
-    let all : c.loop-number.number ≡ c.args.last + 1 = omega (arith, c.min-end.ensures, c.requires.ordered, c.requires.within, c.count.ensures.count, c.loop-number-test.false, c.loop-number.auto.number-end ordered) in
+    let all : c.loop-number.number ≡ c.args.last + 1 =
+    omega (arith, c.min-end.ensures, c.requires.ordered, c.requires.within, c.count.ensures.count, c.loop-number-test.false, c.loop-number.auto.number-end ordered) in
     let end = ap (λ number. live (cards_up_to c.args.first number c.args.cards.now)) all in
     unended (g.D.Draft.test c.args.draft.now) c.args.first c.args.last c.args.cards.now c.requires.from_one c.requires.ordered c.requires.within
     (ap (first_faulty (g.D.Draft.test c.args.draft.now) []) (sym end) ∙ c.loop-number.invariant.no_fault)
-    (ap (is_section_after Endata) (sym end) ∙ sym (c.is_ended.ensures c.args.draft.now (live (cards_up_to c.args.first c.loop-number.number c.args.cards.now)) c.loop-number.invariant.made) ∙ c.if-not-is_ended.true)
+    (ap (is_section_after Endata) (sym end)
+    ∙ sym (c.is_ended.ensures c.args.draft.now (live (cards_up_to c.args.first c.loop-number.number c.args.cards.now)) c.loop-number.invariant.made)
+    ∙ c.if-not-is_ended.true)

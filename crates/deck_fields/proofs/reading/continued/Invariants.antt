@@ -4,4 +4,6 @@ use Rattle.card_definitions.specs.Numbers.{next_value}
 use Rattle.deck_fields.proofs.reading.continued.Given as goal
 
 abbrev pub invariant-loop-digit : goal.invariant-loop-digit
-invariant-loop-digit l = (l.total ≡ fold next_value l.value (take l.digit-index l.digits)) × ((l.total + 1) * 10 ^ (length l.digits - l.digit-index) ≤ (l.value + 1) * 10 ^ length l.digits)
+invariant-loop-digit l =
+    (l.total ≡ fold next_value l.value (take l.digit-index l.digits)) ×
+    ((l.total + 1) * 10 ^ (length l.digits - l.digit-index) ≤ (l.value + 1) * 10 ^ length l.digits)

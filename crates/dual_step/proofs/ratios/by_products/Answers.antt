@@ -6,11 +6,13 @@ use Rattle.dual_laws.proofs.Magnitudes.{ratios_by_products, zero_first, zero_las
 use Rattle.dual_step.proofs.ratios.by_products.Goals as goal
 
 pub returns-then-is_zero : goal.returns-then-is_zero
-returns-then-is_zero c = zero_first c.args.best.now.price c.args.best.now.rate c.args.other.now.price c.args.other.now.rate (c.is_zero.ensures.0 c.if-is_zero.true)
+returns-then-is_zero c =
+    zero_first c.args.best.now.price c.args.best.now.rate c.args.other.now.price c.args.other.now.rate (c.is_zero.ensures.0 c.if-is_zero.true)
 
 pub returns-then-is_zero-2 : goal.returns-then-is_zero-2
 returns-then-is_zero-2 c =
-    zero_last c.args.best.now.price c.args.best.now.rate c.args.other.now.price c.args.other.now.rate (λ e. clash (sym (c.is_zero.ensures.1 e) ∙ c.if-is_zero.false)) c.requires.best
+    zero_last c.args.best.now.price c.args.best.now.rate c.args.other.now.price c.args.other.now.rate
+    (λ e. clash (sym (c.is_zero.ensures.1 e) ∙ c.if-is_zero.false)) c.requires.best
     (c.is_zero-2.ensures.0 c.if-is_zero-2.true)
 
 pub returns : goal.returns

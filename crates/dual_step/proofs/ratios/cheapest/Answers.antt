@@ -11,4 +11,5 @@ returns-clause-cheapest c =
     let mapped : c.map.result ≡ option_map (λ f. f.q) c.loop-k.best = search rules in
     mapped
     ∙ best_is_cheapest c.args.lp.now c.args.basis.now (value_at c.args.prices.now) (value_at c.args.row.now) c.args.below c.loop-k.best
-    (subst (λ (n : ℕ). IsBest c.args.lp.now c.args.basis.now (value_at c.args.prices.now) (value_at c.args.row.now) c.args.below n c.loop-k.best) all c.loop-k.invariant)
+    (subst (λ (n : ℕ). IsBest c.args.lp.now c.args.basis.now (value_at c.args.prices.now)
+    (value_at c.args.row.now) c.args.below n c.loop-k.best) all c.loop-k.invariant)

@@ -5,7 +5,9 @@ use Rattle.eta_file.proofs.by_columns.row_by_columns.Goals as goal
 
 pub loop-k-preserved : goal.loop-k-preserved
 loop-k-preserved c = record {
-  rates = each_more (λ k v. IsRateAt c.args.file.now c.args.i (k + 1) v) c.loop-k.k c.loop-k.out c.in_ok-out.field-0 (search rules) c.in_ok-out.ensures.value c.loop-k.invariant.rates;
+  rates =
+      each_more (λ k v. IsRateAt c.args.file.now c.args.i (k + 1) v) c.loop-k.k c.loop-k.out c.in_ok-out.field-0
+      (search rules) c.in_ok-out.ensures.value c.loop-k.invariant.rates;
   workspace = c.rate_by_column.ensures.places;
 }
 

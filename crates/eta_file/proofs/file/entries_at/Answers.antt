@@ -12,4 +12,5 @@ entries_of-requires c =
 
 pub returns : goal.returns
 returns c =
-    subst (λ es. IfOk c.entries_of.result (λ entries. entries.items ≡ es)) (listed_entries c.args.basics.now (value_at c.args.direction.now) c.listed.result.now c.listed.ensures) c.entries_of.ensures
+    subst (λ es. IfOk c.entries_of.result (λ entries. entries.items ≡ es))
+    (listed_entries c.args.basics.now (value_at c.args.direction.now) c.listed.result.now c.listed.ensures) c.entries_of.ensures

@@ -16,7 +16,9 @@ loop-k-preserved c =
           let one : EtaEntry = record { i = k; rate = w.index-direction-k.result } in
           let pushed : w.push.new.self.items ≡ c.loop-k.entries.items ++ (one ∷ []) = search rules in
           rw w.entries-is
-          (pushed ∙ other_then (value_at d) c.args.q c.args.listed.now c.loop-k.k-index c.loop-k-test.true c.loop-k.entries.items c.loop-k.invariant w.index-direction-k.result
+          (pushed ∙ other_then
+          (value_at d) c.args.q c.args.listed.now c.loop-k.k-index c.loop-k-test.true c.loop-k.entries.items c.loop-k.invariant w.index-direction-k.result
           (value_at_place d k w.index-direction-k.result within.0 within.1 w.index-direction-k.is) w.if-k-q.true)
-      | else-k-q w ↦ rw w.entries-is (other_else (value_at d) c.args.q c.args.listed.now c.loop-k.k-index c.loop-k-test.true c.loop-k.entries.items c.loop-k.invariant w.if-k-q.false)
+      | else-k-q w ↦ rw w.entries-is
+          (other_else (value_at d) c.args.q c.args.listed.now c.loop-k.k-index c.loop-k-test.true c.loop-k.entries.items c.loop-k.invariant w.if-k-q.false)
     ]

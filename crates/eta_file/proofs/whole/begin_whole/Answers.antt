@@ -8,5 +8,6 @@ use Rattle.eta_file.proofs.whole.begin_whole.Goals as goal
 pub returns-clause-filled : goal.returns-clause-filled
 returns-clause-filled c =
     let high : c.args.j ≤ length c.place_rows.new.out = omega (arith, c.requires.high, c.place_rows.ensures.places) in
-    begun c.args.column.now c.args.j c.in_ok-scale.scale (whole (to_z w128 (of_z w128 c.in_ok-own.own))) c.place_rows.new.out c.put.new.self c.in_ok-scale.ensures c.requires.low high
+    begun c.args.column.now c.args.j c.in_ok-scale.scale
+    (whole (to_z w128 (of_z w128 c.in_ok-own.own))) c.place_rows.new.out c.put.new.self c.in_ok-scale.ensures c.requires.low high
     (ap whole (to_z-of_z w128 c.in_ok-own.own (search rules)) ∙ c.in_ok-own.ensures.value) c.in_ok-place_rows.ensures.rows c.in_ok-put.ensures.number

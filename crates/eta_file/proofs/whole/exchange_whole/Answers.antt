@@ -19,6 +19,8 @@ returns-clause-exchanged c =
     let changed : IsExchanged c.args.p c.args.q c.args.multiple w c.args.out.now (set (set taken (c.args.p - 1) zero_ℚ) (c.args.q - 1) at_q) =
     exchanged_by c.args.p c.args.q c.args.multiple w c.args.out.now taken zero_ℚ at_q c.requires.p_low c.requires.p_high c.requires.q_low c.requires.q_high
     c.subtract_whole.ensures.places subtracted refl is_at_q in
-    some_map c.put-2.result (λ _. c.put-2.new.self ≡ set c.put.new.self (c.args.q - 1) at_q) (λ _. IsExchanged c.args.p c.args.q c.args.multiple w c.args.out.now c.put-2.new.self)
-    (λ u is. subst (λ xs. IsExchanged c.args.p c.args.q c.args.multiple w c.args.out.now xs) (sym (is ∙ ap (λ xs. set xs (c.args.q - 1) at_q) c.in_ok-put.ensures.number)) changed)
+    some_map c.put-2.result (λ _. c.put-2.new.self ≡ set c.put.new.self (c.args.q - 1) at_q)
+    (λ _. IsExchanged c.args.p c.args.q c.args.multiple w c.args.out.now c.put-2.new.self)
+    (λ u is. subst (λ xs. IsExchanged c.args.p c.args.q c.args.multiple w c.args.out.now xs)
+    (sym (is ∙ ap (λ xs. set xs (c.args.q - 1) at_q) c.in_ok-put.ensures.number)) changed)
     c.put-2.ensures.number

@@ -16,7 +16,8 @@ loop-entry-init c = record { places = search rules; each = λ k low high other. 
 pub loop-entry-preserved : goal.loop-entry-preserved
 loop-entry-preserved c =
     let within : IsEntryWithin (length c.args.out.now) c.entry-item.result =
-    subst (λ (x : EtaEntry). IsEntryWithin (length c.args.out.now) x) (sym c.entry-item.is) (c.requires.within c.loop-entry.entry-index c.entry-item.result c.loop-entry-test.true) in
+    subst (λ (x : EtaEntry). IsEntryWithin (length c.args.out.now) x) (sym c.entry-item.is)
+    (c.requires.within c.loop-entry.entry-index c.entry-item.result c.loop-entry-test.true) in
     let inside : IsEntryWithin (length c.loop-entry.out) c.entry-item.result = (within.0, omega (arith, within.1, c.loop-entry.invariant.places)) in
     elim c.if-entry-p.branch [
       | then-entry-p+in_ok-number+in_ok-put w ↦
@@ -35,6 +36,7 @@ loop-entry-preserved c =
         each = λ k low high other.
             let apart : c.entry-item.result.i ≢ k = λ e. other (sym e ∙ w.if-entry-p.false) in
             c.loop-entry.invariant.each k low high other
-            ∙ ap (λ s. one_ℚ *ℚ s) (sym (sum_next_other c.args.entries.now c.loop-entry.entry-index c.entry-item.result c.loop-entry-test.true c.entry-item.is k apart));
+            ∙ ap (λ s. one_ℚ *ℚ s)
+            (sym (sum_next_other c.args.entries.now c.loop-entry.entry-index c.entry-item.result c.loop-entry-test.true c.entry-item.is k apart));
       })
     ]

@@ -18,7 +18,8 @@ loop-entry-preserved c =
     subst (λ (e : Entry). IsRowWithin c.args.j e) (sym c.entry-item.is) (c.requires.rows c.loop-entry.entry-index c.entry-item.result c.loop-entry-test.true) in
     let high : c.entry-item.result.row ≤ length c.loop-entry.out = omega (arith, row.1, c.requires.high, c.loop-entry.invariant.places) in
     let number : ℚ = whole (to_z w128 (of_z w128 c.in_ok-number.number)) in
-    let is_number : number ≡ c.entry-item.result.value *ℚ c.args.scale = ap whole (to_z-of_z w128 c.in_ok-number.number (search rules)) ∙ c.in_ok-number.ensures.value ∙ c.in_ok-value.ensures in
+    let is_number : number ≡ c.entry-item.result.value *ℚ c.args.scale =
+    ap whole (to_z-of_z w128 c.in_ok-number.number (search rules)) ∙ c.in_ok-number.ensures.value ∙ c.in_ok-value.ensures in
     record {
       places = c.put.ensures.places ∙ c.loop-entry.invariant.places;
       rows = λ k low.

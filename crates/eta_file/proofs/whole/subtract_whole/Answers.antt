@@ -16,17 +16,21 @@ loop-entry-init c = record { places = search rules; each = λ k low high other. 
 pub loop-entry-preserved : goal.loop-entry-preserved
 loop-entry-preserved c =
     let within : IsEntryWithin (length c.args.out.now) c.entry-item.result =
-    subst (λ (x : EtaEntry). IsEntryWithin (length c.args.out.now) x) (sym c.entry-item.is) (c.requires c.loop-entry.entry-index c.entry-item.result c.loop-entry-test.true) in
+    subst (λ (x : EtaEntry). IsEntryWithin (length c.args.out.now) x) (sym c.entry-item.is)
+    (c.requires c.loop-entry.entry-index c.entry-item.result c.loop-entry-test.true) in
     let inside : IsEntryWithin (length c.loop-entry.out) c.entry-item.result = (within.0, omega (arith, within.1, c.loop-entry.invariant.places)) in
     elim c.if-entry-p.branch [
       | then-entry-p+in_ok-rest+in_ok-put w ↦
           let number : ℚ = whole (to_z w128 (of_z w128 w.whole_at-number.result)) in
           let is_number : number ≡ value_at c.loop-entry.out c.entry-item.result.i =
-          ap whole (to_z-of_z w128 w.whole_at-number.result (search rules)) ∙ w.whole_at-number.ensures.value ∙ ap (λ xs. value_at xs c.entry-item.result.i) w.numbers.ensures.numbers in
+          ap whole (to_z-of_z w128 w.whole_at-number.result (search rules)) ∙ w.whole_at-number.ensures.value
+          ∙ ap (λ xs. value_at xs c.entry-item.result.i) w.numbers.ensures.numbers in
           let minus : ℚ = whole (to_z w128 (of_z w128 c.in_ok-opposite.opposite)) in
-          let is_minus : minus ≡ neg_ℚ c.args.multiple = ap whole (to_z-of_z w128 c.in_ok-opposite.opposite (search rules)) ∙ c.in_ok-opposite.ensures.value ∙ c.neg.ensures in
+          let is_minus : minus ≡ neg_ℚ c.args.multiple =
+          ap whole (to_z-of_z w128 c.in_ok-opposite.opposite (search rules)) ∙ c.in_ok-opposite.ensures.value ∙ c.neg.ensures in
           let rest : ℚ = whole (to_z w128 (of_z w128 w.in_ok-rest.rest)) in
-          let is_rest : rest ≡ number +ℚ minus *ℚ c.entry-item.result.rate = ap whole (to_z-of_z w128 w.in_ok-rest.rest (search rules)) ∙ w.in_ok-rest.ensures.value in
+          let is_rest : rest ≡ number +ℚ minus *ℚ c.entry-item.result.rate =
+          ap whole (to_z-of_z w128 w.in_ok-rest.rest (search rules)) ∙ w.in_ok-rest.ensures.value in
           rw w.out-is (record {
             places = w.put.ensures.places ∙ c.loop-entry.invariant.places;
             each = λ k low high other.
@@ -39,6 +43,7 @@ loop-entry-preserved c =
         each = λ k low high other.
             let apart : c.entry-item.result.i ≢ k = λ e. other (sym e ∙ w.if-entry-p.false) in
             c.loop-entry.invariant.each k low high other
-            ∙ ap (λ s. value_at c.args.out.now k -ℚ c.args.multiple *ℚ s) (sym (sum_next_other c.args.entries.now c.loop-entry.entry-index c.entry-item.result c.loop-entry-test.true c.entry-item.is k apart));
+            ∙ ap (λ s. value_at c.args.out.now k -ℚ c.args.multiple *ℚ s)
+            (sym (sum_next_other c.args.entries.now c.loop-entry.entry-index c.entry-item.result c.loop-entry-test.true c.entry-item.is k apart));
       })
     ]

@@ -21,13 +21,15 @@ returns-then-lead-eq0-clause-transformed c =
 pub whole_quotient-requires-clause-apart : goal.whole_quotient-requires-clause-apart
 whole_quotient-requires-clause-apart c =
     let eta = c.args.eta.now in
-    let is_whole : IsWholeOf eta.pivot eta.entries.items c.in-Some.whole = subst (λ o. IfSome o (IsWholeOf eta.pivot eta.entries.items)) c.in-Some.is c.requires.whole in
+    let is_whole : IsWholeOf eta.pivot eta.entries.items c.in-Some.whole =
+    subst (λ o. IfSome o (IsWholeOf eta.pivot eta.entries.items)) c.in-Some.is c.requires.whole in
     whole_pivot_apart eta.pivot eta.entries.items c.in-Some.whole is_whole c.requires.places.apart
 
 pub exchange_whole-requires-clause-entries : goal.exchange_whole-requires-clause-entries
 exchange_whole-requires-clause-entries c =
     let eta = c.args.eta.now in
-    let is_whole : IsWholeOf eta.pivot eta.entries.items c.in-Some.whole = subst (λ o. IfSome o (IsWholeOf eta.pivot eta.entries.items)) c.in-Some.is c.requires.whole in
+    let is_whole : IsWholeOf eta.pivot eta.entries.items c.in-Some.whole =
+    subst (λ o. IfSome o (IsWholeOf eta.pivot eta.entries.items)) c.in-Some.is c.requires.whole in
     subst (λ n. All (IsEntryWithin n) c.in-Some.whole.entries.items) (sym (c.multiply.ensures.places ∙ c.reduce_from.ensures.places))
     (whole_within eta.pivot eta.entries.items c.in-Some.whole is_whole (length c.args.out.now) c.requires.places.entries)
 
@@ -39,7 +41,10 @@ returns-clause-transformed c =
     let by : ℚ = c.terms-multiple.result.1 in
     let is_whole : IsWholeOf eta.pivot eta.entries.items w = subst (λ o. IfSome o (IsWholeOf eta.pivot eta.entries.items)) c.in-Some.is c.requires.whole in
     let ratio : c.in_ok-ratio.ratio ≡ value_at c.reduce_from.new.self eta.p /ℚ w.pivot =
-    c.in_ok-ratio.ensures ∙ ap (λ x. x /ℚ w.pivot) (ap whole (to_z-of_z w128 c.whole_at-lead-2.result (search rules)) ∙ c.whole_at-lead-2.ensures.value ∙ ap (λ xs. value_at xs eta.p) c.numbers-2.ensures.numbers) in
+    c.in_ok-ratio.ensures
+    ∙ ap (λ x. x /ℚ w.pivot)
+    (ap whole (to_z-of_z w128 c.whole_at-lead-2.result (search rules)) ∙ c.whole_at-lead-2.ensures.value
+    ∙ ap (λ xs. value_at xs eta.p) c.numbers-2.ensures.numbers) in
     some_map c.product.result (λ v. v ≡ e *ℚ by) (λ v. Represent (IsTransformed eta (quotients c.args.denominator c.args.out.now)) v c.exchange_whole.new.out)
     (λ v is_v.
     transformed_whole eta w is_whole c.requires.places.apart c.args.denominator e by c.in_ok-ratio.ratio c.terms-multiple.result.0 c.args.out.now c.reduce_from.new.self c.multiply.new.self c.exchange_whole.new.out

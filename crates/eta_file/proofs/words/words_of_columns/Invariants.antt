@@ -9,4 +9,6 @@ use Rattle.eta_file.proofs.words.words_of_columns.Given as goal
 -- the words of the columns so far
 abbrev pub invariant-loop-column : goal.invariant-loop-column
 invariant-loop-column l =
-    (length l.words.items ≡ l.column-index) × ((k : ℕ) (c : List Entry) (w : Option (Vec WordEntry Global)) → k < l.column-index → IfSome (get_or l.words.items k w) (λ known. AreWordsOf (get_or (entries_of l.columns) k c) known.items))
+    (length l.words.items ≡ l.column-index) ×
+    ((k : ℕ) (c : List Entry) (w : Option (Vec WordEntry Global)) → k < l.column-index →
+    IfSome (get_or l.words.items k w) (λ known. AreWordsOf (get_or (entries_of l.columns) k c) known.items))

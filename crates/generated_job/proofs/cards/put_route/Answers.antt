@@ -15,7 +15,8 @@ route_text : (i j : ℕ) {name from to : List ℕ} {cost : ℕ} → name ≡ rou
     → line (item_card name (codes "COST") cost) ++ (one_on name from ++ one_on name to) ≡ card_text (route_cards i j)
 route_text i j e c f t =
     (λ k. line (item_card (e k) (codes "COST") (c k)) ++ (one_on (e k) (f k) ++ one_on (e k) (t k)))
-    ∙ ap (λ w. line (item_card (route i j) (codes "COST") (route_cost i j)) ++ (one_on (route i j) (source i) ++ w)) (sym (append-nil (one_on (route i j) (destination j))))
+    ∙ ap (λ w. line (item_card (route i j) (codes "COST") (route_cost i j)) ++ (one_on (route i j) (source i) ++ w))
+    (sym (append-nil (one_on (route i j) (destination j))))
 
 pub returns-in_err-put_item : goal.returns-in_err-put_item
 returns-in_err-put_item g c =

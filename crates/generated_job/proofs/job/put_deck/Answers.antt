@@ -13,37 +13,79 @@ returns-in_err-put_all g c =
 pub returns-in_err-put_source_rows : goal.returns-in_err-put_source_rows
 returns-in_err-put_source_rows g c =
     let p = err_from_is_err_and c.from_residual-in_err-put_source_rows.result c.from_residual-in_err-put_source_rows.ensures.1 in
-    rw (p.1, p.2) (writes_same (deck_text c.args.n) (writes_then c.in_ok-put_all.ensures (writes_more (from_destinations c.args.n) c.in_err-put_source_rows.ensures)))
+    rw (p.1, p.2)
+    (writes_same (deck_text c.args.n) (writes_then c.in_ok-put_all.ensures (writes_more (from_destinations c.args.n) c.in_err-put_source_rows.ensures)))
 
 pub returns-in_err-put_destination_rows : goal.returns-in_err-put_destination_rows
 returns-in_err-put_destination_rows g c =
     let p = err_from_is_err_and c.from_residual-in_err-put_destination_rows.result c.from_residual-in_err-put_destination_rows.ensures.1 in
-    rw (p.1, p.2) (writes_same (deck_text c.args.n) (writes_then c.in_ok-put_all.ensures (writes_then c.in_ok-put_source_rows.ensures (writes_more (from_columns c.args.n) c.in_err-put_destination_rows.ensures))))
+    rw (p.1, p.2)
+    (writes_same (deck_text c.args.n)
+    (writes_then c.in_ok-put_all.ensures
+    (writes_then c.in_ok-put_source_rows.ensures (writes_more (from_columns c.args.n) c.in_err-put_destination_rows.ensures))))
 
 pub returns-in_err-put_all-2 : goal.returns-in_err-put_all-2
 returns-in_err-put_all-2 g c =
     let p = err_from_is_err_and c.from_residual-in_err-put_all-2.result c.from_residual-in_err-put_all-2.ensures.1 in
-    rw (p.1, p.2) (writes_same (deck_text c.args.n) (writes_then c.in_ok-put_all.ensures (writes_then c.in_ok-put_source_rows.ensures (writes_then c.in_ok-put_destination_rows.ensures (writes_more (from_routes c.args.n) c.in_err-put_all-2.ensures)))))
+    rw (p.1, p.2)
+    (writes_same (deck_text c.args.n)
+    (writes_then c.in_ok-put_all.ensures
+    (writes_then c.in_ok-put_source_rows.ensures
+    (writes_then c.in_ok-put_destination_rows.ensures (writes_more (from_routes c.args.n) c.in_err-put_all-2.ensures)))))
 
 pub returns-in_err-put_routes : goal.returns-in_err-put_routes
 returns-in_err-put_routes g c =
     let p = err_from_is_err_and c.from_residual-in_err-put_routes.result c.from_residual-in_err-put_routes.ensures.1 in
-    rw (p.1, p.2) (writes_same (deck_text c.args.n) (writes_then c.in_ok-put_all.ensures (writes_then c.in_ok-put_source_rows.ensures (writes_then c.in_ok-put_destination_rows.ensures (writes_then c.in_ok-put_all-2.ensures (writes_more (from_rhs c.args.n) c.in_err-put_routes.ensures))))))
+    rw (p.1, p.2)
+    (writes_same (deck_text c.args.n)
+    (writes_then c.in_ok-put_all.ensures
+    (writes_then c.in_ok-put_source_rows.ensures
+    (writes_then c.in_ok-put_destination_rows.ensures
+    (writes_then c.in_ok-put_all-2.ensures (writes_more (from_rhs c.args.n) c.in_err-put_routes.ensures))))))
 
 pub returns-in_err-put_all-3 : goal.returns-in_err-put_all-3
 returns-in_err-put_all-3 g c =
     let p = err_from_is_err_and c.from_residual-in_err-put_all-3.result c.from_residual-in_err-put_all-3.ensures.1 in
-    rw (p.1, p.2) (writes_same (deck_text c.args.n) (writes_then c.in_ok-put_all.ensures (writes_then c.in_ok-put_source_rows.ensures (writes_then c.in_ok-put_destination_rows.ensures (writes_then c.in_ok-put_all-2.ensures (writes_then c.in_ok-put_routes.ensures (writes_more (from_supplies c.args.n) c.in_err-put_all-3.ensures)))))))
+    rw (p.1, p.2)
+    (writes_same (deck_text c.args.n)
+    (writes_then c.in_ok-put_all.ensures
+    (writes_then c.in_ok-put_source_rows.ensures
+    (writes_then c.in_ok-put_destination_rows.ensures
+    (writes_then c.in_ok-put_all-2.ensures
+    (writes_then c.in_ok-put_routes.ensures (writes_more (from_supplies c.args.n) c.in_err-put_all-3.ensures)))))))
 
 pub returns-in_err-put_supplies : goal.returns-in_err-put_supplies
 returns-in_err-put_supplies g c =
     let p = err_from_is_err_and c.from_residual-in_err-put_supplies.result c.from_residual-in_err-put_supplies.ensures.1 in
-    rw (p.1, p.2) (writes_same (deck_text c.args.n) (writes_then c.in_ok-put_all.ensures (writes_then c.in_ok-put_source_rows.ensures (writes_then c.in_ok-put_destination_rows.ensures (writes_then c.in_ok-put_all-2.ensures (writes_then c.in_ok-put_routes.ensures (writes_then c.in_ok-put_all-3.ensures (writes_more (from_demands c.args.n) c.in_err-put_supplies.ensures))))))))
+    rw (p.1, p.2)
+    (writes_same (deck_text c.args.n)
+    (writes_then c.in_ok-put_all.ensures
+    (writes_then c.in_ok-put_source_rows.ensures
+    (writes_then c.in_ok-put_destination_rows.ensures
+    (writes_then c.in_ok-put_all-2.ensures
+    (writes_then c.in_ok-put_routes.ensures
+    (writes_then c.in_ok-put_all-3.ensures (writes_more (from_demands c.args.n) c.in_err-put_supplies.ensures))))))))
 
 pub returns-in_err-put_demands : goal.returns-in_err-put_demands
 returns-in_err-put_demands g c =
     let p = err_from_is_err_and c.from_residual-in_err-put_demands.result c.from_residual-in_err-put_demands.ensures.1 in
-    rw (p.1, p.2) (writes_same (deck_text c.args.n) (writes_then c.in_ok-put_all.ensures (writes_then c.in_ok-put_source_rows.ensures (writes_then c.in_ok-put_destination_rows.ensures (writes_then c.in_ok-put_all-2.ensures (writes_then c.in_ok-put_routes.ensures (writes_then c.in_ok-put_all-3.ensures (writes_then c.in_ok-put_supplies.ensures (writes_more (line (codes "ENDATA")) c.in_err-put_demands.ensures)))))))))
+    rw (p.1, p.2)
+    (writes_same (deck_text c.args.n)
+    (writes_then c.in_ok-put_all.ensures
+    (writes_then c.in_ok-put_source_rows.ensures
+    (writes_then c.in_ok-put_destination_rows.ensures
+    (writes_then c.in_ok-put_all-2.ensures
+    (writes_then c.in_ok-put_routes.ensures
+    (writes_then c.in_ok-put_all-3.ensures
+    (writes_then c.in_ok-put_supplies.ensures (writes_more (line (codes "ENDATA")) c.in_err-put_demands.ensures)))))))))
 
 pub returns : goal.returns
-returns g c = writes_same (deck_text c.args.n) (writes_then c.in_ok-put_all.ensures (writes_then c.in_ok-put_source_rows.ensures (writes_then c.in_ok-put_destination_rows.ensures (writes_then c.in_ok-put_all-2.ensures (writes_then c.in_ok-put_routes.ensures (writes_then c.in_ok-put_all-3.ensures (writes_then c.in_ok-put_supplies.ensures (writes_then c.in_ok-put_demands.ensures c.put_all-4.ensures))))))))
+returns g c =
+    writes_same (deck_text c.args.n)
+    (writes_then c.in_ok-put_all.ensures
+    (writes_then c.in_ok-put_source_rows.ensures
+    (writes_then c.in_ok-put_destination_rows.ensures
+    (writes_then c.in_ok-put_all-2.ensures
+    (writes_then c.in_ok-put_routes.ensures
+    (writes_then c.in_ok-put_all-3.ensures
+    (writes_then c.in_ok-put_supplies.ensures (writes_then c.in_ok-put_demands.ensures c.put_all-4.ensures))))))))

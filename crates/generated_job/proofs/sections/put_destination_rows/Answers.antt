@@ -9,4 +9,8 @@ use Rattle.generated_job.proofs.sections.put_destination_rows.Goals as goal
 pub returns-in_err-put_destination_row : goal.returns-in_err-put_destination_row
 returns-in_err-put_destination_row g c =
     let p = err_from_is_err_and c.from_residual.result c.from_residual.ensures.1 in
-    rw (p.1, p.2) (stops_at_one (λ j. row_card (plain_row G (destination j))) c.loop-before.before c.args.n c.loop-before-test.true c.loop-before.invariant c.in_err-put_destination_row.ensures)
+    rw (p.1, p.2)
+    (stops_at_one
+    (λ j. row_card
+    (plain_row G
+    (destination j))) c.loop-before.before c.args.n c.loop-before-test.true c.loop-before.invariant c.in_err-put_destination_row.ensures)

@@ -7,4 +7,6 @@ use Rattle.job_devices.specs.Text.{Writes}
 use Rattle.generated_job.proofs.sections.put_destination_rows.Given as goal
 
 abbrev pub invariant-loop-before : goal.invariant-loop-before
-invariant-loop-before g l = Writes {T = Unit {0}} (g.P.Sink.taken l.fn.text) (g.P.Sink.taken l.text) (Ok tt) (card_text (map (λ j. row_card (plain_row G (destination j))) (up_to l.before)))
+invariant-loop-before g l =
+    Writes {T = Unit {0}} (g.P.Sink.taken l.fn.text) (g.P.Sink.taken l.text) (Ok tt)
+    (card_text (map (λ j. row_card (plain_row G (destination j))) (up_to l.before)))

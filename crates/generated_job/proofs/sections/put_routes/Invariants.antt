@@ -6,4 +6,6 @@ use Rattle.job_devices.specs.Text.{Writes}
 use Rattle.generated_job.proofs.sections.put_routes.Given as goal
 
 abbrev pub invariant-loop-before : goal.invariant-loop-before
-invariant-loop-before g l = Writes {T = Unit {0}} (g.P.Sink.taken l.fn.text) (g.P.Sink.taken l.text) (Ok tt) (card_text (flat_map (λ i. flat_map (λ j. route_cards i j) (up_to l.n)) (up_to l.before)))
+invariant-loop-before g l =
+    Writes {T = Unit {0}} (g.P.Sink.taken l.fn.text) (g.P.Sink.taken l.text) (Ok tt)
+    (card_text (flat_map (λ i. flat_map (λ j. route_cards i j) (up_to l.n)) (up_to l.before)))

@@ -9,4 +9,7 @@ use Rattle.generated_job.proofs.sections.put_source_rows.Goals as goal
 pub returns-in_err-put_source_row : goal.returns-in_err-put_source_row
 returns-in_err-put_source_row g c =
     let p = err_from_is_err_and c.from_residual.result c.from_residual.ensures.1 in
-    rw (p.1, p.2) (stops_at_one (λ i. row_card (plain_row L (source i))) c.loop-before.before c.args.n c.loop-before-test.true c.loop-before.invariant c.in_err-put_source_row.ensures)
+    rw (p.1, p.2)
+    (stops_at_one
+    (λ i. row_card
+    (plain_row L (source i))) c.loop-before.before c.args.n c.loop-before-test.true c.loop-before.invariant c.in_err-put_source_row.ensures)

@@ -7,4 +7,7 @@ use Rattle.generated_job.proofs.sections.put_supplies.Goals as goal
 pub returns-in_err-put_supply : goal.returns-in_err-put_supply
 returns-in_err-put_supply g c =
     let p = err_from_is_err_and c.from_residual.result c.from_residual.ensures.1 in
-    rw (p.1, p.2) (stops_at_one (λ i. item_card (codes "RHS") (source i) 10) c.loop-before.before c.args.n c.loop-before-test.true c.loop-before.invariant c.in_err-put_supply.ensures)
+    rw (p.1, p.2)
+    (stops_at_one
+    (λ i. item_card (codes "RHS")
+    (source i) 10) c.loop-before.before c.args.n c.loop-before-test.true c.loop-before.invariant c.in_err-put_supply.ensures)

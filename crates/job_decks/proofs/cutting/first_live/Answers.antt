@@ -5,7 +5,8 @@ use Rattle.job_decks.proofs.cutting.first_live.Goals as goal
 pub loop-number-preserved : goal.loop-number-preserved
 loop-number-preserved c =
     let from_one : 1 ≤ c.loop-number.number = omega arith in
-    c.loop-number.invariant ∙ skip_card c.loop-number.number c.args.cards.now c.card.result.bytes.now from_one c.card.ensures (sym c.is_skipped.ensures ∙ c.if-not-is_skipped.false)
+    c.loop-number.invariant
+    ∙ skip_card c.loop-number.number c.args.cards.now c.card.result.bytes.now from_one c.card.ensures (sym c.is_skipped.ensures ∙ c.if-not-is_skipped.false)
 
 pub returns-clause-decks : goal.returns-clause-decks
 returns-clause-decks c =

@@ -10,7 +10,8 @@ returns-then-is_wanted-clause-taken c =
     let deck = c.in-Some.deck in
     let from_one : 1 ≤ deck.first = omega (arith, c.in-Some.ensures.within.0) in
     let first = first_of_deck deck.first deck.last cards c.card.result.bytes.now from_one c.in-Some.ensures.within.1 c.card.ensures in
-    let wanted : is_wanted c.args.wanted (cards_between deck.first deck.last cards) ≡ true = ap (is_wanted c.args.wanted) first ∙ sym (c.is_wanted.ensures deck.first _) ∙ c.if-is_wanted.true in
+    let wanted : is_wanted c.args.wanted (cards_between deck.first deck.last cards) ≡ true =
+    ap (is_wanted c.args.wanted) first ∙ sym (c.is_wanted.ensures deck.first _) ∙ c.if-is_wanted.true in
     c.loop-deck.invariant.taken ∙ ap (deck_taken c.args.wanted) c.in-Some.ensures.deck
     ∙ take_first c.args.wanted (cards_between deck.first deck.last cards) (decks_of (drop deck.last (numbered_cards cards))) wanted
 
@@ -24,7 +25,8 @@ loop-deck-preserved c =
     let within = c.in-Some.ensures.within in
     let from_one : 1 ≤ deck.first = omega (arith, within.0) in
     let first = first_of_deck deck.first deck.last cards c.card.result.bytes.now from_one within.1 c.card.ensures in
-    let unwanted : is_wanted c.args.wanted (cards_between deck.first deck.last cards) ≡ false = ap (is_wanted c.args.wanted) first ∙ sym (c.is_wanted.ensures deck.first _) ∙ c.if-is_wanted.false in
+    let unwanted : is_wanted c.args.wanted (cards_between deck.first deck.last cards) ≡ false =
+    ap (is_wanted c.args.wanted) first ∙ sym (c.is_wanted.ensures deck.first _) ∙ c.if-is_wanted.false in
     let after : deck.last ≡ deck.last + 1 - 1 = omega arith in
     record {
       taken = c.loop-deck.invariant.taken ∙ ap (deck_taken c.args.wanted) c.in-Some.ensures.deck

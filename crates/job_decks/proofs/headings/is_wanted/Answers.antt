@@ -10,5 +10,6 @@ returns-then-is_header c = λ number cards.
 
 pub returns-else-is_header : goal.returns-else-is_header
 returns-else-is_header c = λ number cards.
-    unnamed_first number c.args.first.bytes.now cards c.in-Some.name c.is_header.result (sym (c.is_header.ensures number) ∙ c.if-is_header.false) c.if-is_header.false
+    unnamed_first number c.args.first.bytes.now cards c.in-Some.name c.is_header.result
+    (sym (c.is_header.ensures number) ∙ c.if-is_header.false) c.if-is_header.false
     ∙ ap (λ wanted. is_wanted wanted (record { number = number; bytes = c.args.first.bytes.now } ∷ cards)) (sym c.in-Some.is)

@@ -22,7 +22,8 @@ returns-in_err-mark g c limit =
     let ahead = c.take_parametric_run_head.new.cursor in
     let head = ap (left_after (parametric_run_head parametric_run)) (sym start) ∙ c.take_parametric_run_head.ensures limit in
     let missing : left_after (parametric_run_head parametric_run) old ≡ None = head ∙ ap (λ b. taken b ahead) c.if-not-take_parametric_run_head.true in
-    parametric_run_opening_stops C sheet parametric_run old missing c.in_err-mark.field-0.0 c.read_opening.new.cursor c.from_residual.result (c.in_err-mark.ensures limit) c.from_residual.ensures.1
+    parametric_run_opening_stops C sheet parametric_run old missing c.in_err-mark.field-0.0 c.read_opening.new.cursor c.from_residual.result
+    (c.in_err-mark.ensures limit) c.from_residual.ensures.1
 
 pub returns-then-not-take_parametric_run_head : goal.returns-then-not-take_parametric_run_head
 returns-then-not-take_parametric_run_head g c limit =
@@ -46,7 +47,8 @@ returns-in_err-last g c limit =
     let ahead = c.take_parametric_run_head.new.cursor in
     let head = ap (left_after (parametric_run_head parametric_run)) (sym start) ∙ c.take_parametric_run_head.ensures limit in
     let stands : left_after (parametric_run_head parametric_run) old ≡ Some ahead = head ∙ ap (λ b. taken b ahead) c.if-not-take_parametric_run_head.false in
-    parametric_run_stops C sheet parametric_run old ahead stands c.in_err-last.field-0.0 c.read_run.new.cursor c.from_residual-in_err-last.result (c.in_err-last.ensures limit) c.from_residual-in_err-last.ensures.1
+    parametric_run_stops C sheet parametric_run old ahead stands c.in_err-last.field-0.0 c.read_run.new.cursor c.from_residual-in_err-last.result
+    (c.in_err-last.ensures limit) c.from_residual-in_err-last.ensures.1
 
 pub returns : goal.returns
 returns g c limit =

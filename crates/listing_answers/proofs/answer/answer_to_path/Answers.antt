@@ -20,7 +20,8 @@ returns-in_err-stated g c limit =
     let judged = tested_by C test (λ of. verdict_in of sheet c.args.solver) c.args.cursor.now in
     let stop = c.in_err-stated.field-0.0 in
     handed_on IsConclusion (judged_map made judged) c.verdict.new.cursor c.from_residual.result stop
-    (made_stops made judged stop (reading_stops C (λ of. verdict_in of sheet c.args.solver) c.args.cursor.now test stop c.in_err-stated.ensures)) c.from_residual.ensures.1
+    (made_stops made judged stop
+    (reading_stops C (λ of. verdict_in of sheet c.args.solver) c.args.cursor.now test stop c.in_err-stated.ensures)) c.from_residual.ensures.1
 
 pub returns-in_err-test_claim : goal.returns-in_err-test_claim
 returns-in_err-test_claim g c limit =
@@ -32,7 +33,8 @@ returns-in_err-test_claim g c limit =
     let found = c.in_ok-stated.ensures in
     let stop = c.in_err-test_claim.field-0.0 in
     handed_on IsConclusion (judged_map made judged) c.verdict.new.cursor c.from_residual-in_err-test_claim.result stop
-    (made_stops made judged stop (test_stops C (λ of. verdict_in of sheet c.args.solver) c.args.cursor.now test found.answer c.verdict.new.cursor stop found.is_found
+    (made_stops made judged stop
+    (test_stops C (λ of. verdict_in of sheet c.args.solver) c.args.cursor.now test found.answer c.verdict.new.cursor stop found.is_found
     (claim_stops C sheet sheet refl c.in_ok-stated.stated.claim found.answer.0 found.answer.1 found.shows.says stop c.in_err-test_claim.ensures)))
     c.from_residual-in_err-test_claim.ensures.1
 
@@ -46,7 +48,8 @@ returns-in_err-take_word g c limit =
     let found = c.in_ok-stated.ensures in
     let stop = c.in_err-take_word.field-0.0 in
     handed_on IsConclusion (judged_map made judged) c.verdict.new.cursor c.from_residual-in_err-take_word.result stop
-    (made_stops made judged stop (test_stops C (λ of. verdict_in of sheet c.args.solver) c.args.cursor.now test found.answer c.verdict.new.cursor stop found.is_found
+    (made_stops made judged stop
+    (test_stops C (λ of. verdict_in of sheet c.args.solver) c.args.cursor.now test found.answer c.verdict.new.cursor stop found.is_found
     (word_stops C sheet sheet refl c.in_ok-stated.stated.claim found.answer.0 found.answer.1 found.shows.says stop c.in_ok-test_claim.ensures
     (c.in_err-take_word.ensures found.answer.1 (sym found.shows.says_check)))))
     c.from_residual-in_err-take_word.ensures.1

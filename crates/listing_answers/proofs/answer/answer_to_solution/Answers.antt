@@ -21,8 +21,11 @@ returns-in_err-lines g c =
     let C = g.T.Checks.checker in
     let sheet = sheet_view c.args.sheet in
     let stop = c.in_err-lines.field-0.0 in
-    handed_on (λ (objective : ℚ) (lines : SolutionLines). objective ≡ point_of sheet lines sheet.lp.objective) (tested_by C (solution_test C sheet c.args.mark) (λ of. solution_in of sheet c.args.mark) c.args.cursor.now) c.solution_lines.new.cursor c.from_residual.result stop
-    (reading_stops C (λ of. solution_in of sheet c.args.mark) c.args.cursor.now (solution_test C sheet c.args.mark) stop c.in_err-lines.ensures) c.from_residual.ensures.1
+    handed_on (λ (objective : ℚ) (lines : SolutionLines). objective ≡ point_of sheet lines sheet.lp.objective)
+    (tested_by C (solution_test C sheet c.args.mark)
+    (λ of. solution_in of sheet c.args.mark) c.args.cursor.now) c.solution_lines.new.cursor c.from_residual.result stop
+    (reading_stops C (λ of. solution_in of sheet c.args.mark) c.args.cursor.now
+    (solution_test C sheet c.args.mark) stop c.in_err-lines.ensures) c.from_residual.ensures.1
 
 pub returns-in_err-test_solution : goal.returns-in_err-test_solution
 returns-in_err-test_solution g c =
@@ -31,8 +34,11 @@ returns-in_err-test_solution g c =
     let found = c.in_ok-lines.ensures in
     let shows = printed_shows sheet c.in_ok-lines.lines found.answer c.in_ok-printed.printed found.shows c.in_ok-printed.ensures in
     let stop = c.in_err-test_solution.field-0.0 in
-    handed_on (λ (objective : ℚ) (lines : SolutionLines). objective ≡ point_of sheet lines sheet.lp.objective) (tested_by C (solution_test C sheet c.args.mark) (λ of. solution_in of sheet c.args.mark) c.args.cursor.now) c.solution_lines.new.cursor c.from_residual-in_err-test_solution.result stop
-    (test_stops C (λ of. solution_in of sheet c.args.mark) c.args.cursor.now (solution_test C sheet c.args.mark) found.answer c.solution_lines.new.cursor stop found.is_found
+    handed_on (λ (objective : ℚ) (lines : SolutionLines). objective ≡ point_of sheet lines sheet.lp.objective)
+    (tested_by C (solution_test C sheet c.args.mark)
+    (λ of. solution_in of sheet c.args.mark) c.args.cursor.now) c.solution_lines.new.cursor c.from_residual-in_err-test_solution.result stop
+    (test_stops C (λ of. solution_in of sheet c.args.mark) c.args.cursor.now
+    (solution_test C sheet c.args.mark) found.answer c.solution_lines.new.cursor stop found.is_found
     (subst (λ (v : Verdict). Stops stop v) (printed_tested C sheet c.args.mark c.in_ok-printed.printed found.answer shows) c.in_err-test_solution.ensures))
     c.from_residual-in_err-test_solution.ensures.1
 
@@ -45,7 +51,8 @@ returns g c =
     record {
       answer = found.answer;
       is_right =
-          right_by C (λ of. solution_in of sheet c.args.mark) c.args.cursor.now (solution_test C sheet c.args.mark) found.answer c.solution_lines.new.cursor found.is_found
+          right_by C (λ of. solution_in of sheet c.args.mark) c.args.cursor.now
+          (solution_test C sheet c.args.mark) found.answer c.solution_lines.new.cursor found.is_found
           (sym (printed_tested C sheet c.args.mark c.in_ok-printed.printed found.answer shows) ∙ c.in_ok-test_solution.ensures);
       shows = c.objective_of.ensures ∙ ap (λ (z : List ℚ). value_at z sheet.lp.objective) (c.deref.ensures.value ∙ shows.point);
     }

@@ -16,13 +16,20 @@ returns g c =
     let numbers = c.in-Some.numbers.items in
     let table = ap (λ n. table_in of sheet pair_slots (numbers_from 1 n) c.args.cursor.now) (sym c.number_of_variables-count.ensures.size) ∙ read.1 in
     let places = lines_counted of sheet pair_slots c.args.cursor.now read.0 c.table.new.cursor table in
-    let point = column_is Pair (λ n. n.first) numbers read.0 c.in_ok-point.point.items read.2 (c.in_ok-point.ensures ∙ ap (map (λ (n : Numbers). n.first)) c.deref.ensures.value) in
-    let direction = column_is Pair (λ n. n.second) numbers read.0 c.in_ok-direction.direction.items read.2 (c.in_ok-direction.ensures ∙ ap (map (λ (n : Numbers). n.second)) c.deref-2.ensures.value) in (
+    let point =
+    column_is Pair (λ n. n.first) numbers read.0 c.in_ok-point.point.items read.2
+    (c.in_ok-point.ensures ∙ ap (map (λ (n : Numbers). n.first)) c.deref.ensures.value) in
+    let direction = column_is Pair (λ n. n.second) numbers read.0 c.in_ok-direction.direction.items read.2
+    (c.in_ok-direction.ensures ∙ ap (map (λ (n : Numbers). n.second)) c.deref-2.ensures.value) in (
       read.0,
       table,
       record {
         is_point = point;
         is_direction = direction;
-        fits = (ap length point ∙ column_length 0 (size sheet.lp.matrix) read.0 places, ap length direction ∙ column_length 1 (size sheet.lp.matrix) read.0 places);
+        fits = (
+          ap length point ∙ column_length 0 (size sheet.lp.matrix) read.0 places,
+          ap length direction
+              ∙ column_length 1 (size sheet.lp.matrix) read.0 places,
+        );
       },
     )

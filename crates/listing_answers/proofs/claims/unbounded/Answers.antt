@@ -11,7 +11,9 @@ pub returns-in_default : goal.returns-in_default
 returns-in_default g c =
     let of = number_in g.T.Checks.checker c.args.by in
     let sheet = sheet_view c.args.sheet in
-    (rw c.in_default.is at c.in_ok-head.ensures) (λ steps objective check rest. option_map (λ got. ((UnboundedBy steps objective got.0, check), got.1)) (table_in of sheet pair_slots (variables sheet.lp.matrix) rest))
+    (rw c.in_default.is at c.in_ok-head.ensures)
+    (λ steps objective check rest. option_map (λ got. ((UnboundedBy steps objective got.0, check), got.1))
+    (table_in of sheet pair_slots (variables sheet.lp.matrix) rest))
 
 pub returns-in_default-2 : goal.returns-in_default-2
 returns-in_default-2 g c =
@@ -20,7 +22,8 @@ returns-in_default-2 g c =
     let head = rw c.in-Some.is at c.in_ok-head.ensures in
     let objective = c.in-Some.head.objective in
     let none : table_in of sheet pair_slots (variables sheet.lp.matrix) c.read_head.new.cursor ≡ None = rw c.in_default-2.is at c.in_ok-pair.ensures in
-    head.reads (λ steps objective check rest. option_map (λ got. ((UnboundedBy steps objective got.0, check), got.1)) (table_in of sheet pair_slots (variables sheet.lp.matrix) rest))
+    head.reads (λ steps objective check rest. option_map (λ got. ((UnboundedBy steps objective got.0, check), got.1))
+    (table_in of sheet pair_slots (variables sheet.lp.matrix) rest))
     ∙ ap (option_map (λ got. ((UnboundedBy head.steps objective got.0, head.check), got.1))) none
 
 pub returns : goal.returns
@@ -33,7 +36,8 @@ returns g c =
     record {
       answer = (UnboundedBy head.steps objective read.0, head.check);
       is_found =
-          head.reads (λ steps objective check rest. option_map (λ got. ((UnboundedBy steps objective got.0, check), got.1)) (table_in of sheet pair_slots (variables sheet.lp.matrix) rest))
+          head.reads (λ steps objective check rest. option_map (λ got. ((UnboundedBy steps objective got.0, check), got.1))
+          (table_in of sheet pair_slots (variables sheet.lp.matrix) rest))
           ∙ ap (option_map (λ got. ((UnboundedBy head.steps objective got.0, head.check), got.1))) read.1;
       shows = record { says = (refl, read.2); says_check = head.says; fits = read.2.fits };
     }

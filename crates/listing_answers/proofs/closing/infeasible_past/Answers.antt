@@ -11,7 +11,8 @@ pub returns-in_default : goal.returns-in_default
 returns-in_default g c =
     let of = number_in g.T.Checks.checker c.args.by in
     let sheet = sheet_view c.args.sheet in
-    (rw c.in_default.is at c.in_ok-value.ensures) (λ t after. option_map (λ got. (InfeasiblePast t got.0, got.1)) (ray_in of sheet (variables sheet.lp.matrix) after))
+    (rw c.in_default.is at c.in_ok-value.ensures)
+    (λ t after. option_map (λ got. (InfeasiblePast t got.0, got.1)) (ray_in of sheet (variables sheet.lp.matrix) after))
 
 pub returns-in_default-2 : goal.returns-in_default-2
 returns-in_default-2 g c =
@@ -19,7 +20,9 @@ returns-in_default-2 g c =
     let sheet = sheet_view c.args.sheet in
     let t = c.in-Some.value in
     let none : ray_in of sheet (variables sheet.lp.matrix) c.value_line.new.cursor ≡ None = rw c.in_default-2.is at c.in_ok-ray.ensures in
-    (rw c.in-Some.is at c.in_ok-value.ensures) (λ t after. option_map (λ got. (InfeasiblePast t got.0, got.1)) (ray_in of sheet (variables sheet.lp.matrix) after)) ∙ ap (option_map (λ got. (InfeasiblePast t got.0, got.1))) none
+    (rw c.in-Some.is at c.in_ok-value.ensures)
+    (λ t after. option_map (λ got. (InfeasiblePast t got.0, got.1)) (ray_in of sheet (variables sheet.lp.matrix) after))
+    ∙ ap (option_map (λ got. (InfeasiblePast t got.0, got.1))) none
 
 pub returns : goal.returns
 returns g c =
@@ -29,6 +32,9 @@ returns g c =
     let read = rw c.in-Some-2.is at c.in_ok-ray.ensures in
     record {
       answer = InfeasiblePast t read.0;
-      is_found = (rw c.in-Some.is at c.in_ok-value.ensures) (λ t after. option_map (λ got. (InfeasiblePast t got.0, got.1)) (ray_in of sheet (variables sheet.lp.matrix) after)) ∙ ap (option_map (λ got. (InfeasiblePast t got.0, got.1))) read.1;
+      is_found =
+          (rw c.in-Some.is at c.in_ok-value.ensures)
+          (λ t after. option_map (λ got. (InfeasiblePast t got.0, got.1)) (ray_in of sheet (variables sheet.lp.matrix) after))
+          ∙ ap (option_map (λ got. (InfeasiblePast t got.0, got.1))) read.1;
       shows = (refl, read.2);
     }

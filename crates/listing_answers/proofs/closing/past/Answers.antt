@@ -12,10 +12,14 @@ pub returns-in-Row : goal.returns-in-Row
 returns-in-Row g c =
     let of = number_in g.T.Checks.checker c.args.by in
     let sheet = sheet_view c.args.sheet in
-    subst (λ (change : Change). IfOk c.unbounded_past.result (Found (Closes sheet) (past_in of sheet (changing_of c.args.request.now.name change) c.args.cursor.now) c.unbounded_past.new.cursor)) (sym c.in-Row.is) c.unbounded_past.ensures
+    subst (λ (change : Change). IfOk c.unbounded_past.result
+    (Found (Closes sheet) (past_in of sheet (changing_of c.args.request.now.name change) c.args.cursor.now) c.unbounded_past.new.cursor))
+    (sym c.in-Row.is) c.unbounded_past.ensures
 
 pub returns-in-Set : goal.returns-in-Set
 returns-in-Set g c =
     let of = number_in g.T.Checks.checker c.args.by in
     let sheet = sheet_view c.args.sheet in
-    subst (λ (change : Change). IfOk c.infeasible_past.result (Found (Closes sheet) (past_in of sheet (changing_of c.args.request.now.name change) c.args.cursor.now) c.infeasible_past.new.cursor)) (sym c.in-Set.is) c.infeasible_past.ensures
+    subst (λ (change : Change). IfOk c.infeasible_past.result
+    (Found (Closes sheet) (past_in of sheet (changing_of c.args.request.now.name change) c.args.cursor.now) c.infeasible_past.new.cursor))
+    (sym c.in-Set.is) c.infeasible_past.ensures

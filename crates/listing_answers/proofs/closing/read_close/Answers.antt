@@ -23,7 +23,8 @@ returns-in_err-closing g c =
     let changing = changing_of c.args.request.now.name c.args.request.now.change in
     let test = close_test C sheet changing c.args.request.now.to c.args.last.now in
     let stop = c.in_err-closing.field-0.0 in
-    handed_on EndsChain (tested_by C test (λ of. close_in of sheet (parametric_solver changing)) c.args.cursor.now) c.run_closing.new.cursor c.from_residual.result stop
+    handed_on EndsChain
+    (tested_by C test (λ of. close_in of sheet (parametric_solver changing)) c.args.cursor.now) c.run_closing.new.cursor c.from_residual.result stop
     (reading_stops C (λ of. close_in of sheet (parametric_solver changing)) c.args.cursor.now test stop c.in_err-closing.ensures) c.from_residual.ensures.1
 
 pub returns-in_err-test_close : goal.returns-in_err-test_close
@@ -35,9 +36,12 @@ returns-in_err-test_close g c =
     let test = close_test C sheet changing max c.args.last.now in
     let found = c.in_ok-closing.ensures in
     let stop = c.in_err-test_close.field-0.0 in
-    handed_on EndsChain (tested_by C test (λ of. close_in of sheet (parametric_solver changing)) c.args.cursor.now) c.run_closing.new.cursor c.from_residual-in_err-test_close.result stop
+    handed_on EndsChain
+    (tested_by C test
+    (λ of. close_in of sheet (parametric_solver changing)) c.args.cursor.now) c.run_closing.new.cursor c.from_residual-in_err-test_close.result stop
     (test_stops C (λ of. close_in of sheet (parametric_solver changing)) c.args.cursor.now test found.answer c.run_closing.new.cursor stop found.is_found
-    (subst (λ (v : Verdict). Stops stop v) (closing_tested C sheet changing max c.args.last.now c.in_ok-closing.closing found.answer found.shows) c.in_err-test_close.ensures))
+    (subst (λ (v : Verdict). Stops stop v)
+    (closing_tested C sheet changing max c.args.last.now c.in_ok-closing.closing found.answer found.shows) c.in_err-test_close.ensures))
     c.from_residual-in_err-test_close.ensures.1
 
 pub returns : goal.returns
@@ -50,7 +54,8 @@ returns g c =
     record {
       answer = found.answer;
       is_right =
-          right_by C (λ of. close_in of sheet (parametric_solver changing)) c.args.cursor.now (close_test C sheet changing max c.args.last.now) found.answer c.run_closing.new.cursor found.is_found
+          right_by C (λ of. close_in of sheet (parametric_solver changing)) c.args.cursor.now
+          (close_test C sheet changing max c.args.last.now) found.answer c.run_closing.new.cursor found.is_found
           (sym (closing_tested C sheet changing max c.args.last.now c.in_ok-closing.closing found.answer found.shows) ∙ c.in_ok-test_close.ensures);
       shows = c.value_of.ensures ∙ closing_value sheet c.in_ok-closing.closing found.answer found.shows;
     }

@@ -19,4 +19,5 @@ returns g c =
     let text = c.solver_word.ensures ∙ ap solver_text c.solver_of.ensures in
     let head : left_after (solver_text (parametric_solver changing)) c.args.cursor.now ≡ Some c.take.new.self =
     ap (λ t. left_after t c.args.cursor.now) (sym text) ∙ c.take.ensures.taken ∙ ap (λ b. taken b c.take.new.self) c.if-not-take.false in
-    subst (λ o. IfOk c.close_after.result (Found (Closes sheet) o c.close_after.new.cursor)) (sym (close_taken of sheet changing c.args.cursor.now c.take.new.self head)) c.close_after.ensures
+    subst (λ o. IfOk c.close_after.result (Found (Closes sheet) o c.close_after.new.cursor))
+    (sym (close_taken of sheet changing c.args.cursor.now c.take.new.self head)) c.close_after.ensures

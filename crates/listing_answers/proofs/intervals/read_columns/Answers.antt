@@ -17,10 +17,17 @@ returns g c =
     let numbers = c.in-Some.numbers.items in
     let table = ap (λ n. table_in of sheet part_slots (numbers_from 1 n) c.args.cursor.now) (sym c.number_of_variables-count.ensures.size) ∙ read.1 in
     let places = lines_counted of sheet part_slots c.args.cursor.now read.0 c.table.new.cursor table in
-    let value = column_is Part (λ n. n.first) numbers read.0 c.in_ok-firsts.field-0.items read.2 (c.in_ok-firsts.ensures ∙ ap (map (λ (n : Numbers). n.first)) c.deref.ensures.value) in
-    let value_rate = column_is Part (λ n. n.second) numbers read.0 c.in_ok-seconds.field-0.items read.2 (c.in_ok-seconds.ensures ∙ ap (map (λ (n : Numbers). n.second)) c.deref-2.ensures.value) in
-    let price = column_is Part (λ n. n.third) numbers read.0 c.in_ok-thirds.field-0.items read.2 (c.in_ok-thirds.ensures ∙ ap (map (λ (n : Numbers). n.third)) c.deref-3.ensures.value) in
-    let price_rate = column_is Part (λ n. n.fourth) numbers read.0 c.in_ok-fourths.field-0.items read.2 (c.in_ok-fourths.ensures ∙ ap (map (λ (n : Numbers). n.fourth)) c.deref-4.ensures.value) in (
+    let value =
+    column_is Part (λ n. n.first) numbers read.0 c.in_ok-firsts.field-0.items read.2
+    (c.in_ok-firsts.ensures ∙ ap (map (λ (n : Numbers). n.first)) c.deref.ensures.value) in
+    let value_rate =
+    column_is Part (λ n. n.second) numbers read.0 c.in_ok-seconds.field-0.items read.2
+    (c.in_ok-seconds.ensures ∙ ap (map (λ (n : Numbers). n.second)) c.deref-2.ensures.value) in
+    let price =
+    column_is Part (λ n. n.third) numbers read.0 c.in_ok-thirds.field-0.items read.2
+    (c.in_ok-thirds.ensures ∙ ap (map (λ (n : Numbers). n.third)) c.deref-3.ensures.value) in
+    let price_rate = column_is Part (λ n. n.fourth) numbers read.0 c.in_ok-fourths.field-0.items read.2
+    (c.in_ok-fourths.ensures ∙ ap (map (λ (n : Numbers). n.fourth)) c.deref-4.ensures.value) in (
       read.0,
       table,
       record {

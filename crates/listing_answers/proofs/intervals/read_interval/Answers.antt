@@ -10,7 +10,9 @@ pub returns-in_default : goal.returns-in_default
 returns-in_default g c =
     let of = number_in g.T.Checks.checker c.args.by in
     let sheet = sheet_view c.args.sheet in
-    (rw c.in_default.is at c.in_ok-to.ensures) (λ to rest. option_map (λ got. (record { from = c.args.from.now; to = to; lines = got.0 }, got.1)) (table_in of sheet part_slots (variables sheet.lp.matrix) rest))
+    (rw c.in_default.is at c.in_ok-to.ensures)
+    (λ to rest. option_map (λ got. (record { from = c.args.from.now; to = to; lines = got.0 }, got.1))
+    (table_in of sheet part_slots (variables sheet.lp.matrix) rest))
 
 pub returns-in_default-2 : goal.returns-in_default-2
 returns-in_default-2 g c =
@@ -18,7 +20,9 @@ returns-in_default-2 g c =
     let sheet = sheet_view c.args.sheet in
     let to = c.in-Some.to in
     let none : table_in of sheet part_slots (variables sheet.lp.matrix) c.part_end.new.cursor ≡ None = rw c.in_default-2.is at c.in_ok-columns.ensures in
-    (rw c.in-Some.is at c.in_ok-to.ensures) (λ to rest. option_map (λ got. (record { from = c.args.from.now; to = to; lines = got.0 }, got.1)) (table_in of sheet part_slots (variables sheet.lp.matrix) rest))
+    (rw c.in-Some.is at c.in_ok-to.ensures)
+    (λ to rest. option_map (λ got. (record { from = c.args.from.now; to = to; lines = got.0 }, got.1))
+    (table_in of sheet part_slots (variables sheet.lp.matrix) rest))
     ∙ ap (option_map (λ got. (record { from = c.args.from.now; to = to; lines = got.0 }, got.1))) none
 
 pub returns : goal.returns
@@ -30,7 +34,9 @@ returns g c =
     record {
       answer = record { from = c.args.from.now; to = to; lines = read.0 };
       is_found =
-          (rw c.in-Some.is at c.in_ok-to.ensures) (λ to rest. option_map (λ got. (record { from = c.args.from.now; to = to; lines = got.0 }, got.1)) (table_in of sheet part_slots (variables sheet.lp.matrix) rest))
+          (rw c.in-Some.is at c.in_ok-to.ensures)
+          (λ to rest. option_map (λ got. (record { from = c.args.from.now; to = to; lines = got.0 }, got.1))
+          (table_in of sheet part_slots (variables sheet.lp.matrix) rest))
           ∙ ap (option_map (λ got. (record { from = c.args.from.now; to = to; lines = got.0 }, got.1))) read.1;
       shows = record { begins = refl; ends = refl; columns = read.2 };
     }

@@ -20,7 +20,8 @@ returns-in_err-part g c =
     let changing = changing_of c.args.request.now.name c.args.request.now.change in
     let test = interval_test C sheet changing (nat_eq c.args.number 1) c.args.request.now.to in
     let stop = c.in_err-part.field-0.0 in
-    handed_on EndsPart (tested_by C test (λ of. interval_in of sheet c.args.number c.args.last.now) c.args.cursor.now) c.interval.new.cursor c.from_residual.result stop
+    handed_on EndsPart
+    (tested_by C test (λ of. interval_in of sheet c.args.number c.args.last.now) c.args.cursor.now) c.interval.new.cursor c.from_residual.result stop
     (reading_stops C (λ of. interval_in of sheet c.args.number c.args.last.now) c.args.cursor.now test stop c.in_err-part.ensures) c.from_residual.ensures.1
 
 pub returns-in_err-test_interval : goal.returns-in_err-test_interval
@@ -33,9 +34,12 @@ returns-in_err-test_interval g c =
     let test = interval_test C sheet changing first max in
     let found = c.in_ok-part.ensures in
     let stop = c.in_err-test_interval.field-0.0 in
-    handed_on EndsPart (tested_by C test (λ of. interval_in of sheet c.args.number c.args.last.now) c.args.cursor.now) c.interval.new.cursor c.from_residual-in_err-test_interval.result stop
+    handed_on EndsPart
+    (tested_by C test
+    (λ of. interval_in of sheet c.args.number c.args.last.now) c.args.cursor.now) c.interval.new.cursor c.from_residual-in_err-test_interval.result stop
     (test_stops C (λ of. interval_in of sheet c.args.number c.args.last.now) c.args.cursor.now test found.answer c.interval.new.cursor stop found.is_found
-    (subst (λ (v : Verdict). Stops stop v) (part_tested C sheet changing first max c.args.last.now c.in_ok-part.part found.answer found.shows) c.in_err-test_interval.ensures))
+    (subst (λ (v : Verdict). Stops stop v)
+    (part_tested C sheet changing first max c.args.last.now c.in_ok-part.part found.answer found.shows) c.in_err-test_interval.ensures))
     c.from_residual-in_err-test_interval.ensures.1
 
 pub returns : goal.returns
@@ -49,7 +53,8 @@ returns g c =
     record {
       answer = found.answer;
       is_right =
-          right_by C (λ of. interval_in of sheet c.args.number c.args.last.now) c.args.cursor.now (interval_test C sheet changing first max) found.answer c.interval.new.cursor found.is_found
+          right_by C (λ of. interval_in of sheet c.args.number c.args.last.now) c.args.cursor.now
+          (interval_test C sheet changing first max) found.answer c.interval.new.cursor found.is_found
           (sym (part_tested C sheet changing first max c.args.last.now c.in_ok-part.part found.answer found.shows) ∙ c.in_ok-test_interval.ensures);
       shows = sym found.shows.ends;
     }

@@ -30,7 +30,8 @@ returns-in_err-stated g c limit =
     let stop = c.in_err-stated.field-0.0 in
     let read = subst (λ (solver : Solver). IsUnread C (λ of. verdict_in of sheet solver) c.args.cursor.now stop) c.solver_of.ensures c.in_err-stated.ensures in
     handed_on IsOpened (judged_map made judged) c.verdict.new.cursor c.from_residual.result stop
-    (made_stops made judged stop (reading_stops C (λ of. verdict_in of sheet (parametric_solver changing)) c.args.cursor.now test stop read)) c.from_residual.ensures.1
+    (made_stops made judged stop
+    (reading_stops C (λ of. verdict_in of sheet (parametric_solver changing)) c.args.cursor.now test stop read)) c.from_residual.ensures.1
 
 pub returns-in_err-test_opening : goal.returns-in_err-test_opening
 returns-in_err-test_opening g c limit =
@@ -44,11 +45,15 @@ returns-in_err-test_opening g c limit =
     let made = λ (claim : Claim). Opening [] claim.0 claim.1 in
     let judged = tested_by C test (λ of. verdict_in of sheet (parametric_solver changing)) c.args.cursor.now in
     let stated = c.in_ok-stated.stated in
-    let found = subst (λ (solver : Solver). IsFound (IsStated sheet) (verdict_in (fraction_in C) sheet solver c.args.cursor.now) c.verdict.new.cursor stated) c.solver_of.ensures c.in_ok-stated.ensures in
+    let found =
+    subst (λ (solver : Solver). IsFound (IsStated sheet)
+    (verdict_in (fraction_in C) sheet solver c.args.cursor.now) c.verdict.new.cursor stated) c.solver_of.ensures c.in_ok-stated.ensures in
     let stop = c.in_err-test_opening.field-0.0 in
     handed_on IsOpened (judged_map made judged) c.verdict.new.cursor c.from_residual-in_err-test_opening.result stop
-    (made_stops made judged stop (test_stops C (λ of. verdict_in of sheet (parametric_solver changing)) c.args.cursor.now test found.answer c.verdict.new.cursor stop found.is_found
-    (opening_stops C sheet other (family_matrix sheet changing from) making stated.claim found.answer.0 found.answer.1 found.shows.says stop c.in_err-test_opening.ensures)))
+    (made_stops made judged stop
+    (test_stops C (λ of. verdict_in of sheet (parametric_solver changing)) c.args.cursor.now test found.answer c.verdict.new.cursor stop found.is_found
+    (opening_stops C sheet other
+    (family_matrix sheet changing from) making stated.claim found.answer.0 found.answer.1 found.shows.says stop c.in_err-test_opening.ensures)))
     c.from_residual-in_err-test_opening.ensures.1
 
 pub returns-in_err-take_word : goal.returns-in_err-take_word
@@ -63,11 +68,15 @@ returns-in_err-take_word g c limit =
     let made = λ (claim : Claim). Opening [] claim.0 claim.1 in
     let judged = tested_by C test (λ of. verdict_in of sheet (parametric_solver changing)) c.args.cursor.now in
     let stated = c.in_ok-stated.stated in
-    let found = subst (λ (solver : Solver). IsFound (IsStated sheet) (verdict_in (fraction_in C) sheet solver c.args.cursor.now) c.verdict.new.cursor stated) c.solver_of.ensures c.in_ok-stated.ensures in
+    let found =
+    subst (λ (solver : Solver). IsFound (IsStated sheet)
+    (verdict_in (fraction_in C) sheet solver c.args.cursor.now) c.verdict.new.cursor stated) c.solver_of.ensures c.in_ok-stated.ensures in
     let stop = c.in_err-take_word.field-0.0 in
     handed_on IsOpened (judged_map made judged) c.verdict.new.cursor c.from_residual-in_err-take_word.result stop
-    (made_stops made judged stop (test_stops C (λ of. verdict_in of sheet (parametric_solver changing)) c.args.cursor.now test found.answer c.verdict.new.cursor stop found.is_found
-    (opening_word_stops C sheet other (family_matrix sheet changing from) making stated.claim found.answer.0 found.answer.1 found.shows.says stop c.in_ok-test_opening.ensures
+    (made_stops made judged stop
+    (test_stops C (λ of. verdict_in of sheet (parametric_solver changing)) c.args.cursor.now test found.answer c.verdict.new.cursor stop found.is_found
+    (opening_word_stops C sheet other
+    (family_matrix sheet changing from) making stated.claim found.answer.0 found.answer.1 found.shows.says stop c.in_ok-test_opening.ensures
     (c.in_err-take_word.ensures found.answer.1 (sym found.shows.says_check)))))
     c.from_residual-in_err-take_word.ensures.1
 
@@ -82,12 +91,16 @@ returns g c limit =
     let test = λ (claim : Claim). in_turn (making ∷ verdict_test C other claim.0 claim.1 ∷ []) in
     let made = λ (claim : Claim). Opening [] claim.0 claim.1 in
     let stated = c.in_ok-stated.stated in
-    let found = subst (λ (solver : Solver). IsFound (IsStated sheet) (verdict_in (fraction_in C) sheet solver c.args.cursor.now) c.verdict.new.cursor stated) c.solver_of.ensures c.in_ok-stated.ensures in
+    let found =
+    subst (λ (solver : Solver). IsFound (IsStated sheet)
+    (verdict_in (fraction_in C) sheet solver c.args.cursor.now) c.verdict.new.cursor stated) c.solver_of.ensures c.in_ok-stated.ensures in
     record {
       answer = Opening [] found.answer.0 found.answer.1;
       is_right =
-          ap (judged_map made) (right_by C (λ of. verdict_in of sheet (parametric_solver changing)) c.args.cursor.now test found.answer c.verdict.new.cursor found.is_found
-          (opening_passes C sheet other (family_matrix sheet changing from) making stated.claim found.answer.0 found.answer.1 found.shows.says c.in_ok-test_opening.ensures
+          ap (judged_map made)
+          (right_by C (λ of. verdict_in of sheet (parametric_solver changing)) c.args.cursor.now test found.answer c.verdict.new.cursor found.is_found
+          (opening_passes C sheet other
+          (family_matrix sheet changing from) making stated.claim found.answer.0 found.answer.1 found.shows.says c.in_ok-test_opening.ensures
           (c.in_ok-take_word.ensures found.answer.1 (sym found.shows.says_check))));
       shows = c.mark_left.ensures ∙ marked sheet stated.claim found.answer.0 found.shows.says;
     }

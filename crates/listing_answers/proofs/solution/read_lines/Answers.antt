@@ -21,12 +21,15 @@ returns g c =
     record {
       answer = record { rows = rows.0; columns = columns.0 };
       is_found =
-          solution_read of sheet c.args.mark c.args.cursor.now first middle second new rows.0 columns.0 (c.take_rows_head.ensures ∙ ap (λ b. taken b first) c.if-not-take_rows_head.false) rows.1
+          solution_read of sheet c.args.mark c.args.cursor.now first middle second new rows.0 columns.0
+          (c.take_rows_head.ensures ∙ ap (λ b. taken b first) c.if-not-take_rows_head.false) rows.1
           (c.take_columns_head.ensures ∙ ap (λ b. taken b second) c.if-not-take_columns_head.false) columns.1;
       shows = record {
         rows = rows.2;
         columns = columns.2;
         rows_counted = table_counted of sheet (row_slots sheet) (row_numbers sheet.lp) first rows.0 middle rows.1 ∙ length-numbers_from 1 sheet.lp.rows;
-        columns_counted = table_counted of sheet (column_slots sheet) (column_numbers sheet.lp) second columns.0 new columns.1 ∙ length-numbers_from (sheet.lp.rows + 1) sheet.lp.cols;
+        columns_counted =
+            table_counted of sheet (column_slots sheet) (column_numbers sheet.lp) second columns.0 new columns.1
+            ∙ length-numbers_from (sheet.lp.rows + 1) sheet.lp.cols;
       };
     }

@@ -10,10 +10,14 @@ use Rattle.listing_check.proofs.check.check_bytes.Goals as goal
 
 pub returns-then-listing-gt-MAX_LISTING : goal.returns-then-listing-gt-MAX_LISTING
 returns-then-listing-gt-MAX_LISTING g c =
-    says (codes "LONG LISTING\n") Long (found None (codes "LONG LISTING\n") tt tt tt tt (λ bytes lines is e. long_answer g.T.Checks.checker bytes c.args.listing.now lines e c.if-listing-gt-MAX_LISTING.true)) c.end_with.ensures
+    says (codes "LONG LISTING\n") Long
+    (found None (codes "LONG LISTING\n") tt tt tt tt
+    (λ bytes lines is e. long_answer g.T.Checks.checker bytes c.args.listing.now lines e c.if-listing-gt-MAX_LISTING.true)) c.end_with.ensures
 
 pub returns-in-Ok : goal.returns-in-Ok
 returns-in-Ok g c =
     let viewed = found_view c.in-Ok.found in
     says (answer_text c.args.listing.now (Some viewed)) (status_of (Some viewed))
-    (found (Some viewed) (answer_text c.args.listing.now (Some viewed)) tt tt tt tt (λ bytes lines is e. found_answer g.T.Checks.checker bytes c.args.listing.now lines viewed e c.if-listing-gt-MAX_LISTING.false (c.in-Ok.ensures bytes is))) c.end_found.ensures
+    (found (Some viewed) (answer_text c.args.listing.now (Some viewed)) tt tt tt tt
+    (λ bytes lines is e. found_answer g.T.Checks.checker bytes c.args.listing.now lines viewed e c.if-listing-gt-MAX_LISTING.false
+    (c.in-Ok.ensures bytes is))) c.end_found.ensures

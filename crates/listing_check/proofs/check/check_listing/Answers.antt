@@ -13,11 +13,13 @@ returns-then-is_empty-clause-answer g c bytes lines none job listing =
 
 pub returns-then-is_empty-clause-truth : goal.returns-then-is_empty-clause-truth
 returns-then-is_empty-clause-truth g c is bytes lines job listing =
-    true_listing g.T.Checks.checker (c.attested_law.ensures g.T.Checks.checker) bytes lines _ (code_of c.check_job.result) _ (returns-then-is_empty-clause-answer g c bytes lines (without (length c.args.words.now) c.if-is_empty.ensures) job listing) (ap code_of is)
+    true_listing g.T.Checks.checker (c.attested_law.ensures g.T.Checks.checker) bytes lines _ (code_of c.check_job.result) _
+    (returns-then-is_empty-clause-answer g c bytes lines (without (length c.args.words.now) c.if-is_empty.ensures) job listing) (ap code_of is)
 
 pub returns-then-is_empty-clause-cause : goal.returns-then-is_empty-clause-cause
 returns-then-is_empty-clause-cause g c =
-    why_tells _ g.T.Checks.checker _ (without (length c.args.words.now) c.if-is_empty.ensures) (λ e. e) (λ e. e) (λ e. e) (λ e. e) (λ e. e) c.check_job.result c.check_job.ensures.tells
+    why_tells _ g.T.Checks.checker _ (without (length c.args.words.now) c.if-is_empty.ensures) (λ e. e) (λ e. e) (λ e. e) (λ e. e)
+    (λ e. e) c.check_job.result c.check_job.ensures.tells
 
 -- ---- with words
 

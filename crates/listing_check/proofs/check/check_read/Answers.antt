@@ -18,9 +18,12 @@ returns-in-Ok-clause-tells g c =
       listing_read = λ e. c.in-Ok.ensures.whole;
       listing_same = λ e. absurd e;
       is_job = λ bytes is. is;
-      is_listing = λ lines is. c.deref.ensures.value ∙ some_of (λ left. c.in-Ok.bytes.items ≡ take (max_listing + 1) left) (g.L.Source.given c.args.listing.now).left lines is c.in-Ok.ensures.bytes;
+      is_listing =
+          λ lines is. c.deref.ensures.value
+          ∙ some_of (λ left. c.in-Ok.bytes.items ≡ take (max_listing + 1) left) (g.L.Source.given c.args.listing.now).left lines is c.in-Ok.ensures.bytes;
     }) c.check_bytes.result c.check_bytes.ensures
 
 pub returns-in-Err-Failed-clause-tells : goal.returns-in-Err-Failed-clause-tells
 returns-in-Err-Failed-clause-tells g c =
-    says listing_fault_text ListingFault (listing_fault tt tt (c.in-Err-Failed.ensures.cause.failed (ap (λ s. Err s) c.in-Err-Failed.field-0-is))) c.end_with.ensures
+    says listing_fault_text ListingFault
+    (listing_fault tt tt (c.in-Err-Failed.ensures.cause.failed (ap (λ s. Err s) c.in-Err-Failed.field-0-is))) c.end_with.ensures

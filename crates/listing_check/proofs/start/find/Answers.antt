@@ -8,4 +8,5 @@ pub returns-in-Card : goal.returns-in-Card
 returns-in-Card g c = by_card g.T.Checks.checker c.args.listing.now c.args.start.now c.in-Card.fault c.in-Card.is c.closes.result c.closes.ensures
 
 pub returns-in-Control : goal.returns-in-Control
-returns-in-Control g c = by_control g.T.Checks.checker c.args.listing.now c.args.start.now c.in-Control.fault c.in-Control.is c.closes-in-Control.result c.closes-in-Control.ensures
+returns-in-Control g c =
+    by_control g.T.Checks.checker c.args.listing.now c.args.start.now c.in-Control.fault c.in-Control.is c.closes-in-Control.result c.closes-in-Control.ensures

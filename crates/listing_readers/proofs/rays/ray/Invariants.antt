@@ -7,4 +7,5 @@ use Rattle.listing_readers.proofs.rays.ray.Given as goal
 
 abbrev pub invariant-loop-k : goal.invariant-loop-k
 invariant-loop-k g l =
-    (l.k ≤ l.count) × IsRaySoFar (number_in g.T.Checks.checker l.fn.by) (sheet_view l.fn.sheet) l.fn.cursor l.k (size l.fn.sheet.lp.now.matrix - l.k) l.cursor l.ray.items
+    (l.k ≤ l.count) × IsRaySoFar (number_in g.T.Checks.checker l.fn.by) (sheet_view l.fn.sheet) l.fn.cursor l.k
+    (size l.fn.sheet.lp.now.matrix - l.k) l.cursor l.ray.items

@@ -8,5 +8,7 @@ unfolding is_open_stop
 returns c =
     let rest = c.args.bytes.now in
     c.any_of_five.ensures
-    ∙ (λ i. c.is_limit_stop.ensures i || (c.is_fault.ensures i || (c.is_singular_stop.ensures i || (c.is_price_stop.ensures i || c.is_overflow_stop.ensures i))))
-    ∙ any_form (has_form limit_stop rest) (has_form read_fault rest) (has_form punch_fault rest) (has_form memory_stop rest) (has_form singular_stop rest) (has_form price_stop rest) (has_form overflow_stop rest)
+    ∙ (λ i. c.is_limit_stop.ensures i ||
+    (c.is_fault.ensures i || (c.is_singular_stop.ensures i || (c.is_price_stop.ensures i || c.is_overflow_stop.ensures i))))
+    ∙ any_form (has_form limit_stop rest) (has_form read_fault rest) (has_form punch_fault rest) (has_form memory_stop rest) (has_form singular_stop rest)
+    (has_form price_stop rest) (has_form overflow_stop rest)

@@ -11,5 +11,7 @@ use Rattle.listing_readers.proofs.tables.row_values.Goals as goal
 pub returns : goal.returns
 returns g c =
     let of = number_in g.T.Checks.checker c.args.by in
-    subst₂ (λ (low high : Option ℚ). IfRead c.row_between.result (AreRead of Row (AnyCode ∷ AnyNumber ∷ AnyNumber ∷ Known (limit_value low) ∷ Known (limit_value high) ∷ AnyNumber ∷ []) c.args.cursor.now c.row_between.new.cursor))
+    subst₂ (λ (low high : Option ℚ). IfRead c.row_between.result
+    (AreRead of Row
+    (AnyCode ∷ AnyNumber ∷ AnyNumber ∷ Known (limit_value low) ∷ Known (limit_value high) ∷ AnyNumber ∷ []) c.args.cursor.now c.row_between.new.cursor))
     c.lower_limit.ensures c.upper_limit.ensures c.row_between.ensures

@@ -10,10 +10,13 @@ use Rattle.listing_walk.proofs.answering.answer_parametric_run.Goals as goal
 
 pub returns-in-Ok-clause-answered : goal.returns-in-Ok-clause-answered
 returns-in-Ok-clause-answered g c = λ limit.
-    parametric_run_answered g.T.Checks.checker (parametric_run_of limit c.args.request.now) (sheet_view c.args.sheet) c.args.place.now _ c.in_default.ensures refl refl c.in-Ok.answer (c.in-Ok.ensures limit)
+    parametric_run_answered g.T.Checks.checker (parametric_run_of limit c.args.request.now)
+    (sheet_view c.args.sheet) c.args.place.now _ c.in_default.ensures refl refl c.in-Ok.answer (c.in-Ok.ensures limit)
 
 pub returns-in-Err-clause-answered : goal.returns-in-Err-clause-answered
 returns-in-Err-clause-answered g c = λ limit.
     rw c.stopped_by.ensures
-    (stopped_answered g.T.Checks.checker (OfParametricRun (parametric_run_of limit c.args.request.now)) (sheet_view c.args.sheet) c.args.place.now (open_by true true) (λ w go. refl) c.in_default.ensures IsParametricRunAnswer IsParametricRunAnswer c.args.place.now c.answer_to_parametric_run.new.cursor c.in-Err.stop
+    (stopped_answered g.T.Checks.checker (OfParametricRun (parametric_run_of limit c.args.request.now)) (sheet_view c.args.sheet) c.args.place.now
+    (open_by true true)
+    (λ w go. refl) c.in_default.ensures IsParametricRunAnswer IsParametricRunAnswer c.args.place.now c.answer_to_parametric_run.new.cursor c.in-Err.stop
     c.left-rest.result c.left-rest.ensures (c.in-Err.ensures limit))

@@ -9,8 +9,10 @@ returns-in_default-clause-refused g c = no_last (sym c.parmax.ensures ∙ c.in_d
 
 pub returns-then-is_below-clause-refused : goal.returns-then-is_below-clause-refused
 returns-then-is_below-clause-refused g c =
-    last_is_less (beginning c.args.from.now c.args.cells.now) c.in-Some.last c.args.from.now (sym c.parmax.ensures ∙ c.in-Some.is) refl c.in-Ok.is_below c.in-Ok.ensures c.if-is_below.true
+    last_is_less (beginning c.args.from.now c.args.cells.now) c.in-Some.last c.args.from.now
+    (sym c.parmax.ensures ∙ c.in-Some.is) refl c.in-Ok.is_below c.in-Ok.ensures c.if-is_below.true
 
 pub returns-clause-last : goal.returns-clause-last
 returns-clause-last g c =
-    last_serves (beginning c.args.from.now c.args.cells.now) c.in-Some.last c.args.from.now (sym c.parmax.ensures ∙ c.in-Some.is) refl c.in-Ok.is_below c.in-Ok.ensures c.if-is_below.false
+    last_serves (beginning c.args.from.now c.args.cells.now) c.in-Some.last c.args.from.now
+    (sym c.parmax.ensures ∙ c.in-Some.is) refl c.in-Ok.is_below c.in-Ok.ensures c.if-is_below.false

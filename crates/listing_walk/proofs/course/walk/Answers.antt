@@ -12,7 +12,8 @@ loop-position-init g c =
 
 pub returns-then-executed-ge-MAX_EXECUTED : goal.returns-then-executed-ge-MAX_EXECUTED
 returns-then-executed-ge-MAX_EXECUTED g c =
-    at_limit_by g.T.Checks.checker c.args.program.now c.args.cards.now c.args.listing.now c.loop-position.invariant _ (omega (arith, c.count.ensures.count, c.loop-position-test.true)) (omega arith) c.close.ensures.closes
+    at_limit_by g.T.Checks.checker c.args.program.now c.args.cards.now c.args.listing.now c.loop-position.invariant _
+    (omega (arith, c.count.ensures.count, c.loop-position-test.true)) (omega arith) c.close.ensures.closes
 
 pub loop-position-preserved : goal.loop-position-preserved
 loop-position-preserved g c =
@@ -21,8 +22,11 @@ loop-position-preserved g c =
 
 pub returns-in-Ok-Finds : goal.returns-in-Ok-Finds
 returns-in-Ok-Finds g c =
-    underway_found g.T.Checks.checker c.args.program.now c.args.cards.now c.args.listing.now c.loop-position.invariant (holding c.step.new.last c.step.new.machine) c.step.new.place c.in-Ok-Finds.found (omega arith) (rw c.in-Ok-Finds.field-0-is at c.in-Ok-Finds.ensures.steps)
+    underway_found g.T.Checks.checker c.args.program.now c.args.cards.now c.args.listing.now c.loop-position.invariant
+    (holding c.step.new.last c.step.new.machine) c.step.new.place c.in-Ok-Finds.found (omega arith)
+    (rw c.in-Ok-Finds.field-0-is at c.in-Ok-Finds.ensures.steps)
 
 pub returns : goal.returns
 returns g c =
-    over_by g.T.Checks.checker c.args.program.now c.args.cards.now c.args.listing.now c.loop-position.invariant _ (omega (arith, c.count.ensures.count, c.loop-position-test.false)) c.close-2.ensures.closes
+    over_by g.T.Checks.checker c.args.program.now c.args.cards.now c.args.listing.now c.loop-position.invariant _
+    (omega (arith, c.count.ensures.count, c.loop-position-test.false)) c.close-2.ensures.closes

@@ -10,7 +10,9 @@ use Rattle.listing_walk.proofs.execute.execute_with.Goals as goal
 
 pub returns-in-Reads-clause-walks : goal.returns-in-Reads-clause-walks
 returns-in-Reads-clause-walks g c =
-    subst (λ (verb : Verb ℕ). IfOk c.parametric_run.result (Walks g.T.Checks.checker verb c.args.card c.args.cards.now (holding c.args.last.now c.args.machine.now) (holding c.parametric_run.new.last c.parametric_run.new.machine) c.args.place.now c.parametric_run.new.place))
+    subst (λ (verb : Verb ℕ). IfOk c.parametric_run.result
+    (Walks g.T.Checks.checker verb c.args.card c.args.cards.now (holding c.args.last.now c.args.machine.now)
+    (holding c.parametric_run.new.last c.parametric_run.new.machine) c.args.place.now c.parametric_run.new.place))
     (run_verb (viewed c.args.verb.now) c.in-Reads.asked (sym c.use_of.ensures ∙ c.in-Reads.is)) (c.parametric_run.ensures.walks c.args.cards.now)
 
 pub execute-requires-clause-no_run : goal.execute-requires-clause-no_run
@@ -21,5 +23,6 @@ execute-in-Sets-requires-clause-no_run g c = subst IsNoRun (sym (sym c.use_of.en
 
 pub returns-in-Sets-clause-walks : goal.returns-in-Sets-clause-walks
 returns-in-Sets-clause-walks g c =
-    walks_set g.T.Checks.checker (viewed c.args.verb.now) c.args.card c.args.cards.now c.args.machine.now c.execute-in-Sets.new.machine c.args.place.now c.execute-in-Sets.new.place c.args.last.now (sym c.use_of.ensures ∙ c.in-Sets.is)
+    walks_set g.T.Checks.checker
+    (viewed c.args.verb.now) c.args.card c.args.cards.now c.args.machine.now c.execute-in-Sets.new.machine c.args.place.now c.execute-in-Sets.new.place c.args.last.now (sym c.use_of.ensures ∙ c.in-Sets.is)
     c.execute-in-Sets.result c.execute-in-Sets.ensures.walks

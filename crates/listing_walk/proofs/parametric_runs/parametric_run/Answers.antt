@@ -28,7 +28,8 @@ returns-in-Err-asked_run-clause-walks g c = λ cards.
     let is = c.as_bytes.ensures.value ∙ c.as_str.ensures.value ∙ c.fraction-text.ensures ∙ ap rational_text c.param.ensures in
     let begins = c.first_value-from.ensures c.args.machine.now.cells.xparam is in
     held_unasked g.T.Checks.checker c.args.verb c.args.card cards c.args.machine.now c.args.place.now c.unasked.new.place c.in-Some.chosen c.in-Some.is c.in-Some-get.problem.now (sym c.in-Some-get.ensures) c.in-Ok.lp c.in-Ok.ensures.made
-    c.first_value-from.result c.args.last.now begins c.in-Err-asked_run.stop c.in-Err-asked_run.ensures.refused c.unasked.result (c.unasked.ensures.unasked c.args.last.now)
+    c.first_value-from.result c.args.last.now begins c.in-Err-asked_run.stop c.in-Err-asked_run.ensures.refused c.unasked.result
+    (c.unasked.ensures.unasked c.args.last.now)
 
 pub answer_parametric_run-requires-clause-sheet : goal.answer_parametric_run-requires-clause-sheet
 answer_parametric_run-requires-clause-sheet g c = record {
@@ -37,11 +38,13 @@ answer_parametric_run-requires-clause-sheet g c = record {
 }
 
 pub answer_parametric_run-requires-clause-no_change : goal.answer_parametric_run-requires-clause-no_change
-answer_parametric_run-requires-clause-no_change g c = no_change c.in-Some-get.problem.now (choice_of c.args.machine.now.cells c.in-Some.chosen.options) c.in-Ok.lp c.in-Ok.ensures.made.is_selected
+answer_parametric_run-requires-clause-no_change g c =
+    no_change c.in-Some-get.problem.now (choice_of c.args.machine.now.cells c.in-Some.chosen.options) c.in-Ok.lp c.in-Ok.ensures.made.is_selected
 
 pub answer_parametric_run-requires-clause-serves : goal.answer_parametric_run-requires-clause-serves
 answer_parametric_run-requires-clause-serves g c =
-    serves_change c.in-Some-get.problem.now (choice_of c.args.machine.now.cells c.in-Some.chosen.options) c.in-Ok.lp c.in-Ok.ensures.made.is_selected c.in-Ok-asked_run.request.name c.in-Ok-asked_run.request.change c.in-Ok-asked_run.ensures.of
+    serves_change c.in-Some-get.problem.now
+    (choice_of c.args.machine.now.cells c.in-Some.chosen.options) c.in-Ok.lp c.in-Ok.ensures.made.is_selected c.in-Ok-asked_run.request.name c.in-Ok-asked_run.request.change c.in-Ok-asked_run.ensures.of
 
 pub returns-in-Err-answer_parametric_run-clause-walks : goal.returns-in-Err-answer_parametric_run-clause-walks
 returns-in-Err-answer_parametric_run-clause-walks g c = λ cards.
@@ -57,12 +60,16 @@ returns-clause-walks g c = λ cards.
     let begins = c.first_value-from.ensures c.args.machine.now.cells.xparam is in
     held_ended g.T.Checks.checker c.args.verb c.args.card cards c.args.machine.now c.args.place.now c.finish.new.place c.in-Some.chosen c.in-Some.is c.in-Some-get.problem.now (sym c.in-Some-get.ensures) c.in-Ok.lp c.in-Ok.ensures.made
     c.first_value-from.result c.in-Ok-asked_run.request c.requires.demands c.args.last.now begins c.in-Ok-asked_run.ensures.asked c.answer_parametric_run.new.place c.in-Ok-answer_parametric_run.answer
-    c.in-Ok-answer_parametric_run.ensures.answered c.leave.new.last c.leave.new.machine (c.leave.ensures.held ∙ ap (λ (f : Finding). left_by f (holding c.args.last.now c.args.machine.now)) c.in-Ok-finding_of.ensures.found) c.act_of-act.result
-    (c.act_of-act.ensures ∙ ap (λ (f : Finding). act_of c.leave.new.machine.cells c.args.card f) c.in-Ok-finding_of.ensures.found) c.finish.result c.finish.ensures.finishes
+    c.in-Ok-answer_parametric_run.ensures.answered c.leave.new.last c.leave.new.machine
+    (c.leave.ensures.held
+    ∙ ap (λ (f : Finding). left_by f (holding c.args.last.now c.args.machine.now)) c.in-Ok-finding_of.ensures.found) c.act_of-act.result
+    (c.act_of-act.ensures
+    ∙ ap (λ (f : Finding). act_of c.leave.new.machine.cells c.args.card f) c.in-Ok-finding_of.ensures.found) c.finish.result c.finish.ensures.finishes
 
 pub returns-clause-sound : goal.returns-clause-sound
 returns-clause-sound g c = λ cards sound.
-    parametric_sound cards c.args.machine.now c.in-Ok-answer_parametric_run.answer c.leave.new.machine (left_so c.args.machine.now _ _ c.in-Ok-finding_of.ensures.found c.leave.new.machine c.leave.ensures.machine) sound
+    parametric_sound cards c.args.machine.now c.in-Ok-answer_parametric_run.answer c.leave.new.machine
+    (left_so c.args.machine.now _ _ c.in-Ok-finding_of.ensures.found c.leave.new.machine c.leave.ensures.machine) sound
 
 pub returns-in-Err-finding_of-clause-walks : goal.returns-in-Err-finding_of-clause-walks
 returns-in-Err-finding_of-clause-walks g c = λ cards.

@@ -5,14 +5,20 @@ use Rattle.listing_walk.proofs.ReportedWalks.{punch_no_setup, punch_found, punch
 use Rattle.listing_walk.proofs.reporting.punch_basis.Goals as goal
 
 pub returns-in_default-clause-walks : goal.returns-in_default-clause-walks
-returns-in_default-clause-walks c = λ C cards. punch_no_setup C c.args.card cards c.args.machine.now c.args.place.now c.fault.new.place c.in_default.is c.fault.result c.fault.ensures.passes
+returns-in_default-clause-walks c =
+    λ C cards. punch_no_setup C c.args.card cards c.args.machine.now c.args.place.now c.fault.new.place c.in_default.is c.fault.result c.fault.ensures.passes
 
 pub returns-in-Ok-clause-walks : goal.returns-in-Ok-clause-walks
 returns-in-Ok-clause-walks c = λ C cards.
-    punch_found C c.args.card cards c.args.machine.now c.args.place.now c.args.place.now c.in-Some.chosen c.in-Some.is c.in-Some-get.problem.now (sym c.in-Some-get.ensures) c.is_punched-stands.result
-    (c.is_punched-stands.ensures ∙ (λ i. is_punched (c.name.ensures.name i) (c.left.ensures i))) c.in-Ok._lp c.in-Ok.ensures.made c.reported_here.result c.reported_here.ensures
+    punch_found C c.args.card cards c.args.machine.now c.args.place.now c.args.place.now c.in-Some.chosen c.in-Some.is c.in-Some-get.problem.now
+    (sym c.in-Some-get.ensures) c.is_punched-stands.result
+    (c.is_punched-stands.ensures
+    ∙ (λ i. is_punched (c.name.ensures.name i) (c.left.ensures i))) c.in-Ok._lp c.in-Ok.ensures.made c.reported_here.result c.reported_here.ensures
 
 pub returns-in-Err-clause-walks : goal.returns-in-Err-clause-walks
 returns-in-Err-clause-walks c = λ C cards.
-    punch_refused C c.args.card cards c.args.machine.now c.args.place.now c.refuse_report.new.place c.in-Some.chosen c.in-Some.is c.in-Some-get.problem.now (sym c.in-Some-get.ensures) c.is_punched-stands.result
-    (c.is_punched-stands.ensures ∙ (λ i. is_punched (c.name.ensures.name i) (c.left.ensures i))) c.in-Err.refusal c.in-Err.ensures.refused c.refuse_report.result c.refuse_report.ensures.refuses
+    punch_refused C c.args.card cards c.args.machine.now c.args.place.now c.refuse_report.new.place c.in-Some.chosen c.in-Some.is c.in-Some-get.problem.now
+    (sym c.in-Some-get.ensures) c.is_punched-stands.result
+    (c.is_punched-stands.ensures
+    ∙ (λ i. is_punched (c.name.ensures.name i)
+    (c.left.ensures i))) c.in-Err.refusal c.in-Err.ensures.refused c.refuse_report.result c.refuse_report.ensures.refuses

@@ -5,7 +5,8 @@ use Rattle.listing_walk.proofs.ReportedWalks.{ranges_no_setup, ranges_not_solved
 use Rattle.listing_walk.proofs.reporting.show_ranges.Goals as goal
 
 pub returns-in_default-clause-walks : goal.returns-in_default-clause-walks
-returns-in_default-clause-walks c = λ C cards. ranges_no_setup C c.args.card cards c.args.machine.now c.args.place.now c.fault.new.place c.in_default.is c.fault.result c.fault.ensures.passes
+returns-in_default-clause-walks c =
+    λ C cards. ranges_no_setup C c.args.card cards c.args.machine.now c.args.place.now c.fault.new.place c.in_default.is c.fault.result c.fault.ensures.passes
 
 pub returns-in_default-mark-clause-walks : goal.returns-in_default-mark-clause-walks
 returns-in_default-mark-clause-walks c = λ C cards.
@@ -18,5 +19,6 @@ returns-then-not-is_optimal-clause-walks c = λ C cards.
 
 pub returns-clause-walks : goal.returns-clause-walks
 returns-clause-walks c = λ C cards.
-    ranges_found C c.args.card cards c.args.machine.now c.args.place.now c.args.place.now c.in-Some._chosen c.in-Some.is c.in-Some-mark.mark c.in-Some-mark.is (sym c.is_optimal.ensures ∙ c.if-not-is_optimal.false) c.requires.ready c.requires.solved
+    ranges_found C c.args.card cards c.args.machine.now c.args.place.now c.args.place.now c.in-Some._chosen c.in-Some.is c.in-Some-mark.mark c.in-Some-mark.is
+    (sym c.is_optimal.ensures ∙ c.if-not-is_optimal.false) c.requires.ready c.requires.solved
     c.is_ranges-stands.result (c.is_ranges-stands.ensures ∙ ap is_ranges c.left.ensures) c.reported_here.result c.reported_here.ensures

@@ -7,7 +7,8 @@ use Rattle.listing_walk.proofs.setup.choose.Goals as goal
 
 pub returns-in_default-clause-refused : goal.returns-in_default-clause-refused
 returns-in_default-clause-refused c =
-    no_problem (filed_none c.args.cells.now.xpbname c.args.file.now (ap (λ (wanted : Option Name). named wanted c.args.file.now) (sym c.name.ensures) ∙ sym c.wanted_name.ensures ∙ c.in_default.is))
+    no_problem (filed_none c.args.cells.now.xpbname c.args.file.now
+    (ap (λ (wanted : Option Name). named wanted c.args.file.now) (sym c.name.ensures) ∙ sym c.wanted_name.ensures ∙ c.in_default.is))
 
 pub returns-in_default-get-clause-refused : goal.returns-in_default-get-clause-refused
 returns-in_default-get-clause-refused c =

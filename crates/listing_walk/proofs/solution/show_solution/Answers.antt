@@ -6,7 +6,8 @@ use Rattle.listing_walk.proofs.ViewsWalks.{solution_no_setup, solution_not_solve
 use Rattle.listing_walk.proofs.solution.show_solution.Goals as goal
 
 pub returns-in_default-clause-walks : goal.returns-in_default-clause-walks
-returns-in_default-clause-walks g c = λ cards. solution_no_setup g.T.Checks.checker c.args.card cards c.args.machine.now c.args.place.now c.fault.new.place c.in_default.is c.fault.result c.fault.ensures.passes
+returns-in_default-clause-walks g c =
+    λ cards. solution_no_setup g.T.Checks.checker c.args.card cards c.args.machine.now c.args.place.now c.fault.new.place c.in_default.is c.fault.result c.fault.ensures.passes
 
 pub returns-in_default-mark-clause-walks : goal.returns-in_default-mark-clause-walks
 returns-in_default-mark-clause-walks g c = λ cards.
@@ -14,7 +15,9 @@ returns-in_default-mark-clause-walks g c = λ cards.
 
 pub answer_solution-requires-clause-sheet : goal.answer_solution-requires-clause-sheet
 answer_solution-requires-clause-sheet g c =
-    let ok = selected_now c.args.machine.now c.in-Some.chosen c.in-Some.is c.in-Some-mark.mark c.in-Some-mark.is c.in-Some-get.problem.now (sym c.in-Some-get.ensures) c.requires.solved in
+    let ok =
+    selected_now c.args.machine.now c.in-Some.chosen c.in-Some.is c.in-Some-mark.mark c.in-Some-mark.is c.in-Some-get.problem.now
+    (sym c.in-Some-get.ensures) c.requires.solved in
     record {
       rows = as_many_rows c.in-Some-get.problem.now (choice_of c.args.machine.now.cells c.in-Some.chosen.options) c.in-Some.chosen.lp ok;
       columns = as_many_columns c.in-Some-get.problem.now (choice_of c.args.machine.now.cells c.in-Some.chosen.options) c.in-Some.chosen.lp ok;
@@ -23,7 +26,8 @@ answer_solution-requires-clause-sheet g c =
 pub answer_solution-requires-clause-no_change : goal.answer_solution-requires-clause-no_change
 answer_solution-requires-clause-no_change g c =
     no_change c.in-Some-get.problem.now (choice_of c.args.machine.now.cells c.in-Some.chosen.options) c.in-Some.chosen.lp
-    (selected_now c.args.machine.now c.in-Some.chosen c.in-Some.is c.in-Some-mark.mark c.in-Some-mark.is c.in-Some-get.problem.now (sym c.in-Some-get.ensures) c.requires.solved)
+    (selected_now c.args.machine.now c.in-Some.chosen c.in-Some.is c.in-Some-mark.mark c.in-Some-mark.is c.in-Some-get.problem.now
+    (sym c.in-Some-get.ensures) c.requires.solved)
 
 pub returns-in-Ok-clause-walks : goal.returns-in-Ok-clause-walks
 returns-in-Ok-clause-walks g c = λ cards.

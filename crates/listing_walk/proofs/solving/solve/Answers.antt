@@ -10,7 +10,8 @@ use Rattle.listing_walk.proofs.VerdictWalks.{solving_no_setup, solving_refused, 
 use Rattle.listing_walk.proofs.solving.solve.Goals as goal
 
 pub returns-in_default-clause-walks : goal.returns-in_default-clause-walks
-returns-in_default-clause-walks g c = λ cards. solving_no_setup g.T.Checks.checker c.args.verb c.args.card cards c.args.machine.now c.args.place.now c.fault.new.place c.in_default.is c.fault.result c.fault.ensures.passes
+returns-in_default-clause-walks g c =
+    λ cards. solving_no_setup g.T.Checks.checker c.args.verb c.args.card cards c.args.machine.now c.args.place.now c.fault.new.place c.in_default.is c.fault.result c.fault.ensures.passes
 
 pub returns-in-Err-clause-walks : goal.returns-in-Err-clause-walks
 returns-in-Err-clause-walks g c = λ cards.
@@ -24,7 +25,8 @@ answer_path-requires-clause-sheet g c = record {
 }
 
 pub answer_path-requires-clause-no_change : goal.answer_path-requires-clause-no_change
-answer_path-requires-clause-no_change g c = no_change c.in-Some-get.problem.now (choice_of c.args.machine.now.cells c.in-Some.chosen.options) c.in-Ok.lp c.in-Ok.ensures.made.is_selected
+answer_path-requires-clause-no_change g c =
+    no_change c.in-Some-get.problem.now (choice_of c.args.machine.now.cells c.in-Some.chosen.options) c.in-Ok.lp c.in-Ok.ensures.made.is_selected
 
 pub returns-in-Err-answer_path-clause-walks : goal.returns-in-Err-answer_path-clause-walks
 returns-in-Err-answer_path-clause-walks g c = λ cards.
@@ -34,8 +36,10 @@ returns-in-Err-answer_path-clause-walks g c = λ cards.
 pub returns-clause-walks : goal.returns-clause-walks
 returns-clause-walks g c = λ cards.
     solving_ended g.T.Checks.checker c.args.verb c.args.card cards c.args.machine.now c.args.place.now c.finish.new.place c.in-Some.chosen c.in-Some.is c.in-Some-get.problem.now (sym c.in-Some-get.ensures) c.in-Ok.lp c.in-Ok.ensures.made
-    c.requires.demands c.in-Ok-answer_path.mark c.answer_path.new.place (λ limit. rw c.solver_of.ensures at (c.in-Ok-answer_path.ensures.answered limit)) c.act_of-act.result
-    (c.act_of-act.ensures ∙ ap (λ (m : Machine Chosen). act_of m.cells c.args.card (Ended c.in-Ok-answer_path.mark)) (c.keep.ensures c.in-Some.chosen c.in-Some.is))
+    c.requires.demands c.in-Ok-answer_path.mark c.answer_path.new.place
+    (λ limit. rw c.solver_of.ensures at (c.in-Ok-answer_path.ensures.answered limit)) c.act_of-act.result
+    (c.act_of-act.ensures
+    ∙ ap (λ (m : Machine Chosen). act_of m.cells c.args.card (Ended c.in-Ok-answer_path.mark)) (c.keep.ensures c.in-Some.chosen c.in-Some.is))
     c.keep.new.machine (c.keep.ensures c.in-Some.chosen c.in-Some.is) c.finish.result c.finish.ensures.finishes
 
 pub returns-clause-sound : goal.returns-clause-sound

@@ -11,7 +11,8 @@ returns-then-not-holds c = λ first last from to is also.
     let p = program_of c.args.at.now.lp.now c.args.at.now.change from in
     let q = program_of c.args.at.now.lp.now c.args.at.now.change to in
     let failed : c.in_ok-holds.holds ≡ false = search rules in
-    one_failed (kept_steps p q first last) (keeping_test p q first last) (reads_keeping p q first last) (size c.args.at.now.lp.now.matrix) c.loop-i.i (omega (arith, c.number_of_variables-i-end.ensures.size, c.loop-i-test.true))
+    one_failed (kept_steps p q first last) (keeping_test p q first last) (reads_keeping p q first last) (size c.args.at.now.lp.now.matrix) c.loop-i.i
+    (omega (arith, c.number_of_variables-i-end.ensures.size, c.loop-i-test.true))
     (sym (c.in_ok-holds.ensures first last from to is also) ∙ failed)
 
 pub loop-i-preserved : goal.loop-i-preserved
@@ -19,11 +20,13 @@ loop-i-preserved c = λ first last from to is also.
     let p = program_of c.args.at.now.lp.now c.args.at.now.change from in
     let q = program_of c.args.at.now.lp.now c.args.at.now.change to in
     let passed : c.in_ok-holds.holds ≡ true = search rules in
-    one_more (keeping_test p q first last) c.loop-i.i (c.loop-i.invariant first last from to is also) (sym (c.in_ok-holds.ensures first last from to is also) ∙ passed)
+    one_more (keeping_test p q first last) c.loop-i.i (c.loop-i.invariant first last from to is also)
+    (sym (c.in_ok-holds.ensures first last from to is also) ∙ passed)
 
 pub returns : goal.returns
 returns c = λ first last from to is also.
     let p = program_of c.args.at.now.lp.now c.args.at.now.change from in
     let q = program_of c.args.at.now.lp.now c.args.at.now.change to in
-    all_passed (kept_steps p q first last) (keeping_test p q first last) (reads_keeping p q first last) (size c.args.at.now.lp.now.matrix) c.loop-i.i (omega (arith, c.number_of_variables-i-end.ensures.size, c.loop-i-test.false))
+    all_passed (kept_steps p q first last) (keeping_test p q first last) (reads_keeping p q first last) (size c.args.at.now.lp.now.matrix) c.loop-i.i
+    (omega (arith, c.number_of_variables-i-end.ensures.size, c.loop-i-test.false))
     (c.loop-i.invariant first last from to is also)

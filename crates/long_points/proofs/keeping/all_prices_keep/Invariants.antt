@@ -7,4 +7,5 @@ use Rattle.long_points.proofs.keeping.all_prices_keep.Given as goal
 -- the prices so far do
 abbrev pub invariant-loop-i : goal.invariant-loop-i
 invariant-loop-i l =
-    (first last : Points) → (from to : ℚ) → IsEnd first from l.start → IsEnd last to l.end → UpTo (keeping_test (program_of l.at.lp.now l.at.change from) (program_of l.at.lp.now l.at.change to) first last) l.i
+    (first last : Points) → (from to : ℚ) → IsEnd first from l.start → IsEnd last to l.end →
+    UpTo (keeping_test (program_of l.at.lp.now l.at.change from) (program_of l.at.lp.now l.at.change to) first last) l.i

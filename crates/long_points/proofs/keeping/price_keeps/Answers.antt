@@ -16,7 +16,8 @@ returns c = λ first last costs from to is also over.
     let sense = ap (λ (p : LinearProgram). p.sense) c.lp.view_is ∙ sym (sense_at c.args.at.now.lp.now c.args.at.now.change from) in
     let sign =
     c.counted-sign.ensures
-    ∙ ap (counted_by c.lp.inside.sense) (c.sign_of-order.ensures ∙ sign_over y (whole c.args.prices.now.bottom) (whole c.top_of.result.now) over.positive (c.top_of.ensures costs over))
+    ∙ ap (counted_by c.lp.inside.sense)
+    (c.sign_of-order.ensures ∙ sign_over y (whole c.args.prices.now.bottom) (whole c.top_of.result.now) over.positive (c.top_of.ensures costs over))
     ∙ counted_is c.lp.inside.sense y ∙ ap (λ (s : Sense). compare_ℚ (for_min s y) zero_ℚ) sense in
     let lower = c.both-lower.ensures ∙ ap₂ ◌&&◌ (c.in_ok-first.ensures first from is).0 (c.in_ok-last.ensures last to also).0 in
     let upper = c.both-upper.ensures ∙ ap₂ ◌&&◌ (c.in_ok-first.ensures first from is).1 (c.in_ok-last.ensures last to also).1 in

@@ -16,5 +16,6 @@ returns c = λ values theta is.
     let z = value_at values in
     subst (λ (b : Bool). IsTrue b ↔ AllHold (feasible_point q z)) (sym c.both.ensures)
     (both_hold c.in_ok-keeps.keeps c.in_ok-within.within (equations q 1 z) (within_limits q z)
-    (subst (λ (steps : List Step). IsTrue c.in_ok-keeps.keeps ↔ AllHold steps) (sym (equations_at p change theta 1 z)) (c.in_ok-keeps.ensures values is.is_over 1))
+    (subst (λ (steps : List Step). IsTrue c.in_ok-keeps.keeps ↔ AllHold steps) (sym (equations_at p change theta 1 z))
+    (c.in_ok-keeps.ensures values is.is_over 1))
     (c.in_ok-within.ensures values theta is))

@@ -14,7 +14,8 @@ returns-then-not-holds c = λ values theta is.
     let q = program_of p c.args.at.now.change theta in
     let same : size q.matrix ≡ size p.matrix = ap size (matrix_at p c.args.at.now.change theta) in
     let failed : c.in_ok-holds.holds ≡ false = search rules in
-    one_failed (within_limit q (value_at values)) (limit_test q (value_at values)) (reads_limit q (value_at values)) (size q.matrix) c.loop-i.i (omega (arith, same, c.number_of_variables-i-end.ensures.size, c.loop-i-test.true)) (sym (c.in_ok-holds.ensures values theta is) ∙ failed)
+    one_failed (within_limit q (value_at values)) (limit_test q (value_at values)) (reads_limit q (value_at values)) (size q.matrix) c.loop-i.i
+    (omega (arith, same, c.number_of_variables-i-end.ensures.size, c.loop-i-test.true)) (sym (c.in_ok-holds.ensures values theta is) ∙ failed)
 
 pub loop-i-preserved : goal.loop-i-preserved
 loop-i-preserved c = λ values theta is.
@@ -27,4 +28,5 @@ returns c = λ values theta is.
     let p = c.args.at.now.lp.now in
     let q = program_of p c.args.at.now.change theta in
     let same : size q.matrix ≡ size p.matrix = ap size (matrix_at p c.args.at.now.change theta) in
-    all_passed (within_limit q (value_at values)) (limit_test q (value_at values)) (reads_limit q (value_at values)) (size q.matrix) c.loop-i.i (omega (arith, same, c.number_of_variables-i-end.ensures.size, c.loop-i-test.false)) (c.loop-i.invariant values theta is)
+    all_passed (within_limit q (value_at values)) (limit_test q (value_at values)) (reads_limit q (value_at values)) (size q.matrix) c.loop-i.i
+    (omega (arith, same, c.number_of_variables-i-end.ensures.size, c.loop-i-test.false)) (c.loop-i.invariant values theta is)

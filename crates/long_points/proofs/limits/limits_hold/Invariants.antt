@@ -8,4 +8,5 @@ use Rattle.long_points.proofs.limits.limits_hold.Given as goal
 
 -- the values so far are within their limits
 abbrev pub invariant-loop-i : goal.invariant-loop-i
-invariant-loop-i l = (values : List ℚ) → (theta : ℚ) → IsSpread values theta l.point → UpTo (limit_test (program_of l.at.lp.now l.at.change theta) (value_at values)) l.i
+invariant-loop-i l =
+    (values : List ℚ) → (theta : ℚ) → IsSpread values theta l.point → UpTo (limit_test (program_of l.at.lp.now l.at.change theta) (value_at values)) l.i

@@ -14,6 +14,8 @@ returns c = λ values costs theta is also.
     let y = value_at costs in
     let priced =
     subst (λ (b : Bool). IsTrue b ↔ AllHold (reduced_costs q y ++ standing_prices q z y)) (sym c.both-are_prices.ensures)
-    (both_hold c.in_ok-are_reduced.are_reduced c.in_ok-stand.stand (reduced_costs q y) (standing_prices q z y) (c.in_ok-are_reduced.ensures costs theta also) (c.in_ok-stand.ensures values costs theta is also.is_over)) in
+    (both_hold c.in_ok-are_reduced.are_reduced c.in_ok-stand.stand (reduced_costs q y) (standing_prices q z y) (c.in_ok-are_reduced.ensures costs theta also)
+    (c.in_ok-stand.ensures values costs theta is also.is_over)) in
     subst (λ (b : Bool). IsTrue b ↔ AllHold (optimal_steps q z y)) (sym c.both.ensures)
-    (both_hold c.in_ok-is_feasible.is_feasible c.both-are_prices.result (feasible_point q z) (reduced_costs q y ++ standing_prices q z y) (c.in_ok-is_feasible.ensures values theta is) priced)
+    (both_hold c.in_ok-is_feasible.is_feasible c.both-are_prices.result (feasible_point q z) (reduced_costs q y ++ standing_prices q z y)
+    (c.in_ok-is_feasible.ensures values theta is) priced)

@@ -20,7 +20,8 @@ returns c = λ values costs theta is over.
     let sense = ap (λ (p : LinearProgram). p.sense) c.lp.view_is ∙ sym (sense_at p c.args.at.now.change theta) in
     let sign =
     c.counted-sign.ensures
-    ∙ ap (counted_by c.lp.inside.sense) (c.sign_of-order.ensures ∙ sign_over y (whole c.args.prices.now.bottom) (whole c.top_of.result.now) over.positive (c.top_of.ensures costs over))
+    ∙ ap (counted_by c.lp.inside.sense)
+    (c.sign_of-order.ensures ∙ sign_over y (whole c.args.prices.now.bottom) (whole c.top_of.result.now) over.positive (c.top_of.ensures costs over))
     ∙ counted_is c.lp.inside.sense y ∙ ap (λ (s : Sense). compare_ℚ (for_min s y) zero_ℚ) sense in
     let upper = c.is_at-at_upper.ensures ∙ ap at_by (c.in_ok-upper.ensures x theta place) ∙ at_is (upper_of q c.args.k) x in
     let lower = c.is_at-at_lower.ensures ∙ ap at_by (c.in_ok-lower.ensures x theta place) ∙ at_is (lower_of q c.args.k) x in

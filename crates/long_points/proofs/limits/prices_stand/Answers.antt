@@ -14,17 +14,23 @@ returns-then-not-holds c = λ values costs theta is over.
     let q = program_of p c.args.at.now.change theta in
     let same : size q.matrix ≡ size p.matrix = ap size (matrix_at p c.args.at.now.change theta) in
     let failed : c.in_ok-holds.holds ≡ false = search rules in
-    one_failed (standing_price q (value_at values) (value_at costs)) (price_test q (value_at values) (value_at costs)) (reads_price q (value_at values) (value_at costs)) (size q.matrix) c.loop-i.i (omega (arith, same, c.number_of_variables-i-end.ensures.size, c.loop-i-test.true)) (sym (c.in_ok-holds.ensures values costs theta is over) ∙ failed)
+    one_failed (standing_price q (value_at values) (value_at costs)) (price_test q (value_at values) (value_at costs))
+    (reads_price q (value_at values) (value_at costs)) (size q.matrix) c.loop-i.i
+    (omega (arith, same, c.number_of_variables-i-end.ensures.size, c.loop-i-test.true))
+    (sym (c.in_ok-holds.ensures values costs theta is over) ∙ failed)
 
 pub loop-i-preserved : goal.loop-i-preserved
 loop-i-preserved c = λ values costs theta is over.
     let q = program_of c.args.at.now.lp.now c.args.at.now.change theta in
     let passed : c.in_ok-holds.holds ≡ true = search rules in
-    one_more (price_test q (value_at values) (value_at costs)) c.loop-i.i (c.loop-i.invariant values costs theta is over) (sym (c.in_ok-holds.ensures values costs theta is over) ∙ passed)
+    one_more (price_test q (value_at values) (value_at costs)) c.loop-i.i (c.loop-i.invariant values costs theta is over)
+    (sym (c.in_ok-holds.ensures values costs theta is over) ∙ passed)
 
 pub returns : goal.returns
 returns c = λ values costs theta is over.
     let p = c.args.at.now.lp.now in
     let q = program_of p c.args.at.now.change theta in
     let same : size q.matrix ≡ size p.matrix = ap size (matrix_at p c.args.at.now.change theta) in
-    all_passed (standing_price q (value_at values) (value_at costs)) (price_test q (value_at values) (value_at costs)) (reads_price q (value_at values) (value_at costs)) (size q.matrix) c.loop-i.i (omega (arith, same, c.number_of_variables-i-end.ensures.size, c.loop-i-test.false)) (c.loop-i.invariant values costs theta is over)
+    all_passed (standing_price q (value_at values) (value_at costs)) (price_test q (value_at values) (value_at costs))
+    (reads_price q (value_at values) (value_at costs)) (size q.matrix) c.loop-i.i
+    (omega (arith, same, c.number_of_variables-i-end.ensures.size, c.loop-i-test.false)) (c.loop-i.invariant values costs theta is over)

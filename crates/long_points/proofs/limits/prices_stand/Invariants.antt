@@ -10,4 +10,5 @@ use Rattle.long_points.proofs.limits.prices_stand.Given as goal
 -- the prices so far stand at limits
 abbrev pub invariant-loop-i : goal.invariant-loop-i
 invariant-loop-i l =
-    (values costs : List ℚ) → (theta : ℚ) → IsSpread values theta l.point → IsOver costs l.prices → UpTo (price_test (program_of l.at.lp.now l.at.change theta) (value_at values) (value_at costs)) l.i
+    (values costs : List ℚ) → (theta : ℚ) → IsSpread values theta l.point → IsOver costs l.prices →
+    UpTo (price_test (program_of l.at.lp.now l.at.change theta) (value_at values) (value_at costs)) l.i

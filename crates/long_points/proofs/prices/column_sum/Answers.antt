@@ -11,5 +11,6 @@ pub loop-entry-preserved : goal.loop-entry-preserved
 loop-entry-preserved c = λ values over.
     let below : c.loop-entry.entry-index < length c.args.entries.now = search rules in
     let here : get_or c.args.entries.now c.loop-entry.entry-index c.entry-item.result ≡ c.entry-item.result = search rules in
-    column_goes_on (value_at values) c.args.entries.now c.loop-entry.entry-index c.entry-item.result (whole c.args.column.now.bottom) c.loop-entry.sum (whole c.top_of.result.now) c.add.new.self below here
+    column_goes_on (value_at values) c.args.entries.now c.loop-entry.entry-index c.entry-item.result (whole c.args.column.now.bottom) c.loop-entry.sum
+    (whole c.top_of.result.now) c.add.new.self below here
     (c.top_of.ensures values over) c.in_ok-add.ensures (c.loop-entry.invariant values over)

@@ -14,7 +14,8 @@ use Rattle.long_points.proofs.prices.reduced_cost_holds.Goals as goal
 
 pub column_sum-requires : goal.column_sum-requires
 column_sum-requires c =
-    rows_within c.args.at.now.lp.now c.number_of_variables-size.ensures.lawful.is_matrix c.args.j c.requires.column (length c.args.prices.now.column.tops.items) c.requires.places c.column.result.now c.column.ensures
+    rows_within c.args.at.now.lp.now c.number_of_variables-size.ensures.lawful.is_matrix c.args.j c.requires.column
+    (length c.args.prices.now.column.tops.items) c.requires.places c.column.result.now c.column.ensures
 
 pub returns : goal.returns
 returns c = λ values theta is.

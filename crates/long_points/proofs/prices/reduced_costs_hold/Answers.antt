@@ -16,7 +16,8 @@ returns-then-not-holds c = λ values theta is.
     let cols : c.lp.inside.cols ≡ p.cols = ap (λ (p : LinearProgram). p.cols) c.lp.view_is in
     let same : q.cols ≡ p.cols = ap (λ (a : Matrix). a.cols) (matrix_at p c.args.at.now.change theta) in
     let failed : c.in_ok-holds.holds ≡ false = search rules in
-    one_failed (reduced_cost q y) (cost_test q y) (reads_cost q y) q.cols c.loop-j.j (omega (arith, cols, same, c.loop-j-test.true)) (sym (c.in_ok-holds.ensures values theta is) ∙ failed)
+    one_failed (reduced_cost q y) (cost_test q y) (reads_cost q y) q.cols c.loop-j.j (omega (arith, cols, same, c.loop-j-test.true))
+    (sym (c.in_ok-holds.ensures values theta is) ∙ failed)
 
 pub returns : goal.returns
 returns c = λ values theta is.
@@ -25,4 +26,5 @@ returns c = λ values theta is.
     let y = value_at values in
     let cols : c.lp.inside.cols ≡ p.cols = ap (λ (p : LinearProgram). p.cols) c.lp.view_is in
     let same : q.cols ≡ p.cols = ap (λ (a : Matrix). a.cols) (matrix_at p c.args.at.now.change theta) in
-    all_passed (reduced_cost q y) (cost_test q y) (reads_cost q y) q.cols c.loop-j.j (omega (arith, cols, same, c.loop-j-test.false)) (c.loop-j.invariant values theta is)
+    all_passed (reduced_cost q y) (cost_test q y) (reads_cost q y) q.cols c.loop-j.j (omega (arith, cols, same, c.loop-j-test.false))
+    (c.loop-j.invariant values theta is)

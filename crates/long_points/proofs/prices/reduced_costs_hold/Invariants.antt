@@ -8,4 +8,5 @@ use Rattle.long_points.proofs.prices.reduced_costs_hold.Given as goal
 
 -- the columns so far have their reduced costs
 abbrev pub invariant-loop-j : goal.invariant-loop-j
-invariant-loop-j l = (values : List ℚ) → (theta : ℚ) → IsSpread values theta l.prices → UpTo (cost_test (program_of l.at.lp.now l.at.change theta) (value_at values)) l.j
+invariant-loop-j l =
+    (values : List ℚ) → (theta : ℚ) → IsSpread values theta l.prices → UpTo (cost_test (program_of l.at.lp.now l.at.change theta) (value_at values)) l.j

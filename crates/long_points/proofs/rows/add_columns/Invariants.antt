@@ -10,4 +10,5 @@ use Rattle.long_points.proofs.rows.add_columns.Given as goal
 abbrev pub invariant-loop-j : goal.invariant-loop-j
 invariant-loop-j l =
     (length l.sums ≡ length l.fn.sums)
-    × ((values : List ℚ) → IsOver values l.column → (i : ℕ) → 1 ≤ i → value_at l.sums i ≡ value_at l.fn.sums i +ℚ sum_up_to l.j (terms l.lp (value_at values) i) *ℚ whole l.column.bottom)
+    × ((values : List ℚ) → IsOver values l.column → (i : ℕ) → 1 ≤ i →
+    value_at l.sums i ≡ value_at l.fn.sums i +ℚ sum_up_to l.j (terms l.lp (value_at values) i) *ℚ whole l.column.bottom)

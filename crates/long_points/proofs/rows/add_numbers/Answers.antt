@@ -11,11 +11,13 @@ loop-entry-preserved c =
     let counted : length c.add_number.new.sums ≡ length c.args.sums.now = search rules in (
       counted,
       λ i first.
-          numbers_go_on c.args.entries.now c.loop-entry.entry-index i c.entry-item.result (whole c.args.top.now) (value_at c.args.sums.now i) (value_at c.loop-entry.sums i) (value_at c.add_number.new.sums i) below here
+          numbers_go_on c.args.entries.now c.loop-entry.entry-index i c.entry-item.result (whole c.args.top.now) (value_at c.args.sums.now i)
+          (value_at c.loop-entry.sums i) (value_at c.add_number.new.sums i) below here
           (c.loop-entry.invariant.1 i first) (c.in_ok-add_number.ensures i first),
     )
 
 pub returns : goal.returns
 returns c = λ i first.
     let end : length c.args.entries.now ≤ c.loop-entry.entry-index = search rules in
-    numbers_end c.args.entries.now c.loop-entry.entry-index i (whole c.args.top.now) (value_at c.args.sums.now i) (value_at c.loop-entry.sums i) end (c.loop-entry.invariant.1 i first)
+    numbers_end c.args.entries.now c.loop-entry.entry-index i (whole c.args.top.now) (value_at c.args.sums.now i) (value_at c.loop-entry.sums i) end
+    (c.loop-entry.invariant.1 i first)

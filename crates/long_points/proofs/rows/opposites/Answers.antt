@@ -11,5 +11,6 @@ loop-i-preserved c =
       ap length items ∙ length-append c.loop-i.sums.items (c.in_ok-sum.sum ∷ []) ∙ ap (λ n. n + 1) c.loop-i.invariant.0,
       λ values over k first last.
           ap (λ (xs : List ℚ). value_at xs k) items
-          ∙ opposites_go_on values c.loop-i.sums.items (whole c.args.column.now.bottom) c.in_ok-sum.sum c.loop-i.i c.loop-i.invariant.0 (c.loop-i.invariant.1 values over) (c.in_ok-sum.ensures ∙ ap neg_ℚ (c.top_of.ensures values over)) k first last,
+          ∙ opposites_go_on values c.loop-i.sums.items (whole c.args.column.now.bottom) c.in_ok-sum.sum c.loop-i.i c.loop-i.invariant.0
+          (c.loop-i.invariant.1 values over) (c.in_ok-sum.ensures ∙ ap neg_ℚ (c.top_of.ensures values over)) k first last,
     )

@@ -7,4 +7,5 @@ use Rattle.long_points.proofs.rows.opposites.Given as goal
 -- the opposites so far
 abbrev pub invariant-loop-i : goal.invariant-loop-i
 invariant-loop-i l =
-    (length l.sums.items ≡ l.i) × ((values : List ℚ) → IsOver values l.column → (k : ℕ) → 1 ≤ k → k ≤ l.i → value_at l.sums.items k ≡ neg_ℚ (value_at values k *ℚ whole l.column.bottom))
+    (length l.sums.items ≡ l.i) ×
+    ((values : List ℚ) → IsOver values l.column → (k : ℕ) → 1 ≤ k → k ≤ l.i → value_at l.sums.items k ≡ neg_ℚ (value_at values k *ℚ whole l.column.bottom))

@@ -20,7 +20,8 @@ returns c = λ values s over also.
     ∙ ap is_equal
     (c.sign.ensures
     ∙ compare_scaled (right -ℚ z) s (d *ℚ e) c.add-3.new.self (mul-positive over.positive also.positive)
-    (slack_compared right z s d e (whole c.in_ok-scale.scale) (whole c.in_ok-activity.activity) (whole c.in_ok-shown.shown) c.whole-minus.result _ _ _ c.add-3.new.self c.right_hand_side.result
+    (slack_compared right z s d e (whole c.in_ok-scale.scale) (whole c.in_ok-activity.activity)
+    (whole c.in_ok-shown.shown) c.whole-minus.result _ _ _ c.add-3.new.self c.right_hand_side.result
     (ap whole c.in_ok-scale.ensures ∙ whole-mul point.bottom slack.bottom)
     (ap whole c.in_ok-activity.ensures ∙ whole-mul c.top_of.result.now slack.bottom ∙ ap (λ q. q *ℚ e) (c.top_of.ensures values over))
     (ap whole c.in_ok-shown.ensures ∙ whole-mul slack.top point.bottom ∙ ap (λ q. q *ℚ d) also.is)

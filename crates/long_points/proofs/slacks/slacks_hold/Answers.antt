@@ -13,12 +13,14 @@ returns-then-not-holds c = λ values problem over.
     let s = value_at c.args.slacks.now in
     let rows : c.lp.inside.rows ≡ p.rows = ap (λ (p : LinearProgram). p.rows) c.lp.view_is in
     let failed : c.in_ok-holds.holds ≡ false = search rules in
-    one_failed (slack_steps (record { problem = problem; lp = p }) z s) (slack_test p z s) (reads_slack p problem z s) p.rows c.loop-i.i (omega (arith, rows, c.loop-i-test.true)) (sym (c.in_ok-holds.ensures values over) ∙ failed)
+    one_failed (slack_steps (record { problem = problem; lp = p }) z s) (slack_test p z s) (reads_slack p problem z s) p.rows c.loop-i.i
+    (omega (arith, rows, c.loop-i-test.true)) (sym (c.in_ok-holds.ensures values over) ∙ failed)
 
 pub loop-i-preserved : goal.loop-i-preserved
 loop-i-preserved c = λ values over.
     let passed : c.in_ok-holds.holds ≡ true = search rules in
-    one_more (slack_test c.args.lp.now (value_at values) (value_at c.args.slacks.now)) c.loop-i.i (c.loop-i.invariant values over) (sym (c.in_ok-holds.ensures values over) ∙ passed)
+    one_more (slack_test c.args.lp.now (value_at values) (value_at c.args.slacks.now)) c.loop-i.i (c.loop-i.invariant values over)
+    (sym (c.in_ok-holds.ensures values over) ∙ passed)
 
 pub returns : goal.returns
 returns c = λ values problem over.
@@ -26,4 +28,5 @@ returns c = λ values problem over.
     let z = value_at values in
     let s = value_at c.args.slacks.now in
     let rows : c.lp.inside.rows ≡ p.rows = ap (λ (p : LinearProgram). p.rows) c.lp.view_is in
-    all_passed (slack_steps (record { problem = problem; lp = p }) z s) (slack_test p z s) (reads_slack p problem z s) p.rows c.loop-i.i (omega (arith, rows, c.loop-i-test.false)) (c.loop-i.invariant values over)
+    all_passed (slack_steps (record { problem = problem; lp = p }) z s) (slack_test p z s) (reads_slack p problem z s) p.rows c.loop-i.i
+    (omega (arith, rows, c.loop-i-test.false)) (c.loop-i.invariant values over)

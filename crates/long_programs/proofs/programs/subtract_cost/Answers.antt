@@ -10,6 +10,9 @@ pub returns : goal.returns
 returns c = λ theta moves.
     let p = c.args.at.now.lp.now in
     let change = c.args.at.now.change in
-    cost_taken theta (entry p.matrix p.objective c.args.j) (rate_at p change c.args.j) (cost (program_of p change theta) c.args.j) c.args.bottom.now c.args.moved.now _ _ _ _ _ moves
+    cost_taken theta (entry p.matrix p.objective c.args.j) (rate_at p change c.args.j)
+    (cost (program_of p change theta) c.args.j) c.args.bottom.now c.args.moved.now _ _ _ _ _ moves
     (cost_at p change theta c.args.j c.requires.plain)
-    (c.neg.ensures ∙ ap neg_ℚ (c.number_on-cost.ensures ∙ ap₂ on_row c.column.ensures (ap (λ (p : LinearProgram). p.objective) c.lp.view_is))) c.in_ok-add.ensures (c.neg-2.ensures ∙ ap neg_ℚ c.rate_at.ensures) c.in_ok-add-2.ensures
+    (c.neg.ensures
+    ∙ ap neg_ℚ (c.number_on-cost.ensures ∙ ap₂ on_row c.column.ensures (ap (λ (p : LinearProgram). p.objective) c.lp.view_is))) c.in_ok-add.ensures
+    (c.neg-2.ensures ∙ ap neg_ℚ c.rate_at.ensures) c.in_ok-add-2.ensures

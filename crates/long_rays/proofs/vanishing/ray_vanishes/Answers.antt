@@ -12,7 +12,8 @@ returns-then-not-holds c = λ w over.
     let y = value_at w in
     let cols : c.lp.inside.cols ≡ p.cols = ap (λ (p : LinearProgram). p.cols) c.lp.view_is in
     let failed : c.in_ok-holds.holds ≡ false = search rules in
-    one_failed (ray_column p y) (vanish_test p y) (reads_column p y) p.cols c.loop-i.i (omega (arith, cols, c.loop-i-test.true)) (sym (c.in_ok-holds.ensures w over) ∙ failed)
+    one_failed (ray_column p y) (vanish_test p y) (reads_column p y) p.cols c.loop-i.i (omega (arith, cols, c.loop-i-test.true))
+    (sym (c.in_ok-holds.ensures w over) ∙ failed)
 
 pub loop-i-preserved : goal.loop-i-preserved
 loop-i-preserved c = λ w over.

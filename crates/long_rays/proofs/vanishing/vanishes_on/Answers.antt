@@ -12,7 +12,8 @@ use Rattle.long_rays.proofs.vanishing.vanishes_on.Goals as goal
 
 pub column_sum-requires : goal.column_sum-requires
 column_sum-requires c =
-    rows_within c.args.lp.now c.number_of_variables-size.ensures.lawful.is_matrix c.args.j c.requires.column (length c.args.ray.now.tops.items) c.requires.places c.column.result.now c.column.ensures
+    rows_within c.args.lp.now c.number_of_variables-size.ensures.lawful.is_matrix c.args.j c.requires.column
+    (length c.args.ray.now.tops.items) c.requires.places c.column.result.now c.column.ensures
 
 pub returns : goal.returns
 returns c = λ w over.

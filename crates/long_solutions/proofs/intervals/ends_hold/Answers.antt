@@ -8,42 +8,50 @@ use Rattle.long_solutions.proofs.intervals.ends_hold.Goals as goal
 pub optimal-requires-clause-places : goal.optimal-requires-clause-places
 optimal-requires-clause-places c =
     let lines = c.requires.lines in
-    (end_places c.requires.from.number lines.columns c.args.at.now.lp.now lines.counted c.in_ok-start.start (c.in_ok-start.ensures c.requires.from.number lines.columns c.requires.from.is lines.over)).0
+    (end_places c.requires.from.number lines.columns c.args.at.now.lp.now lines.counted c.in_ok-start.start
+    (c.in_ok-start.ensures c.requires.from.number lines.columns c.requires.from.is lines.over)).0
 
 pub optimal-requires-clause-price_places : goal.optimal-requires-clause-price_places
 optimal-requires-clause-price_places c =
     let lines = c.requires.lines in
-    (end_places c.requires.from.number lines.columns c.args.at.now.lp.now lines.counted c.in_ok-start.start (c.in_ok-start.ensures c.requires.from.number lines.columns c.requires.from.is lines.over)).1
+    (end_places c.requires.from.number lines.columns c.args.at.now.lp.now lines.counted c.in_ok-start.start
+    (c.in_ok-start.ensures c.requires.from.number lines.columns c.requires.from.is lines.over)).1
 
 pub optimal-requires-2-clause-places : goal.optimal-requires-2-clause-places
 optimal-requires-2-clause-places c =
     let lines = c.requires.lines in
-    (end_places c.requires.to.number lines.columns c.args.at.now.lp.now lines.counted c.in_ok-end.end (c.in_ok-end.ensures c.requires.to.number lines.columns c.requires.to.is lines.over)).0
+    (end_places c.requires.to.number lines.columns c.args.at.now.lp.now lines.counted c.in_ok-end.end
+    (c.in_ok-end.ensures c.requires.to.number lines.columns c.requires.to.is lines.over)).0
 
 pub optimal-requires-2-clause-price_places : goal.optimal-requires-2-clause-price_places
 optimal-requires-2-clause-price_places c =
     let lines = c.requires.lines in
-    (end_places c.requires.to.number lines.columns c.args.at.now.lp.now lines.counted c.in_ok-end.end (c.in_ok-end.ensures c.requires.to.number lines.columns c.requires.to.is lines.over)).1
+    (end_places c.requires.to.number lines.columns c.args.at.now.lp.now lines.counted c.in_ok-end.end
+    (c.in_ok-end.ensures c.requires.to.number lines.columns c.requires.to.is lines.over)).1
 
 pub all_prices_keep-requires-clause-start_places : goal.all_prices_keep-requires-clause-start_places
 all_prices_keep-requires-clause-start_places c =
     let lines = c.requires.lines in
-    (end_places c.requires.from.number lines.columns c.args.at.now.lp.now lines.counted c.in_ok-start.start (c.in_ok-start.ensures c.requires.from.number lines.columns c.requires.from.is lines.over)).0
+    (end_places c.requires.from.number lines.columns c.args.at.now.lp.now lines.counted c.in_ok-start.start
+    (c.in_ok-start.ensures c.requires.from.number lines.columns c.requires.from.is lines.over)).0
 
 pub all_prices_keep-requires-clause-end_places : goal.all_prices_keep-requires-clause-end_places
 all_prices_keep-requires-clause-end_places c =
     let lines = c.requires.lines in
-    (end_places c.requires.to.number lines.columns c.args.at.now.lp.now lines.counted c.in_ok-end.end (c.in_ok-end.ensures c.requires.to.number lines.columns c.requires.to.is lines.over)).0
+    (end_places c.requires.to.number lines.columns c.args.at.now.lp.now lines.counted c.in_ok-end.end
+    (c.in_ok-end.ensures c.requires.to.number lines.columns c.requires.to.is lines.over)).0
 
 pub all_prices_keep-requires-clause-start_prices : goal.all_prices_keep-requires-clause-start_prices
 all_prices_keep-requires-clause-start_prices c =
     let lines = c.requires.lines in
-    (end_places c.requires.from.number lines.columns c.args.at.now.lp.now lines.counted c.in_ok-start.start (c.in_ok-start.ensures c.requires.from.number lines.columns c.requires.from.is lines.over)).1
+    (end_places c.requires.from.number lines.columns c.args.at.now.lp.now lines.counted c.in_ok-start.start
+    (c.in_ok-start.ensures c.requires.from.number lines.columns c.requires.from.is lines.over)).1
 
 pub all_prices_keep-requires-clause-end_prices : goal.all_prices_keep-requires-clause-end_prices
 all_prices_keep-requires-clause-end_prices c =
     let lines = c.requires.lines in
-    (end_places c.requires.to.number lines.columns c.args.at.now.lp.now lines.counted c.in_ok-end.end (c.in_ok-end.ensures c.requires.to.number lines.columns c.requires.to.is lines.over)).1
+    (end_places c.requires.to.number lines.columns c.args.at.now.lp.now lines.counted c.in_ok-end.end
+    (c.in_ok-end.ensures c.requires.to.number lines.columns c.requires.to.is lines.over)).1
 
 pub returns : goal.returns
 returns c = λ sheet changing first last columns family counted is also over.

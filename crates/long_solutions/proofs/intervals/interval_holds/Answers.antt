@@ -30,9 +30,14 @@ returns c =
     let from = c.args.from.now in
     let part = c.args.part.now in
     let max = c.args.request.now.to in
-    let family : IsFamily sheet changing c.args.sheet.lp.now c.change_at.result = record { lp = refl; same = c.change_at.ensures.family sheet c.args.request.now.name c.requires.asked.serves } in
-    let goes_is = c.goes_on-goes.ensures ∙ ap (λ (o : Ordering). is_less o || (c.args.is_first && is_equal o)) (c.in_ok-order.ensures from part.to c.in_ok-first.ensures c.in_ok-last.ensures) in
-    let within_is = c.is_at_most-within.ensures ∙ ap (λ (o : Ordering). not_above_by (Some o)) (c.in_ok-most.ensures part.to c.in_ok-last.ensures) ∙ not_above_is (Some max) part.to in
+    let family : IsFamily sheet changing c.args.sheet.lp.now c.change_at.result =
+    record { lp = refl; same = c.change_at.ensures.family sheet c.args.request.now.name c.requires.asked.serves } in
+    let goes_is =
+    c.goes_on-goes.ensures
+    ∙ ap (λ (o : Ordering). is_less o || (c.args.is_first && is_equal o)) (c.in_ok-order.ensures from part.to c.in_ok-first.ensures c.in_ok-last.ensures) in
+    let within_is =
+    c.is_at_most-within.ensures ∙ ap (λ (o : Ordering). not_above_by (Some o)) (c.in_ok-most.ensures part.to c.in_ok-last.ensures)
+    ∙ not_above_is (Some max) part.to in
     let goes = lt_ℚ from part.to || (c.args.is_first && eq_ℚ from part.to) in
     let within = le_ℚ part.to max in
     let ends = c.in_ok-ends.ends in

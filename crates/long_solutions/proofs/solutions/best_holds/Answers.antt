@@ -15,7 +15,9 @@ returns-in_ok-stand-in-Optimal c = λ problem values costs is also keeping prici
     let same = (λ i. program_of (c.as_it_is-at.ensures.program i) at.change own) ∙ c.as_it_is-at.ensures.same in
     let within = c.in_ok-within-in-Optimal.within in
     let stand = c.in_ok-stand-in-Optimal.stand in
-    best_answers (record { problem = problem; lp = p }) c.args.mark (value_at values) (value_at costs) c.args.keeps c.args.priced keeping pricing within stand c.both.result c.in-Optimal.is
+    best_answers (record { problem = problem; lp = p }) c.args.mark (value_at values)
+    (value_at costs) c.args.keeps c.args.priced keeping pricing within stand c.both.result c.in-Optimal.is
     (c.both.ensures ∙ ap₂ ◌&&◌ c.both-feasible.ensures c.both-are_prices.ensures)
     (subst (λ (q : LinearProgram). IsTrue within ↔ AllHold (within_limits q (value_at values))) same (c.in_ok-within-in-Optimal.ensures values own is))
-    (subst (λ (q : LinearProgram). IsTrue stand ↔ AllHold (standing_prices q (value_at values) (value_at costs))) same (c.in_ok-stand-in-Optimal.ensures values costs own is also.is_over))
+    (subst (λ (q : LinearProgram). IsTrue stand ↔ AllHold (standing_prices q (value_at values) (value_at costs))) same
+    (c.in_ok-stand-in-Optimal.ensures values costs own is also.is_over))

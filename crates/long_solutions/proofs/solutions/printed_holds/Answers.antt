@@ -10,6 +10,7 @@ pub returns : goal.returns
 returns c = λ problem.
     subst (λ (v : Verdict). Answers c.in_ok-holds.holds v)
     (λ i.
-    printed_test checker_of_any_length (record { problem = problem; lp = c.args.lp.now }) c.args.mark (value_at (c.deref.ensures.value i)) (value_at (c.deref-2.ensures.value i)) (value_at (c.deref-3.ensures.value i)))
+    printed_test checker_of_any_length (record { problem = problem; lp = c.args.lp.now }) c.args.mark (value_at (c.deref.ensures.value i))
+    (value_at (c.deref-2.ensures.value i)) (value_at (c.deref-3.ensures.value i)))
     (c.in_ok-holds.ensures problem c.deref.result.now c.deref-2.result.now (c.in_ok-point.ensures c.deref.result.now c.in_ok-point_column.ensures)
     (c.in_ok-prices.ensures c.deref-2.result.now c.in_ok-price_column.ensures))

@@ -17,6 +17,7 @@ returns c = λ problem values costs is also.
     let priced = c.in_ok-priced.priced in
     let keeping = c.in_ok-keeps.ensures values is.is_over 1 in
     let pricing = subst (λ (q : LinearProgram). IsTrue priced ↔ AllHold (reduced_costs q (value_at costs))) same (c.in_ok-priced.ensures costs own also) in
-    printed_answers (record { problem = problem; lp = p }) c.args.mark (value_at values) (value_at costs) keeps priced keeping pricing (value_at c.args.slacks.now) c.in_ok-slack.slack c.in_ok-best.best c.both.result
+    printed_answers (record { problem = problem; lp = p }) c.args.mark (value_at values) (value_at costs) keeps priced keeping pricing
+    (value_at c.args.slacks.now) c.in_ok-slack.slack c.in_ok-best.best c.both.result
     (c.both.ensures ∙ ap (λ b. keeps && b) (c.both-rest.ensures ∙ ap (λ b. priced && b) c.both-last.ensures))
     (c.in_ok-slack.ensures values problem is.is_over) (c.in_ok-best.ensures problem values costs is also keeping pricing)

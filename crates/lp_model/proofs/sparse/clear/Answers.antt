@@ -20,4 +20,8 @@ loop-k-preserved c =
     (search rules, item_cleared c.args.values.now c.loop-k.values c.args.listed.now c.loop-k.k-index c.loop-k-test.true c.whole.result zero c.loop-k.invariant.0 c.loop-k.invariant.1)
 
 pub returns : goal.returns
-returns c = record { zero = cleared_to_end c.args.values.now c.loop-k.values c.args.listed.now c.loop-k.k-index (omega (arith, c.loop-k-test.false)) c.loop-k.invariant.1 }
+returns c =
+    record {
+      zero = cleared_to_end c.args.values.now c.loop-k.values c.args.listed.now c.loop-k.k-index
+          (omega (arith, c.loop-k-test.false)) c.loop-k.invariant.1;
+    }

@@ -12,9 +12,11 @@ loop-place-preserved c = elim c.if-is_nonzero.branch [
       (let pushed : w.push.new.self.items ≡ c.loop-place.kept.items ++ ((c.loop-place.place + 1) ∷ []) = search rules in
       let passes : not (eq_ℚ (value_at c.args.values.now (c.loop-place.place + 1)) zero_ℚ) ≡ true = search rules in
       ap (λ v. v.items) w.kept-is ∙ pushed
-      ∙ grown_then (λ k. not (eq_ℚ (value_at c.args.values.now k) zero_ℚ)) c.args.kept.now.items c.loop-place.kept.items c.loop-place.place (c.loop-place.place + 1) refl c.loop-place.invariant passes)
+      ∙ grown_then (λ k. not (eq_ℚ (value_at c.args.values.now k) zero_ℚ)) c.args.kept.now.items c.loop-place.kept.items c.loop-place.place
+      (c.loop-place.place + 1) refl c.loop-place.invariant passes)
   | else-is_nonzero w ↦
       (let fails : not (eq_ℚ (value_at c.args.values.now (c.loop-place.place + 1)) zero_ℚ) ≡ false = search rules in
       ap (λ v. v.items) w.kept-is
-      ∙ grown_else (λ k. not (eq_ℚ (value_at c.args.values.now k) zero_ℚ)) c.args.kept.now.items c.loop-place.kept.items c.loop-place.place (c.loop-place.place + 1) refl c.loop-place.invariant fails)
+      ∙ grown_else (λ k. not (eq_ℚ (value_at c.args.values.now k) zero_ℚ)) c.args.kept.now.items c.loop-place.kept.items c.loop-place.place
+      (c.loop-place.place + 1) refl c.loop-place.invariant fails)
 ]

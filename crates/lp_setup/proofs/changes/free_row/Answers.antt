@@ -4,7 +4,8 @@ use Rattle.lp_setup.proofs.changes.free_row.Goals as goal
 
 pub returns-then-has_free_row-clause-number : goal.returns-then-has_free_row-clause-number
 returns-then-has_free_row-clause-number c =
-    free_found c.args.problem.now c.args.name.now c.rows-rows.result.now c.row_number.result c.rows-rows.ensures.rows c.row_number.ensures.number (sym c.has_free_row.ensures ∙ c.if-has_free_row.true)
+    free_found c.args.problem.now c.args.name.now c.rows-rows.result.now c.row_number.result c.rows-rows.ensures.rows c.row_number.ensures.number
+    (sym c.has_free_row.ensures ∙ c.if-has_free_row.true)
 
 pub returns-then-has_free_row-clause-free : goal.returns-then-has_free_row-clause-free
 returns-then-has_free_row-clause-free c =

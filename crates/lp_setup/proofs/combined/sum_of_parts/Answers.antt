@@ -18,7 +18,8 @@ with_part-requires-clause-room c =
 pub returns-in_err-total-clause-refused : goal.returns-in_err-total-clause-refused
 returns-in_err-total-clause-refused c =
     let p = err_from_is_err_and c.from_residual.result c.from_residual.ensures.1 in
-    rw (p.1, p.2) (refused_at c.args.parts.now c.args.values.now c.loop-part.part-index c.part-item.result c.loop-part-test.true c.part-item.is c.loop-part.total _ c.loop-part.invariant c.in_err-total.ensures.refused)
+    rw (p.1, p.2)
+    (refused_at c.args.parts.now c.args.values.now c.loop-part.part-index c.part-item.result c.loop-part-test.true c.part-item.is c.loop-part.total _ c.loop-part.invariant c.in_err-total.ensures.refused)
 
 pub loop-part-preserved : goal.loop-part-preserved
 loop-part-preserved c =
@@ -32,4 +33,5 @@ returns-clause-sum c =
 pub returns-clause-made : goal.returns-clause-made
 returns-clause-made c =
     let past : length c.args.parts.now ≤ c.loop-part.part-index = c.loop-part-test.false in
-    subst (λ parts. verdict_of (sum_steps zero_ℚ (part_products parts c.args.values.now)) ≡ Checked) (take_all c.loop-part.part-index c.args.parts.now past) c.loop-part.invariant.is_made
+    subst (λ parts. verdict_of (sum_steps zero_ℚ (part_products parts c.args.values.now)) ≡ Checked)
+    (take_all c.loop-part.part-index c.args.parts.now past) c.loop-part.invariant.is_made

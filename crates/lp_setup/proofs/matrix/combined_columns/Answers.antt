@@ -17,14 +17,17 @@ use Rattle.lp_setup.proofs.matrix.combined_columns.Goals as goal
 pub returns-in_err-numbers-clause-overflow : goal.returns-in_err-numbers-clause-overflow
 returns-in_err-numbers-clause-overflow c =
     let column : Group (Item ℕ) = c.index-columns-place.result in
-    let is_column : slice_get c.args.columns.now c.loop-place.place ≡ Some column = standing c.args.columns.now c.loop-place.place column c.loop-place-test.true c.index-columns-place.is in
+    let is_column : slice_get c.args.columns.now c.loop-place.place ≡ Some column =
+    standing c.args.columns.now c.loop-place.place column c.loop-place-test.true c.index-columns-place.is in
     let p = err_from_is_err_and c.from_residual.result c.from_residual.ensures.1 in
-    rw (p.1, p.2) (overflow_of_column c.args.rows.now c.args.columns.now c.loop-place.place column _ _ is_column (omega arith) c.in_err-numbers.ensures.overflow)
+    rw (p.1, p.2)
+    (overflow_of_column c.args.rows.now c.args.columns.now c.loop-place.place column _ _ is_column (omega arith) c.in_err-numbers.ensures.overflow)
 
 pub loop-place-preserved : goal.loop-place-preserved
 loop-place-preserved c =
     let column : Group (Item ℕ) = c.index-columns-place.result in
-    let is_column : slice_get c.args.columns.now c.loop-place.place ≡ Some column = standing c.args.columns.now c.loop-place.place column c.loop-place-test.true c.index-columns-place.is in
+    let is_column : slice_get c.args.columns.now c.loop-place.place ≡ Some column =
+    standing c.args.columns.now c.loop-place.place column c.loop-place-test.true c.index-columns-place.is in
     let numbers : Group (Item ℕ) → List Entry = coefficients c.args.rows.now in
     let entries : Vec Entry Global → List Entry = λ v. v.items in
     let made : Vec Entry Global = c.in_ok-numbers.numbers in

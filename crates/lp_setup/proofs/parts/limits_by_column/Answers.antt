@@ -8,4 +8,5 @@ pub returns : goal.returns
 returns c =
     let past : length c.args.bounds.now ≤ c.loop-bound.bound-index = c.loop-bound-test.false in
     holds-all (column_limits c.args.bounds.now) c.args.columns unbounded c.loop-bound.limits.items
-    (subst (λ bounds. Holds (column_limits bounds) c.args.columns unbounded c.loop-bound.limits.items) (take_all c.loop-bound.bound-index c.args.bounds.now past) c.loop-bound.invariant)
+    (subst (λ bounds. Holds (column_limits bounds) c.args.columns unbounded c.loop-bound.limits.items)
+    (take_all c.loop-bound.bound-index c.args.bounds.now past) c.loop-bound.invariant)

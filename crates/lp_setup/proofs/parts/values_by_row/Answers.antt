@@ -17,4 +17,5 @@ pub returns : goal.returns
 returns c =
     let past : length c.args.items.now ≤ c.loop-item.item-index = c.loop-item-test.false in
     holds-all (value_on c.args.items.now) c.args.rows None c.loop-item.values.items
-    (subst (λ items. Holds (value_on items) c.args.rows None c.loop-item.values.items) (take_all c.loop-item.item-index c.args.items.now past) c.loop-item.invariant)
+    (subst (λ items. Holds (value_on items) c.args.rows None c.loop-item.values.items)
+    (take_all c.loop-item.item-index c.args.items.now past) c.loop-item.invariant)

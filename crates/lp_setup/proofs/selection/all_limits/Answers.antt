@@ -11,6 +11,8 @@ limits_by_row-requires-clause-range c =
 
 pub returns-clause-made : goal.returns-clause-made
 returns-clause-made c =
-    subst (λ (rows : List (Row ℕ)). AreRowsMade rows c.args.sides.now (by_number (value_on c.args.ranges.now) (length rows)) (length rows)) c.rows-rows.ensures.rows
-    (subst (λ values. AreRowsMade c.rows-rows.result.now c.args.sides.now values (length c.rows-rows.result.now)) (c.deref.ensures.value ∙ c.in_ok-range_values.ensures)
+    subst (λ (rows : List (Row ℕ)). AreRowsMade rows c.args.sides.now (by_number (value_on c.args.ranges.now) (length rows))
+    (length rows)) c.rows-rows.ensures.rows
+    (subst (λ values. AreRowsMade c.rows-rows.result.now c.args.sides.now values (length c.rows-rows.result.now))
+    (c.deref.ensures.value ∙ c.in_ok-range_values.ensures)
     c.in_ok-limits.ensures.made)

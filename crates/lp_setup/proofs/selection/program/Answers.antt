@@ -11,7 +11,8 @@ use Rattle.lp_setup.proofs.selection.program.Goals as goal
 
 pub all_limits-requires-clause-side : goal.all_limits-requires-clause-side
 all_limits-requires-clause-side c =
-    ap length (c.deref.ensures.value ∙ c.in_ok-sides.ensures) ∙ length-by_number (side_on c.args.selection.rhs.now) (length c.rows-rows.result.now) ∙ ap length c.rows-rows.ensures.rows
+    ap length (c.deref.ensures.value ∙ c.in_ok-sides.ensures) ∙ length-by_number (side_on c.args.selection.rhs.now) (length c.rows-rows.result.now)
+    ∙ ap length c.rows-rows.ensures.rows
 
 pub invariant_of-result : goal.invariant_of-result
 invariant_of-result c =
@@ -32,6 +33,9 @@ returns-clause-program c =
 
 pub returns-clause-limits_made : goal.returns-clause-limits_made
 returns-clause-limits_made c =
-    let is_sides = c.deref.ensures.value ∙ c.in_ok-sides.ensures ∙ ap (λ (rows : List (Row ℕ)). by_number (side_on c.args.selection.rhs.now) (length rows)) c.rows-rows.ensures.rows in
-    subst (λ sides. AreRowsMade c.args.problem.now.rows sides (by_number (value_on c.args.selection.ranges.now) (length c.args.problem.now.rows)) (length c.args.problem.now.rows)) is_sides
+    let is_sides =
+    c.deref.ensures.value ∙ c.in_ok-sides.ensures
+    ∙ ap (λ (rows : List (Row ℕ)). by_number (side_on c.args.selection.rhs.now) (length rows)) c.rows-rows.ensures.rows in
+    subst (λ sides. AreRowsMade c.args.problem.now.rows sides (by_number (value_on c.args.selection.ranges.now) (length c.args.problem.now.rows))
+    (length c.args.problem.now.rows)) is_sides
     c.in_ok-limits.ensures.made

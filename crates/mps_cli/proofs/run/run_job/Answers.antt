@@ -15,7 +15,8 @@ use Rattle.mps_cli.proofs.run.run_job.Goals as goal
 
 pub returns-in-Ok-clause-sizes : goal.returns-in-Ok-clause-sizes
 returns-in-Ok-clause-sizes g c =
-    same_answer (asked (map string_bytes c.args.words.now)) (g.S.Source.given c.args.job.now).left c.run_request.result _ _ _ c.in-Ok.request c.in-Ok.ensures.accepted c.run_request.ensures.sizes
+    same_answer (asked (map string_bytes c.args.words.now))
+    (g.S.Source.given c.args.job.now).left c.run_request.result _ _ _ c.in-Ok.request c.in-Ok.ensures.accepted c.run_request.ensures.sizes
 
 pub returns-in-Ok-clause-headline : goal.returns-in-Ok-clause-headline
 returns-in-Ok-clause-headline g c job is = true_answer (returns-in-Ok-clause-sizes g c job is)
@@ -39,9 +40,11 @@ returns-in-Ok-clause-unread g c differs = c.run_request.ensures.unread (λ e. di
 
 pub returns-in-Err-clause-sizes : goal.returns-in-Err-clause-sizes
 returns-in-Err-clause-sizes g c =
-    stopped_answer (asked (map string_bytes c.args.words.now)) (g.S.Source.given c.args.job.now).left c.end_job.result _ _ (g.U.Sink.taken c.args.punch.now).written
+    stopped_answer (asked (map string_bytes c.args.words.now)) (g.S.Source.given c.args.job.now).left c.end_job.result _ _
+    (g.U.Sink.taken c.args.punch.now).written
     c.in-Err.stop (λ e. c.in-Err.ensures.refused (ap (λ s. Err s) e))
-    (subst (λ (stop : EarlyStop). EndsWith (g.P.Sink.taken c.args.print.now) (g.P.Sink.taken c.end_job.new.print) stop c.end_job.result) c.from.ensures c.end_job.ensures)
+    (subst (λ (stop : EarlyStop). EndsWith (g.P.Sink.taken c.args.print.now)
+    (g.P.Sink.taken c.end_job.new.print) stop c.end_job.result) c.from.ensures c.end_job.ensures)
 
 pub returns-in-Err-clause-headline : goal.returns-in-Err-clause-headline
 returns-in-Err-clause-headline g c job is = true_answer (returns-in-Err-clause-sizes g c job is)
@@ -59,4 +62,5 @@ pub returns-in-Err-clause-accounted : goal.returns-in-Err-clause-accounted
 returns-in-Err-clause-accounted g c =
     untouched_accounted (asked (map string_bytes c.args.words.now)) (g.S.Source.given c.args.job.now) (g.U.Sink.taken c.args.punch.now) _ c.end_job.result
     (why_words (asked (map string_bytes c.args.words.now)) _ _ c.in-Err.stop (λ e. c.in-Err.ensures.refused (ap (λ s. Err s) e)))
-    (subst (λ (stop : EarlyStop). EndsWith (g.P.Sink.taken c.args.print.now) (g.P.Sink.taken c.end_job.new.print) stop c.end_job.result) c.from.ensures c.end_job.ensures)
+    (subst (λ (stop : EarlyStop). EndsWith (g.P.Sink.taken c.args.print.now)
+    (g.P.Sink.taken c.end_job.new.print) stop c.end_job.result) c.from.ensures c.end_job.ensures)

@@ -14,17 +14,20 @@ use Rattle.mps_cli.proofs.run.run_made.Goals as goal
 pub returns-in-Ok-clause-answer : goal.returns-in-Ok-clause-answer
 returns-in-Ok-clause-answer g c =
     let bytes = made_job c.args.size in
-    c.run_source.ensures.answer (Made bytes) bytes (record { has_bytes = refl; is_reported = ap (λ b. Some b) c.in-Ok.ensures; is_read = λ e. absurd (omega (arith, e)) })
+    c.run_source.ensures.answer (Made bytes) bytes
+    (record { has_bytes = refl; is_reported = ap (λ b. Some b) c.in-Ok.ensures; is_read = λ e. absurd (omega (arith, e)) })
 
 pub returns-in-Ok-clause-accounted : goal.returns-in-Ok-clause-accounted
 returns-in-Ok-clause-accounted g c = source_accounted c.run_source.result c.args.size c.in-Ok.job c.run_source.new.job c.run_source.ensures.accounted
 
 pub returns-in-Err-clause-answer : goal.returns-in-Err-clause-answer
 returns-in-Err-clause-answer g c =
-    ending_answer linear_programming_of_128_bits (Made (made_job c.args.size)) _ Memory memory_at_start (g.U.Sink.taken c.args.punch.now).written c.end_job.result (λ e. e) (λ e. e) c.end_job.ensures
+    ending_answer linear_programming_of_128_bits (Made (made_job c.args.size)) _ Memory memory_at_start
+    (g.U.Sink.taken c.args.punch.now).written c.end_job.result (λ e. e) (λ e. e) c.end_job.ensures
 
 pub returns-in-Err-clause-accounted : goal.returns-in-Err-clause-accounted
-returns-in-Err-clause-accounted g c = untouched_accounted (Some (Make c.args.size)) (untold_source 0) (g.U.Sink.taken c.args.punch.now) Memory c.end_job.result tt c.end_job.ensures
+returns-in-Err-clause-accounted g c =
+    untouched_accounted (Some (Make c.args.size)) (untold_source 0) (g.U.Sink.taken c.args.punch.now) Memory c.end_job.result tt c.end_job.ensures
 
 pub returns-in-Ok-clause-punch : goal.returns-in-Ok-clause-punch
 returns-in-Ok-clause-punch g c = source_punch c.args.size _ _ _ _ _ c.run_source.result (ap (λ b. Some b) c.in-Ok.ensures) c.run_source.ensures.punch

@@ -10,7 +10,8 @@ use Rattle.mps_cli.proofs.run.run_request.Goals as goal
 
 pub returns-in-Read-clause-sizes : goal.returns-in-Read-clause-sizes
 returns-in-Read-clause-sizes g c =
-    read_answer (Some c.args.request) (g.S.Source.given c.args.job.now).left c.run_source.result _ _ _ (ap (λ (r : Request). Some r) c.in-Read.is) c.run_source.ensures.answer
+    read_answer (Some c.args.request) (g.S.Source.given c.args.job.now).left c.run_source.result _ _ _
+    (ap (λ (r : Request). Some r) c.in-Read.is) c.run_source.ensures.answer
 
 pub returns-in-Read-clause-accounted : goal.returns-in-Read-clause-accounted
 returns-in-Read-clause-accounted g c = same_accounted Read c.run_source.result (ap (λ (r : Request). Some r) c.in-Read.is) c.run_source.ensures.accounted
@@ -22,7 +23,8 @@ returns-in-Read-clause-unread g c differs = absurd (differs c.in-Read.is)
 
 pub returns-in-Make-clause-sizes : goal.returns-in-Make-clause-sizes
 returns-in-Make-clause-sizes g c =
-    made_answer (Some c.args.request) (g.S.Source.given c.args.job.now).left c.run_made.result _ (λ e. absurd (omega (arith, e))) _ _ _ _ _ _ c.in-Make.size (ap (λ (r : Request). Some r) c.in-Make.is) c.run_made.ensures.answer
+    made_answer (Some c.args.request) (g.S.Source.given c.args.job.now).left c.run_made.result _ (λ e. absurd (omega (arith, e))) _ _ _ _ _ _ c.in-Make.size
+    (ap (λ (r : Request). Some r) c.in-Make.is) c.run_made.ensures.answer
 
 pub returns-in-Make-clause-accounted : goal.returns-in-Make-clause-accounted
 returns-in-Make-clause-accounted g c =

@@ -21,14 +21,16 @@ returns-in_err-read_cards-clause-stop c =
 
 pub problem_of-requires-clause-lawful : goal.problem_of-requires-clause-lawful
 problem_of-requires-clause-lawful c = λ own named.
-    is_problem (cards_between c.args.first c.args.last c.args.cards.now) own (problem_view c.read_cards.new.draft) named c.in_ok-read_cards.ensures.printable c.in_ok-read_cards.ensures.no_fault
+    is_problem (cards_between c.args.first c.args.last c.args.cards.now) own
+    (problem_view c.read_cards.new.draft) named c.in_ok-read_cards.ensures.printable c.in_ok-read_cards.ensures.no_fault
     (ap (λ (s : State). s.problem) c.in_ok-read_cards.ensures.made)
 
 pub returns-clause-problem : goal.returns-clause-problem
 returns-clause-problem c =
     let deck = cards_between c.args.first c.args.last c.args.cards.now in
     let own = unwrap_or c.args.name (deck_name (live deck)) in
-    IfOk-weaker c.problem_of.result (λ problem. problem ≡ numbered (problem_named own c.read_cards.new.draft)) (λ problem. conversion deck c.args.name ≡ Ok problem)
+    IfOk-weaker c.problem_of.result (λ problem. problem ≡ numbered (problem_named own c.read_cards.new.draft))
+    (λ problem. conversion deck c.args.name ≡ Ok problem)
     (λ problem is. converts deck c.args.name own (problem_view c.read_cards.new.draft) problem c.in_ok-read_cards.ensures.no_fault
     (ap (λ (s : State). s.problem) c.in_ok-read_cards.ensures.made) refl is)
     c.problem_of.ensures.problem

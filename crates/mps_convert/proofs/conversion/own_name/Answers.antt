@@ -7,4 +7,5 @@ pub name_in-requires : goal.name_in-requires
 name_in-requires c = subst IsName (sym c.field.ensures) (columns-name 15 22 c.in-Some.card.bytes.now (lit≤ tt) c.in-Some.card.printable)
 
 pub returns-in-Some-clause-is_name : goal.returns-in-Some-clause-is_name
-returns-in-Some-clause-is_name c = subst IsName (sym (c.name_in.ensures ∙ c.field.ensures)) (columns-name 15 22 c.in-Some.card.bytes.now (lit≤ tt) c.in-Some.card.printable)
+returns-in-Some-clause-is_name c =
+    subst IsName (sym (c.name_in.ensures ∙ c.field.ensures)) (columns-name 15 22 c.in-Some.card.bytes.now (lit≤ tt) c.in-Some.card.printable)

@@ -12,7 +12,9 @@ pub returns : goal.returns
 returns c =
     let taken = c.or_insert-bounds.ensures.value ∙ ap₂ unwrap_or c.in_ok-sets.ensures.value c.new.ensures in
     on_ok_weaker {P = c.change.new.self ≡ bounds_changed c.args.change (viewed c.args.card.now) c.or_insert-bounds.result.now} c.change.result
-    (λ step. ap (λ m. map group_at m.entries) (c.sets-3-1.given.1 (sym c.in_ok-sets.ensures.same_map)) ∙ ap (map group_at) (c.in_ok-sets.ensures.update.1 c.change.new.self)
-    ∙ ap (λ items. map group_at (insert_entry same c.args.sets.now.entries c.args.card.now.name1 items)) (step ∙ ap (bounds_changed c.args.change (viewed c.args.card.now)) taken)
+    (λ step. ap (λ m. map group_at m.entries) (c.sets-3-1.given.1 (sym c.in_ok-sets.ensures.same_map))
+    ∙ ap (map group_at) (c.in_ok-sets.ensures.update.1 c.change.new.self)
+    ∙ ap (λ items. map group_at (insert_entry same c.args.sets.now.entries c.args.card.now.name1 items))
+    (step ∙ ap (bounds_changed c.args.change (viewed c.args.card.now)) taken)
     ∙ put_in_set c.args.card.now.name1 (bounds_changed c.args.change (viewed c.args.card.now)) c.args.sets.now.entries c.in_ok-sets.ensures.unique)
     c.change.ensures

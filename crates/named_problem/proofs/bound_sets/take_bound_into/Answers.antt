@@ -19,9 +19,12 @@ pub returns-clause-step : goal.returns-clause-step
 returns-clause-step c =
     let taken = c.or_insert-items.ensures.value ∙ ap₂ unwrap_or c.in_ok-sets.ensures.value c.new.ensures in
     on_ok_weaker {P = c.take_bound.new.items ≡ c.or_insert-items.result.now ++ bound_of (viewed c.args.card.now) c.args.kind ∷ []} c.take_bound.result
-    (λ step. ap (λ m. map group_at m.entries) (c.sets-3-1.given.1 (sym c.in_ok-sets.ensures.same_map)) ∙ ap (map group_at) (c.in_ok-sets.ensures.update.1 c.take_bound.new.items)
-    ∙ ap (λ items. map group_at (insert_entry same c.args.sets.now.entries c.args.card.now.name1 items)) (step ∙ ap (λ items. items ++ bound_of (viewed c.args.card.now) c.args.kind ∷ []) taken)
-    ∙ put_in_set c.args.card.now.name1 (λ items. items ++ bound_of (viewed c.args.card.now) c.args.kind ∷ []) c.args.sets.now.entries c.in_ok-sets.ensures.unique)
+    (λ step. ap (λ m. map group_at m.entries) (c.sets-3-1.given.1 (sym c.in_ok-sets.ensures.same_map))
+    ∙ ap (map group_at) (c.in_ok-sets.ensures.update.1 c.take_bound.new.items)
+    ∙ ap (λ items. map group_at (insert_entry same c.args.sets.now.entries c.args.card.now.name1 items))
+    (step ∙ ap (λ items. items ++ bound_of (viewed c.args.card.now) c.args.kind ∷ []) taken)
+    ∙ put_in_set c.args.card.now.name1
+    (λ items. items ++ bound_of (viewed c.args.card.now) c.args.kind ∷ []) c.args.sets.now.entries c.in_ok-sets.ensures.unique)
     c.take_bound.ensures.step
 
 pub returns-clause-stop : goal.returns-clause-stop

@@ -5,4 +5,5 @@ use Rattle.named_problem.specs.Views.{entry_at, row_number}
 use Rattle.named_problem.proofs.entries.numbered_entries.Given as goal
 
 abbrev pub invariant-loop-row : goal.invariant-loop-row
-invariant-loop-row l = l.entries.items ++ map (entry_by (row_number l.rows)) (map entry_at l.row-iterator) ≡ map (entry_by (row_number l.rows)) (map entry_at l.values.entries)
+invariant-loop-row l =
+    l.entries.items ++ map (entry_by (row_number l.rows)) (map entry_at l.row-iterator) ≡ map (entry_by (row_number l.rows)) (map entry_at l.values.entries)

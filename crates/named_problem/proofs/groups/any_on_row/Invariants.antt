@@ -6,4 +6,6 @@ use Rattle.named_problem.specs.Views.{group_at}
 use Rattle.named_problem.proofs.groups.any_on_row.Given as goal
 
 abbrev pub invariant-loop-items : goal.invariant-loop-items
-invariant-loop-items l = list_any (λ group. has_entry group.items l.row) (map group_at l.items-iterator) ≡ list_any (λ group. has_entry group.items l.row) (map group_at l.groups.entries)
+invariant-loop-items l =
+    list_any (λ group. has_entry group.items l.row) (map group_at l.items-iterator) ≡ list_any (λ group. has_entry group.items l.row)
+    (map group_at l.groups.entries)

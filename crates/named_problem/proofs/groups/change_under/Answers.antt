@@ -9,7 +9,8 @@ pub returns : goal.returns
 returns c =
     let taken = c.or_insert-items.ensures.value ∙ ap₂ unwrap_or c.in_ok-groups.ensures.value c.new.ensures in
     let made = c.in_ok-change.ensures ∙ ap (entries_changed c.args.change (viewed c.args.card.now)) taken in (
-      ap (λ m. m.entries) (c.groups-3-1.given.1 (sym c.in_ok-groups.ensures.same_map)) ∙ c.in_ok-groups.ensures.update.1 c.change.new.self ∙ ap (λ items. insert_entry same c.args.groups.now.entries c.args.card.now.name1 items) made,
+      ap (λ m. m.entries) (c.groups-3-1.given.1 (sym c.in_ok-groups.ensures.same_map)) ∙ c.in_ok-groups.ensures.update.1 c.change.new.self
+          ∙ ap (λ items. insert_entry same c.args.groups.now.entries c.args.card.now.name1 items) made,
       c.len-before.ensures ∙ ap length taken,
       c.len-after.ensures ∙ ap length made,
     )

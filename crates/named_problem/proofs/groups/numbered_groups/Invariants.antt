@@ -6,4 +6,6 @@ use Rattle.named_problem.specs.Views.{group_at}
 use Rattle.named_problem.proofs.groups.numbered_groups.Given as goal
 
 abbrev pub invariant-loop-name : goal.invariant-loop-name
-invariant-loop-name l = l.list.items ++ map (group_by (entry_by (number_in (map (λ row. row.name) l.rows)))) (map group_at l.name-iterator) ≡ map (group_by (entry_by (number_in (map (λ row. row.name) l.rows)))) (map group_at l.groups.entries)
+invariant-loop-name l =
+    l.list.items ++ map (group_by (entry_by (number_in (map (λ row. row.name) l.rows)))) (map group_at l.name-iterator) ≡ map
+    (group_by (entry_by (number_in (map (λ row. row.name) l.rows)))) (map group_at l.groups.entries)

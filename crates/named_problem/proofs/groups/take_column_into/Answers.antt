@@ -23,18 +23,22 @@ place_fault-requires c =
 pub returns-in-Some-clause-stop : goal.returns-in-Some-clause-stop
 returns-in-Some-clause-stop c =
     let place = c.index-place.ensures ∙ c.in_ok-entry.ensures.index in
-    let reported = ap₂ (λ p n. first_fault ((nat_lt (p + 1) n ⟹ ColumnSplit) ∷ (nat_eq p n && nat_le MAX_COLUMNS n ⟹ TooManyColumns) ∷ [])) place c.len-before.ensures.len in
+    let reported =
+    ap₂ (λ p n. first_fault ((nat_lt (p + 1) n ⟹ ColumnSplit) ∷ (nat_eq p n && nat_le MAX_COLUMNS n ⟹ TooManyColumns) ∷ [])) place c.len-before.ensures.len in
     column_refused (map group_at c.args.columns.now.entries) c.args.card.now.name1 _ c.in-Some.kind
     (sym (place_tells c.args.card.now.name1 c.args.columns.now.entries) ∙ sym reported ∙ sym c.in-Some.ensures)
 
 pub returns-clause-no_fault : goal.returns-clause-no_fault
 returns-clause-no_fault c =
     let place = c.index-place.ensures ∙ c.in_ok-entry.ensures.index in
-    let reported = ap₂ (λ p n. first_fault ((nat_lt (p + 1) n ⟹ ColumnSplit) ∷ (nat_eq p n && nat_le MAX_COLUMNS n ⟹ TooManyColumns) ∷ [])) place c.len-before.ensures.len in
-    let fine : column_fault (map group_at c.args.columns.now.entries) c.args.card.now.name1 None ≡ None = sym (place_tells c.args.card.now.name1 c.args.columns.now.entries) ∙ sym reported ∙ sym c.in_default.ensures in
+    let reported =
+    ap₂ (λ p n. first_fault ((nat_lt (p + 1) n ⟹ ColumnSplit) ∷ (nat_eq p n && nat_le MAX_COLUMNS n ⟹ TooManyColumns) ∷ [])) place c.len-before.ensures.len in
+    let fine : column_fault (map group_at c.args.columns.now.entries) c.args.card.now.name1 None ≡ None =
+    sym (place_tells c.args.card.now.name1 c.args.columns.now.entries) ∙ sym reported ∙ sym c.in_default.ensures in
     let taken = c.or_insert-items.ensures.value ∙ ap₂ unwrap_or c.in_ok-entry.ensures.value c.new.ensures in
     subst (λ fault. OnOk c.take_measured.result (fault ≡ None)) (sym (column_fine (map group_at c.args.columns.now.entries) c.args.card.now.name1 _ fine))
-    (subst (λ items. OnOk c.take_measured.result (pairs_fault (rows_alone c.args.rows.now) Columns items c.args.count (pairs_of (viewed c.args.card.now)) ≡ None))
+    (subst (λ items. OnOk c.take_measured.result
+    (pairs_fault (rows_alone c.args.rows.now) Columns items c.args.count (pairs_of (viewed c.args.card.now)) ≡ None))
     (taken ∙ items_found c.args.card.now.name1 c.args.columns.now.entries c.in_ok-entry.ensures.unique) c.take_measured.ensures.no_fault)
 
 pub returns-clause-put : goal.returns-clause-put
@@ -42,7 +46,8 @@ returns-clause-put c =
     let taken = c.or_insert-items.ensures.value ∙ ap₂ unwrap_or c.in_ok-entry.ensures.value c.new.ensures in
     IfOk-weaker c.take_measured.result _ _ (λ lengths step.
     let made = step.0 ∙ ap (λ items. items ++ entries_of (viewed c.args.card.now)) taken in (
-      ap (λ m. m.entries) (c.columns-3-1.given.1 (sym c.in_ok-entry.ensures.same_map)) ∙ c.in_ok-entry.ensures.update.1 c.take_measured.new.items ∙ ap (λ items. insert_entry same c.args.columns.now.entries c.args.card.now.name1 items) made,
+      ap (λ m. m.entries) (c.columns-3-1.given.1 (sym c.in_ok-entry.ensures.same_map)) ∙ c.in_ok-entry.ensures.update.1 c.take_measured.new.items
+          ∙ ap (λ items. insert_entry same c.args.columns.now.entries c.args.card.now.name1 items) made,
       step.1 ∙ ap length taken,
       step.2 ∙ ap length made,
     )) c.take_measured.ensures.step
@@ -50,9 +55,13 @@ returns-clause-put c =
 pub returns-clause-stop : goal.returns-clause-stop
 returns-clause-stop c =
     let place = c.index-place.ensures ∙ c.in_ok-entry.ensures.index in
-    let reported = ap₂ (λ p n. first_fault ((nat_lt (p + 1) n ⟹ ColumnSplit) ∷ (nat_eq p n && nat_le MAX_COLUMNS n ⟹ TooManyColumns) ∷ [])) place c.len-before.ensures.len in
-    let fine : column_fault (map group_at c.args.columns.now.entries) c.args.card.now.name1 None ≡ None = sym (place_tells c.args.card.now.name1 c.args.columns.now.entries) ∙ sym reported ∙ sym c.in_default.ensures in
+    let reported =
+    ap₂ (λ p n. first_fault ((nat_lt (p + 1) n ⟹ ColumnSplit) ∷ (nat_eq p n && nat_le MAX_COLUMNS n ⟹ TooManyColumns) ∷ [])) place c.len-before.ensures.len in
+    let fine : column_fault (map group_at c.args.columns.now.entries) c.args.card.now.name1 None ≡ None =
+    sym (place_tells c.args.card.now.name1 c.args.columns.now.entries) ∙ sym reported ∙ sym c.in_default.ensures in
     let taken = c.or_insert-items.ensures.value ∙ ap₂ unwrap_or c.in_ok-entry.ensures.value c.new.ensures in
-    subst (λ fault. IfErr c.take_measured.result (ReportsDeckFault fault)) (sym (column_fine (map group_at c.args.columns.now.entries) c.args.card.now.name1 _ fine))
-    (subst (λ items. IfErr c.take_measured.result (ReportsDeckFault (pairs_fault (rows_alone c.args.rows.now) Columns items c.args.count (pairs_of (viewed c.args.card.now)))))
+    subst (λ fault. IfErr c.take_measured.result (ReportsDeckFault fault))
+    (sym (column_fine (map group_at c.args.columns.now.entries) c.args.card.now.name1 _ fine))
+    (subst (λ items. IfErr c.take_measured.result
+    (ReportsDeckFault (pairs_fault (rows_alone c.args.rows.now) Columns items c.args.count (pairs_of (viewed c.args.card.now)))))
     (taken ∙ items_found c.args.card.now.name1 c.args.columns.now.entries c.in_ok-entry.ensures.unique) c.take_measured.ensures.stop)

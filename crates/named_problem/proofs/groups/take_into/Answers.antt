@@ -13,7 +13,8 @@ use Rattle.named_problem.proofs.groups.take_into.Goals as goal
 pub returns-clause-no_fault : goal.returns-clause-no_fault
 returns-clause-no_fault c =
     let taken = c.or_insert-items.ensures.value ∙ ap₂ unwrap_or c.in_ok-groups.ensures.value c.new.ensures in
-    subst (λ items. OnOk c.take_measured.result (pairs_fault (rows_alone c.args.rows.now) c.args.section items c.args.count (pairs_of (viewed c.args.card.now)) ≡ None))
+    subst (λ items. OnOk c.take_measured.result
+    (pairs_fault (rows_alone c.args.rows.now) c.args.section items c.args.count (pairs_of (viewed c.args.card.now)) ≡ None))
     (taken ∙ items_found c.args.card.now.name1 c.args.groups.now.entries c.in_ok-groups.ensures.unique) c.take_measured.ensures.no_fault
 
 pub returns-clause-put : goal.returns-clause-put
@@ -21,7 +22,8 @@ returns-clause-put c =
     let taken = c.or_insert-items.ensures.value ∙ ap₂ unwrap_or c.in_ok-groups.ensures.value c.new.ensures in
     IfOk-weaker c.take_measured.result _ _ (λ lengths step.
     let made = step.0 ∙ ap (λ items. items ++ entries_of (viewed c.args.card.now)) taken in (
-      ap (λ m. m.entries) (c.groups-3-1.given.1 (sym c.in_ok-groups.ensures.same_map)) ∙ c.in_ok-groups.ensures.update.1 c.take_measured.new.items ∙ ap (λ items. insert_entry same c.args.groups.now.entries c.args.card.now.name1 items) made,
+      ap (λ m. m.entries) (c.groups-3-1.given.1 (sym c.in_ok-groups.ensures.same_map)) ∙ c.in_ok-groups.ensures.update.1 c.take_measured.new.items
+          ∙ ap (λ items. insert_entry same c.args.groups.now.entries c.args.card.now.name1 items) made,
       step.1 ∙ ap length taken,
       step.2 ∙ ap length made,
     )) c.take_measured.ensures.step
@@ -29,5 +31,6 @@ returns-clause-put c =
 pub returns-clause-stop : goal.returns-clause-stop
 returns-clause-stop c =
     let taken = c.or_insert-items.ensures.value ∙ ap₂ unwrap_or c.in_ok-groups.ensures.value c.new.ensures in
-    subst (λ items. IfErr c.take_measured.result (ReportsDeckFault (pairs_fault (rows_alone c.args.rows.now) c.args.section items c.args.count (pairs_of (viewed c.args.card.now)))))
+    subst (λ items. IfErr c.take_measured.result
+    (ReportsDeckFault (pairs_fault (rows_alone c.args.rows.now) c.args.section items c.args.count (pairs_of (viewed c.args.card.now)))))
     (taken ∙ items_found c.args.card.now.name1 c.args.groups.now.entries c.in_ok-groups.ensures.unique) c.take_measured.ensures.stop

@@ -7,7 +7,8 @@ use Rattle.named_problem.proofs.pairs.number_in.Goals as goal
 pub fault_from-requires-clause-in_field : goal.fault_from-requires-clause-in_field
 fault_from-requires-clause-in_field c =
     λ place e.
-    let inside : place ≤ length c.args.field.now = bad_place c.args.field.now place (reported_fault c.args.field.now c.in-Err.fault (sym c.in-Err.ensures) ∙ ap (λ f. Some f) e) in
+    let inside : place ≤ length c.args.field.now =
+    bad_place c.args.field.now place (reported_fault c.args.field.now c.in-Err.fault (sym c.in-Err.ensures) ∙ ap (λ f. Some f) e) in
     omega (arith, c.requires.short)
 
 pub returns-in-Ok-clause-value : goal.returns-in-Ok-clause-value
@@ -18,4 +19,5 @@ returns-in-Ok-clause-no_fault c = ap (option_map (number_fault_from c.args.colum
 
 pub returns-in-Err-clause-fault : goal.returns-in-Err-clause-fault
 returns-in-Err-clause-fault c =
-    ap (option_map (number_fault_from c.args.column)) (reported_fault c.args.field.now c.in-Err.fault (sym c.in-Err.ensures)) ∙ ap (λ kind. Some kind) (sym c.fault_from.ensures)
+    ap (option_map (number_fault_from c.args.column)) (reported_fault c.args.field.now c.in-Err.fault (sym c.in-Err.ensures))
+    ∙ ap (λ kind. Some kind) (sym c.fault_from.ensures)

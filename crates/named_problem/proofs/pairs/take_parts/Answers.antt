@@ -10,7 +10,8 @@ use Rattle.named_problem.proofs.pairs.take_parts.Goals as goal
 pub returns-in-Ok-clause-stop : goal.returns-in-Ok-clause-stop
 returns-in-Ok-clause-stop c =
     subst (λ fault. IfErr c.take_part-in-Ok.result (ReportsDeckFault fault))
-    (second_parts c.args.rows.now c.args.parts.now c.take_part.new.parts (option_to_list (option_map pair_view c.first_part.result)) (option_to_list (option_map pair_view c.second_pair.result)) c.in-Ok.ensures.no_fault c.in-Ok.ensures.step
+    (second_parts c.args.rows.now c.args.parts.now c.take_part.new.parts (option_to_list (option_map pair_view c.first_part.result))
+    (option_to_list (option_map pair_view c.second_pair.result)) c.in-Ok.ensures.no_fault c.in-Ok.ensures.step
     ∙ ap₂ (λ first second. parts_fault c.args.rows.now c.args.parts.now (first ++ second)) c.first_part.ensures c.second_pair.ensures)
     c.take_part-in-Ok.ensures.stop
 

@@ -10,14 +10,19 @@ use Rattle.named_problem.proofs.row_cards.put_back.Goals as goal
 pub unreachable-requires : goal.unreachable-requires
 unreachable-requires c =
     let row = row_at (c.args.name, c.args.body) in
-    absurd (cc (not_plain (viewed c.args.card.now) (c.args.rows.now ++ row ∷ []) c.args.rows.now row (λ i. c.args.rows.now ++ row ∷ []) c.in_default.is, c.requires.goes_on))
+    absurd (cc (
+      not_plain (viewed c.args.card.now) (c.args.rows.now ++ row ∷ []) c.args.rows.now row
+          (λ i. c.args.rows.now ++ row ∷ []) c.in_default.is,
+      c.requires.goes_on,
+    ))
 
 pub returns-in_ok-add-in-Ok-clause-no_fault : goal.returns-in_ok-add-in-Ok-clause-no_fault
 returns-in_ok-add-in-Ok-clause-no_fault c =
     let row = row_at (c.args.name, c.args.body) in
     let taken : c.args.rows.now ++ row ∷ [] ≡ c.args.rows.now ++ combination c.args.body.kind c.args.name c.in-Some.parts ∷ [] =
     ap (λ parts. c.args.rows.now ++ record { kind = c.args.body.kind; name = c.args.name; parts = parts } ∷ []) c.in-Some.is in
-    tells_more (viewed c.args.card.now) (c.args.rows.now ++ row ∷ []) c.args.rows.now c.args.body.kind c.args.name c.in-Some.parts c.requires.goes_on taken c.requires.apart
+    tells_more (viewed c.args.card.now)
+    (c.args.rows.now ++ row ∷ []) c.args.rows.now c.args.body.kind c.args.name c.in-Some.parts c.requires.goes_on taken c.requires.apart
     (ap is_empty (sym c.bytes.ensures.bytes) ∙ sym c.is_blank.ensures ∙ c.if-is_blank.false) ∙ c.in-Ok.ensures.no_fault
 
 pub returns-in_ok-add-in-Ok-clause-step : goal.returns-in_ok-add-in-Ok-clause-step
@@ -26,7 +31,8 @@ returns-in_ok-add-in-Ok-clause-step c =
     let taken : c.args.rows.now ++ row ∷ [] ≡ c.args.rows.now ++ combination c.args.body.kind c.args.name c.in-Some.parts ∷ [] =
     ap (λ parts. c.args.rows.now ++ record { kind = c.args.body.kind; name = c.args.name; parts = parts } ∷ []) c.in-Some.is in
     c.in_ok-add-in-Ok.ensures ∙ ap (λ parts. c.args.rows.now ++ combination c.args.body.kind c.args.name parts ∷ []) c.in-Ok.ensures.step
-    ∙ sym (more_parts (viewed c.args.card.now) (c.args.rows.now ++ row ∷ []) c.args.rows.now c.args.body.kind c.args.name c.in-Some.parts c.requires.goes_on taken c.requires.apart)
+    ∙ sym (more_parts (viewed c.args.card.now)
+    (c.args.rows.now ++ row ∷ []) c.args.rows.now c.args.body.kind c.args.name c.in-Some.parts c.requires.goes_on taken c.requires.apart)
 
 pub returns-in-Err-clause-stop : goal.returns-in-Err-clause-stop
 returns-in-Err-clause-stop c =
@@ -34,6 +40,7 @@ returns-in-Err-clause-stop c =
     let taken : c.args.rows.now ++ row ∷ [] ≡ c.args.rows.now ++ combination c.args.body.kind c.args.name c.in-Some.parts ∷ [] =
     ap (λ parts. c.args.rows.now ++ record { kind = c.args.body.kind; name = c.args.name; parts = parts } ∷ []) c.in-Some.is in
     subst (λ fault. ReportsDeckFault fault c.in-Err.stop)
-    (sym (tells_more (viewed c.args.card.now) (c.args.rows.now ++ row ∷ []) c.args.rows.now c.args.body.kind c.args.name c.in-Some.parts c.requires.goes_on taken c.requires.apart
+    (sym (tells_more (viewed c.args.card.now)
+    (c.args.rows.now ++ row ∷ []) c.args.rows.now c.args.body.kind c.args.name c.in-Some.parts c.requires.goes_on taken c.requires.apart
     (ap is_empty (sym c.bytes.ensures.bytes) ∙ sym c.is_blank.ensures ∙ c.if-is_blank.false)))
     c.in-Err.ensures.stop

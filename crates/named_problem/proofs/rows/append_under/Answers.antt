@@ -14,16 +14,19 @@ use Rattle.named_problem.proofs.rows.append_under.Goals as goal
 pub returns-in_default : goal.returns-in_default
 returns-in_default c =
     ap (λ m. map row_at m.entries) c.get_mut.follows.holds-at-none
-    ∙ sym (no_parts_written c.args.card.now.name1 (λ parts. parts ++ parts_on (viewed c.args.card.now)) c.args.rows.now.entries (sym (ap is_some c.in_default.ensures.value)))
+    ∙ sym (no_parts_written c.args.card.now.name1 (λ parts. parts ++ parts_on (viewed c.args.card.now)) c.args.rows.now.entries
+    (sym (ap is_some c.in_default.ensures.value)))
 
 pub returns : goal.returns
 returns c =
     on_ok_weaker {P = c.append.new.self ≡ body_with (λ parts. parts ++ parts_on (viewed c.args.card.now)) c.in-Some.body.now} c.append.result
     (λ e. ap (map row_at) ((c.get_mut.follows.holds c.append.new.self).0 ∙ ap (set_value (same c.args.card.now.name1) c.args.rows.now.entries) e)
-    ∙ parts_written c.args.card.now.name1 (λ parts. parts ++ parts_on (viewed c.args.card.now)) c.args.rows.now.entries c.in-Some.body.now c.get_mut.ensures.unique (sym c.in-Some.ensures.value))
+    ∙ parts_written c.args.card.now.name1
+    (λ parts. parts ++ parts_on (viewed c.args.card.now)) c.args.rows.now.entries c.in-Some.body.now c.get_mut.ensures.unique (sym c.in-Some.ensures.value))
     c.append.ensures
 
 pub append-requires : goal.append-requires
 append-requires c =
     subst (λ items. AreNew items (part_pairs_of (viewed c.args.card.now)))
-    (sym (ap (λ o. unwrap_or (option_and_then (λ (body : RowBody). body.parts) o) []) c.in-Some.ensures.value ∙ parts_found c.args.card.now.name1 c.args.rows.now.entries c.get_mut.ensures.unique)) c.requires
+    (sym (ap (λ o. unwrap_or (option_and_then (λ (body : RowBody). body.parts) o) []) c.in-Some.ensures.value
+    ∙ parts_found c.args.card.now.name1 c.args.rows.now.entries c.get_mut.ensures.unique)) c.requires

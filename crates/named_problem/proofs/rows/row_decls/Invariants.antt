@@ -6,4 +6,5 @@ use Rattle.named_problem.specs.Bodies.{row_at}
 use Rattle.named_problem.proofs.rows.row_decls.Given as goal
 
 abbrev pub invariant-loop-name : goal.invariant-loop-name
-invariant-loop-name l = l.decls.items ++ map (row_by (row_number l.rows)) (map row_at l.name-iterator) ≡ map (row_by (row_number l.rows)) (map row_at l.bodies.entries)
+invariant-loop-name l =
+    l.decls.items ++ map (row_by (row_number l.rows)) (map row_at l.name-iterator) ≡ map (row_by (row_number l.rows)) (map row_at l.bodies.entries)

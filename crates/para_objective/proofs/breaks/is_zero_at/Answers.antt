@@ -16,4 +16,6 @@ pub returns-in-Err : goal.returns-in-Err
 returns-in-Err c =
     let fits : TermsFit c.neg-opposite.result = search rules in
     sym (eq_fails_from_apart (c.args.price +ℚ c.args.theta *ℚ c.args.rate) zero_ℚ
-    (λ z. clash (sym (c.in-Err.ensures.fits.1 (subst (λ (q : ℚ). TermsFit q) (c.neg-opposite.ensures ∙ sym (opposite_if_zero c.args.price (c.args.theta *ℚ c.args.rate) z)) fits)))))
+    (λ z. clash (sym
+    (c.in-Err.ensures.fits.1
+    (subst (λ (q : ℚ). TermsFit q) (c.neg-opposite.ensures ∙ sym (opposite_if_zero c.args.price (c.args.theta *ℚ c.args.rate) z)) fits)))))

@@ -17,4 +17,5 @@ loop-k-preserved c =
 
 pub loop-k-preserved-in_default : goal.loop-k-preserved-in_default
 loop-k-preserved-in_default c =
-    skipped_above c.args.lp.now c.args.basis.now (value_at c.args.prices.now) (value_at c.args.change.now) c.args.max c.loop-k.k c.loop-k.best c.loop-k.invariant
+    skipped_above c.args.lp.now c.args.basis.now (value_at c.args.prices.now)
+    (value_at c.args.change.now) c.args.max c.loop-k.k c.loop-k.best c.loop-k.invariant

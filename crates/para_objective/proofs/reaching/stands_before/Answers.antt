@@ -8,4 +8,5 @@ returns-in-Ok c h = meets_zero c.args.best c.args.price c.args.rate c.in-Ok.prod
 
 pub returns-in-Some : goal.returns-in-Some
 returns-in-Some c h =
-    meets_combined c.args.best c.args.price c.args.rate c.in-Some.combined c.requires c.in-Some.ensures (ap (λ z. meets c.in-Some.combined z c.args.rate) (sym c.whole.ensures) ∙ sym c.meets-in-Some.ensures ∙ h)
+    meets_combined c.args.best c.args.price c.args.rate c.in-Some.combined c.requires c.in-Some.ensures
+    (ap (λ z. meets c.in-Some.combined z c.args.rate) (sym c.whole.ensures) ∙ sym c.meets-in-Some.ensures ∙ h)

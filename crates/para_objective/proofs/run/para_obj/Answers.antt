@@ -8,7 +8,8 @@ use Rattle.para_objective.proofs.run.para_obj.Goals as goal
 pub follow-requires-clause-parametric : goal.follow-requires-clause-parametric
 follow-requires-clause-parametric g c =
     let lawful : IsLinearProgram c.args.lp.now = search rules in
-    objective_parametric c.args.lp.now c.args.run.now.row (record { lawful = lawful; no_change = c.requires.no_change; row = c.requires.row; free = c.requires.free })
+    objective_parametric c.args.lp.now c.args.run.now.row
+    (record { lawful = lawful; no_change = c.requires.no_change; row = c.requires.row; free = c.requires.free })
 
 pub follow-requires-clause-fits : goal.follow-requires-clause-fits
 follow-requires-clause-fits g c =
@@ -21,7 +22,9 @@ returns-clause-ends g c = c.follow.ensures.ends
 pub returns-clause-stops : goal.returns-clause-stops
 returns-clause-stops g c =
     IfErr-map c.follow.result
-    (λ why h. stops_at_basis c.args.lp.now c.args.run.now.row (record { from = c.args.run.now.from; to = c.args.run.now.to; limit = c.args.run.now.limit }) c.args.basis.now (g.R.Rates.state c.args.rates.now).waypoints c.follow.new.basis
+    (λ why h. stops_at_basis c.args.lp.now c.args.run.now.row
+    (record { from = c.args.run.now.from; to = c.args.run.now.to; limit = c.args.run.now.limit }) c.args.basis.now
+    (g.R.Rates.state c.args.rates.now).waypoints c.follow.new.basis
     (g.R.Rates.state c.follow.new.rates).waypoints why h)
     c.follow.ensures.stops
 
@@ -34,4 +37,6 @@ returns-clause-truth g c = c.follow.ensures.truth
 pub returns-clause-complete : goal.returns-clause-complete
 returns-clause-complete g c report path goes =
     c.follow.ensures.complete report path
-    (overflow_free c.args.lp.now c.args.run.now.row (record { from = c.args.run.now.from; to = c.args.run.now.to; limit = c.args.run.now.limit }) c.args.basis.now (g.R.Rates.state c.args.rates.now).waypoints report path goes)
+    (overflow_free c.args.lp.now c.args.run.now.row
+    (record { from = c.args.run.now.from; to = c.args.run.now.to; limit = c.args.run.now.limit }) c.args.basis.now
+    (g.R.Rates.state c.args.rates.now).waypoints report path goes)

@@ -4,7 +4,8 @@ use Rattle.basis_values.proofs.Skips.{stays_put}
 use Rattle.para_rhs.proofs.limits.limit_moved.Goals as goal
 
 pub returns-then-is_zero-clause-value : goal.returns-then-is_zero-clause-value
-returns-then-is_zero-clause-value c = rw c.in-Some.is (ap (λ l. Some l) (stays_put c.in-Some.number c.args.theta c.args.by (c.is_zero.ensures.0 c.if-is_zero.true)))
+returns-then-is_zero-clause-value c =
+    rw c.in-Some.is (ap (λ l. Some l) (stays_put c.in-Some.number c.args.theta c.args.by (c.is_zero.ensures.0 c.if-is_zero.true)))
 
 pub returns-in-Err-clause-refused : goal.returns-in-Err-clause-refused
 returns-in-Err-clause-refused c = record {

@@ -17,7 +17,9 @@ loop-k-preserved c =
 pub returns-clause-limits : goal.returns-clause-limits
 returns-clause-limits c =
     let all : c.loop-k.k ≡ size c.args.lp.now.matrix = omega arith in
-    c.loop-k.invariant ∙ ap (λ (n : ℕ). map (λ k. moved_by c.args.theta (shift_of c.args.lp.now.matrix c.args.shift.now k) (limit_on c.args.lp.now c.args.side k)) (numbers_from 1 n)) all
+    c.loop-k.invariant
+    ∙ ap (λ (n : ℕ). map (λ k. moved_by c.args.theta (shift_of c.args.lp.now.matrix c.args.shift.now k) (limit_on c.args.lp.now c.args.side k))
+    (numbers_from 1 n)) all
 
 pub returns-in_err-now-clause-overflow : goal.returns-in_err-now-clause-overflow
 returns-in_err-now-clause-overflow c =

@@ -14,7 +14,10 @@ returns-in_default-clause-approach c = inl (ap (side_ahead c.args.slope) (sym c.
 
 pub returns-in_default-limit_on-clause-approach : goal.returns-in_default-limit_on-clause-approach
 returns-in_default-limit_on-clause-approach c =
-    inr (c.in-Some.side, (ap (side_ahead c.args.slope) (sym c.shift_of-by.ensures) ∙ sym c.side_ahead.ensures ∙ c.in-Some.is, sym c.limit_on.ensures ∙ c.in_default-limit_on.is))
+    inr (
+      c.in-Some.side,
+      (ap (side_ahead c.args.slope) (sym c.shift_of-by.ensures) ∙ sym c.side_ahead.ensures ∙ c.in-Some.is, sym c.limit_on.ensures ∙ c.in_default-limit_on.is),
+    )
 
 pub returns-in_err-closing-clause-moves : goal.returns-in_err-closing-clause-moves
 returns-in_err-closing-clause-moves c =
@@ -33,7 +36,8 @@ returns-in_err-distance-clause-moves c =
 pub returns-in_err-distance-clause-refused : goal.returns-in_err-distance-clause-refused
 returns-in_err-distance-clause-refused c =
     let is_err : c.from_residual-in_err-distance.result ≡ Err c.in_err-distance.field-0.0 = search rules in
-    let named : c.formula-2.result ≡ basic_formula 6 c.args.k (number_of c.in-Some.side) = c.formula-2.ensures ∙ ap (λ n. basic_formula 6 c.args.k n) c.number_of.ensures in
+    let named : c.formula-2.result ≡ basic_formula 6 c.args.k (number_of c.in-Some.side) =
+    c.formula-2.ensures ∙ ap (λ n. basic_formula 6 c.args.k n) c.number_of.ensures in
     rw is_err
     (of_distance c.in-Some.side c.in-Some-limit_on.limit (sym c.limit_on.ensures ∙ c.in-Some-limit_on.is)
     (subst (λ (f : Formula). IsRefusal f Sub c.in-Some-limit_on.limit c.args.value c.in_err-distance.field-0.0) named c.in_err-distance.ensures.refused))

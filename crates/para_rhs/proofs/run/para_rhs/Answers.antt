@@ -12,11 +12,14 @@ pub returns-in_err-moving-clause-stops : goal.returns-in_err-moving-clause-stops
 returns-in_err-moving-clause-stops g c =
     let p = err_from_is_err_and c.from_residual.result c.from_residual.ensures.1 in
     rw (p.1, p.2)
-    (no_opening c.args.lp.now c.args.run.now.shift.items (record { from = c.args.run.now.from; to = c.args.run.now.to; limit = c.args.run.now.limit }) c.args.basis.now c.args.basis.now (g.R.Rates.state c.args.rates.now).waypoints
+    (no_opening c.args.lp.now c.args.run.now.shift.items
+    (record { from = c.args.run.now.from; to = c.args.run.now.to; limit = c.args.run.now.limit }) c.args.basis.now c.args.basis.now
+    (g.R.Rates.state c.args.rates.now).waypoints
     (g.R.Rates.state c.args.rates.now).waypoints refl NoMemory tt)
 
 pub returns-in_err-moving-clause-waypoints : goal.returns-in_err-moving-clause-waypoints
-returns-in_err-moving-clause-waypoints g c = record { place = InOpening c.args.basis.now; path = []; ends = []; reaches = begins; is_now = refl; lie = λ earlier lie. lie }
+returns-in_err-moving-clause-waypoints g c =
+    record { place = InOpening c.args.basis.now; path = []; ends = []; reaches = begins; is_now = refl; lie = λ earlier lie. lie }
 
 pub returns-in_err-moving-clause-complete : goal.returns-in_err-moving-clause-complete
 returns-in_err-moving-clause-complete g c report path goes =

@@ -16,4 +16,6 @@ loop-k-preserved c =
 pub returns-clause-shifts : goal.returns-clause-shifts
 returns-clause-shifts c =
     let all : c.loop-k.k ≡ size c.args.lp.now.matrix = omega arith in
-    c.loop-k.invariant ∙ ap (λ (n : ℕ). map (λ k. option_map (λ x. shift_of c.args.lp.now.matrix c.args.shift.now k) (limit_on c.args.lp.now c.args.side k)) (numbers_from 1 n)) all
+    c.loop-k.invariant
+    ∙ ap (λ (n : ℕ). map (λ k. option_map (λ x. shift_of c.args.lp.now.matrix c.args.shift.now k) (limit_on c.args.lp.now c.args.side k))
+    (numbers_from 1 n)) all

@@ -5,12 +5,21 @@ use Rattle.parametric_run.specs.declared.workspace.Workspace.{Workspace}
 use Rattle.para_rhs.proofs.turns.return_of.Goals as goal
 
 pub returning-requires-clause-moves : goal.returning-requires-clause-moves
-returning-requires-clause-moves g c = rw c.values-direction.ensures (c.requires.pivot (value_at c.read_direction.new.self.direction) c.in_ok-read_direction.ensures.direction)
+returning-requires-clause-moves g c =
+    rw c.values-direction.ensures (c.requires.pivot (value_at c.read_direction.new.self.direction) c.in_ok-read_direction.ensures.direction)
 
 pub returns-in-Err-clause-overflow : goal.returns-in-Err-clause-overflow
 returns-in-Err-clause-overflow g c =
     by_return (value_at c.read_direction.new.self.direction) c.in_ok-read_direction.ensures.direction
-    (rw (c.deref.ensures.value, c.values-direction.ensures, c.limit_broken-to.ensures, c.is_lower.ensures, ap (λ (w : Workspace). w.point.items) c.in_ok-read_direction.ensures.others) at c.in-Err.ensures.refused)
+    (rw (
+      c.deref.ensures.value,
+      c.values-direction.ensures,
+      c.limit_broken-to.ensures,
+      c.is_lower.ensures,
+      ap
+          (λ (w : Workspace). w.point.items) c.in_ok-read_direction.ensures.others,
+    ) at c.in-Err.ensures.refused)
 
 pub returns-in-Ok-clause-stopper : goal.returns-in-Ok-clause-stopper
-returns-in-Ok-clause-stopper g c = rw (c.deref.ensures.value, c.values-direction.ensures, c.limit_broken-to.ensures, c.is_lower.ensures) at c.in-Ok.ensures.stopper
+returns-in-Ok-clause-stopper g c =
+    rw (c.deref.ensures.value, c.values-direction.ensures, c.limit_broken-to.ensures, c.is_lower.ensures) at c.in-Ok.ensures.stopper

@@ -7,7 +7,11 @@ pub returns-in_default-clause-fault : goal.returns-in_default-clause-fault
 returns-in_default-clause-fault c = no_last (sym c.parmax.ensures ∙ c.in_default.is)
 
 pub returns-then-is_less-clause-fault : goal.returns-then-is_less-clause-fault
-returns-then-is_less-clause-fault c = last_is_less c.args.cells.now c.in-Some.last c.param.result (sym c.parmax.ensures ∙ c.in-Some.is) c.param.ensures c.is_less.result c.is_less.ensures c.if-is_less.true
+returns-then-is_less-clause-fault c =
+    last_is_less c.args.cells.now c.in-Some.last c.param.result
+    (sym c.parmax.ensures ∙ c.in-Some.is) c.param.ensures c.is_less.result c.is_less.ensures c.if-is_less.true
 
 pub returns-clause-last : goal.returns-clause-last
-returns-clause-last c = last_serves c.args.cells.now c.in-Some.last c.param.result (sym c.parmax.ensures ∙ c.in-Some.is) c.param.ensures c.is_less.result c.is_less.ensures c.if-is_less.false
+returns-clause-last c =
+    last_serves c.args.cells.now c.in-Some.last c.param.result
+    (sym c.parmax.ensures ∙ c.in-Some.is) c.param.ensures c.is_less.result c.is_less.ensures c.if-is_less.false

@@ -10,7 +10,8 @@ pub returns-in_err-refresh-clause-overflow : goal.returns-in_err-refresh-clause-
 returns-in_err-refresh-clause-overflow g c =
     let p = err_from_is_err_and c.from_residual-in_err-refresh.result c.from_residual-in_err-refresh.ensures.1 in
     rw (p.1, p.2)
-    (refused_later (g.M.Parametric.problem c.args.method.now) c.args.basis.now (g.R.Rates.state c.args.rates.now).waypoints (g.R.Rates.state c.point.new.rates).waypoints (g.R.Rates.state c.refresh.new.rates).waypoints c.in_err-refresh.field-0.0
+    (refused_later (g.M.Parametric.problem c.args.method.now) c.args.basis.now (g.R.Rates.state c.args.rates.now).waypoints
+    (g.R.Rates.state c.point.new.rates).waypoints (g.R.Rates.state c.refresh.new.rates).waypoints c.in_err-refresh.field-0.0
     c.in_ok-point.ensures.rates.1 c.in_err-refresh.ensures.overflow)
 
 pub returns-clause-rates : goal.returns-clause-rates

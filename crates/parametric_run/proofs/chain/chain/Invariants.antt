@@ -18,5 +18,6 @@ invariant-parts g l = record {
   forward : l.theta ≤ℚ l.span.to;
   within : l.left ≤ l.fn.opened.left;
   begins : Begins (g.M.Parametric.problem l.method) l.span l.fn.basis l.fn.opened.left (map part_of l.parts.items) l.theta l.basis l.left;
-  any : OpensAny (g.M.Parametric.problem l.method) l.span l.fn.basis l.fn.opened.left (g.R.Rates.state l.fn.rates).waypoints l.theta l.basis (g.R.Rates.state l.rates).waypoints l.left;
+  any : OpensAny (g.M.Parametric.problem l.method) l.span l.fn.basis l.fn.opened.left (g.R.Rates.state l.fn.rates).waypoints l.theta l.basis
+      (g.R.Rates.state l.rates).waypoints l.left;
 }

@@ -13,5 +13,6 @@ invariant-turns g l = record {
   workspace : IsWorkspaceOf (g.M.Parametric.problem l.method) l.basis l.workspace;
   optimal : IsOptimalBasis ((g.M.Parametric.problem l.method).family l.fn.theta) l.basis;
   reach : FacesReach (g.M.Parametric.problem l.method) l.fn.theta l.fn.basis l.basis l.fn.begun l.left;
-  any : AnyRun (g.M.Parametric.problem l.method) l.fn.theta l.fn.basis l.basis (g.R.Rates.state l.fn.rates).waypoints (g.R.Rates.state l.rates).waypoints l.fn.begun l.left;
+  any : AnyRun (g.M.Parametric.problem l.method) l.fn.theta l.fn.basis l.basis (g.R.Rates.state l.fn.rates).waypoints
+      (g.R.Rates.state l.rates).waypoints l.fn.begun l.left;
 }

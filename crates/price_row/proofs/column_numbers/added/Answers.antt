@@ -16,4 +16,5 @@ returns-then-number-eq0-clause-value c =
 pub returns-clause-value : goal.returns-clause-value
 returns-clause-value c =
     summed_more c.sum.result _ _ _ c.args.total c.in_ok-more.more (c.args.y *ℚ whole c.args.number) (read_fitting c.args.total c.requires.total)
-    (read_fitting c.in_ok-more.more c.in_ok-more.ensures.fits) (c.in_ok-more.ensures.value ∙ ap (λ n. c.args.y *ℚ whole n) (read_fitting c.args.number c.requires.number)) c.sum.ensures
+    (read_fitting c.in_ok-more.more c.in_ok-more.ensures.fits)
+    (c.in_ok-more.ensures.value ∙ ap (λ n. c.args.y *ℚ whole n) (read_fitting c.args.number c.requires.number)) c.sum.ensures

@@ -23,7 +23,8 @@ loop-entry-preserved c =
           ∙ ap₂ (λ (m n : ℤ). whole m +ℚ c.entry-item.result.value *ℚ whole n) refl (read_fitting c.in_ok-number.number c.in_ok-number.ensures.fits)
           ∙ ap₂ (λ s t. s +ℚ c.entry-item.result.value *ℚ t) c.loop-entry.invariant.sum c.in_ok-number.ensures.value
           ∙ over_more before x c.entry-item.result.value c.args.denominator
-          ∙ ap (λ s. s *ℚ c.args.denominator) (sym (products_more c.args.values.now c.args.column.now c.loop-entry.entry-index c.entry-item.result zero_ℚ c.loop-entry-test.true c.entry-item.is));
+          ∙ ap (λ s. s *ℚ c.args.denominator)
+          (sym (products_more c.args.values.now c.args.column.now c.loop-entry.entry-index c.entry-item.result zero_ℚ c.loop-entry-test.true c.entry-item.is));
       fits = subst (λ z. Fits z) (sym (read_fitting c.in_ok-total.total c.in_ok-total.ensures.fits)) c.in_ok-total.ensures.fits;
       over = c.in_ok-number.ensures.over;
     }

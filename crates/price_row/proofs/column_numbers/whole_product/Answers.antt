@@ -8,5 +8,6 @@ pub returns-clause-value : goal.returns-clause-value
 returns-clause-value c =
     multiplied c.product.result _ _ _ c.in_ok-times.times c.args.multiple c.args.x (read_fitting c.num.result c.num.ensures.fits ∙ c.num.ensures.value)
     (read_fitting c.in_ok-times.times c.in_ok-times.ensures.fits)
-    (sym (read_fitting c.args.multiple c.requires) ∙ c.in_ok-times.ensures.value ∙ ap (λ d. c.in_ok-times.times *ℤ d) (read_fitting c.den.result c.den.ensures.fits ∙ c.den.ensures.value))
+    (sym (read_fitting c.args.multiple c.requires) ∙ c.in_ok-times.ensures.value
+    ∙ ap (λ d. c.in_ok-times.times *ℤ d) (read_fitting c.den.result c.den.ensures.fits ∙ c.den.ensures.value))
     c.product.ensures

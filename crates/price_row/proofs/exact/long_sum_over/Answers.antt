@@ -11,11 +11,13 @@ use Rattle.lp_laws.proofs.Places.{value_at_place}
 pub loop-entry-preserved : goal.loop-entry-preserved
 loop-entry-preserved c =
     let within : IsEntryWithin (length c.args.values.now) c.entry-item.result =
-    subst (λ (x : EtaEntry). IsEntryWithin (length c.args.values.now) x) (sym c.entry-item.is) (c.requires c.loop-entry.entry-index c.entry-item.result c.loop-entry-test.true) in
+    subst (λ (x : EtaEntry). IsEntryWithin (length c.args.values.now) x) (sym c.entry-item.is)
+    (c.requires c.loop-entry.entry-index c.entry-item.result c.loop-entry-test.true) in
     elim c.if-entry-p.branch [
       | then-entry-p+in_ok-sum-2 w ↦
           w.sum-is ∙ w.in_ok-sum-2.ensures
-          ∙ ap (λ x. c.loop-entry.sum +ℚ x *ℚ c.entry-item.result.rate) (value_at_place c.args.values.now c.entry-item.result.i w.index-values-entry.result within.0 within.1 w.index-values-entry.is)
+          ∙ ap (λ x. c.loop-entry.sum +ℚ x *ℚ c.entry-item.result.rate)
+          (value_at_place c.args.values.now c.entry-item.result.i w.index-values-entry.result within.0 within.1 w.index-values-entry.is)
           ∙ ap (λ s. s +ℚ value_at c.args.values.now c.entry-item.result.i *ℚ c.entry-item.result.rate) c.loop-entry.invariant
           ∙ sym (weighted_more c.args.p c.args.values.now c.args.entries.now c.loop-entry.entry-index c.entry-item.result c.args.first c.loop-entry-test.true c.entry-item.is w.if-entry-p.true)
       | else-entry-p w ↦

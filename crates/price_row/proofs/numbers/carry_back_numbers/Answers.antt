@@ -24,7 +24,8 @@ returns-then-is_zero-clause-known g c =
     c.in-Some.whole.scale c.in-Some.whole.pivot c.in-Some.whole.entries.now c.in-Some.ensures
     c.args.row c.requires.basic c.size-size.ensures.nonsingular c.args.denominator (g.N.Numbers.fractions c.args.out.now) c.requires.places c.requires.known
     (g.N.Numbers.fraction c.zero.result) c.zero.ensures.value (g.N.Numbers.fractions c.write.new.self) c.in_ok-write.ensures.number c.write.ensures.places
-    (map g.N.Numbers.fraction c.all.result.now) c.all.ensures.numbers (g.N.Numbers.fraction c.in_ok-sum.sum) c.in_ok-sum.ensures.value (c.is_zero.ensures c.if-is_zero.true)
+    (map g.N.Numbers.fraction c.all.result.now) c.all.ensures.numbers (g.N.Numbers.fraction c.in_ok-sum.sum) c.in_ok-sum.ensures.value
+    (c.is_zero.ensures c.if-is_zero.true)
 
 pub returns-clause-known : goal.returns-clause-known
 returns-clause-known g c =
@@ -40,7 +41,8 @@ returns-clause-known g c =
     c.in_ok-ratio.ratio c.terms-number.result.1 c.terms-number.result.0 c.in_ok-denominator.denominator low written
     c.in_ok-ratio.ensures.value c.terms-number.ensures.apart c.terms-number.ensures.product c.in_ok-denominator.ensures c.in_ok-multiply_by.ensures.products c.multiply_by.ensures.places
     (c.in_ok-write-2.ensures.number ∙ ap (set low (c.eta-eta.result.p - 1)) (c.in_ok-made.ensures.value ∙ c.neg.ensures)) in
-    some_map c.reduce_over.result (λ e. IsSameOver c.in_ok-denominator.denominator written e left) (λ e. Represent (IsKnown c.args.file.now c.args.place c.args.row) e left)
+    some_map c.reduce_over.result (λ e. IsSameOver c.in_ok-denominator.denominator written e left)
+    (λ e. Represent (IsKnown c.args.file.now c.args.place c.args.row) e left)
     (λ e same. known_reduced c.args.file.now c.args.place c.args.row c.in_ok-denominator.denominator e written left same carried) c.reduce_over.ensures.same
 
 pub reduce_over-requires : goal.reduce_over-requires

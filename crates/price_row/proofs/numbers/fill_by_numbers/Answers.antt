@@ -8,9 +8,11 @@ loop-place-preserved g c =
     let below : c.loop-place.place < length c.loop-place.out = omega (arith, c.loop-place.invariant.counted) in
     record {
       counted = search rules;
-      filled = filled_next c.args.file.now c.loop-place.place c.args.row c.loop-place.out c.in_ok-out.field-0 below c.loop-place.invariant.filled c.in_ok-out.ensures;
+      filled =
+          filled_next c.args.file.now c.loop-place.place c.args.row c.loop-place.out c.in_ok-out.field-0 below c.loop-place.invariant.filled c.in_ok-out.ensures;
     }
 
 pub returns : goal.returns
 returns g c =
-    filled_row c.args.file.now c.loop-place.place c.args.row c.loop-place.out c.size-place-end.ensures.basics c.size-place-end.ensures.passed (omega (arith, c.loop-place-test.false, c.size-place-end.ensures.size)) c.loop-place.invariant.filled
+    filled_row c.args.file.now c.loop-place.place c.args.row c.loop-place.out c.size-place-end.ensures.basics c.size-place-end.ensures.passed
+    (omega (arith, c.loop-place-test.false, c.size-place-end.ensures.size)) c.loop-place.invariant.filled

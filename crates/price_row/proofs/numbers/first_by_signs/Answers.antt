@@ -15,4 +15,5 @@ returns-then-wanted-clause-least g c = λ rates row.
 
 pub returns-clause-least : goal.returns-clause-least
 returns-clause-least g c = λ rates row.
-    least_none c.args.sought.now.wanted.now c.args.sought.now.up rates c.loop-place.place (c.loop-place.invariant rates row) (omega (arith, c.loop-place-test.false, c.size-place-end.ensures.size, c.requires.wanted_places))
+    least_none c.args.sought.now.wanted.now c.args.sought.now.up rates c.loop-place.place (c.loop-place.invariant rates row)
+    (omega (arith, c.loop-place-test.false, c.size-place-end.ensures.size, c.requires.wanted_places))

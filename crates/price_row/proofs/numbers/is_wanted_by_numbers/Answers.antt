@@ -6,9 +6,11 @@ use Rattle.price_row.proofs.numbers.is_wanted_by_numbers.Goals.{then-is_nothing_
 pub returns-then-is_nothing_wanted : goal.returns-then-is_nothing_wanted
 returns-then-is_nothing_wanted g c = λ denominator known is_up rates row. elim c.then-is_nothing_wanted.branch [
   | then-is_nothing_wanted-via-then-is_nothing_wanted w ↦
-      nothing_there c.args.file.now c.args.sought.now.row c.args.place c.args.sought.now.wanted.now c.args.sought.now.up c.requires.within rates (c.is_nothing_wanted.ensures w.if-is_nothing_wanted.true)
+      nothing_there c.args.file.now c.args.sought.now.row c.args.place c.args.sought.now.wanted.now c.args.sought.now.up c.requires.within rates
+      (c.is_nothing_wanted.ensures w.if-is_nothing_wanted.true)
   | then-is_nothing_wanted-via-else-is_nothing_wanted+then-is_basic w ↦
-      basic_there c.args.file.now c.args.sought.now.row c.args.place c.args.sought.now.wanted.now c.args.sought.now.up c.requires.within rates (sym w.is_basic.ensures ∙ w.if-is_basic.true) row
+      basic_there c.args.file.now c.args.sought.now.row c.args.place c.args.sought.now.wanted.now c.args.sought.now.up c.requires.within rates
+      (sym w.is_basic.ensures ∙ w.if-is_basic.true) row
 ]
 
 pub returns : goal.returns

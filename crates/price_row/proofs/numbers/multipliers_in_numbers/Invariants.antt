@@ -6,4 +6,6 @@ use Rattle.price_row.proofs.numbers.multipliers_in_numbers.Given as goal
 
 -- the multipliers are those of the set before the etas that are done
 abbrev pub invariant-loop-back : goal.invariant-loop-back
-invariant-loop-back g l = (length (g.N.Numbers.fractions l.out) ≡ size l.file.matrix) × Represent (IsKnown l.file (length l.file.etas - l.back) l.row) l.denominator (g.N.Numbers.fractions l.out)
+invariant-loop-back g l =
+    (length (g.N.Numbers.fractions l.out) ≡ size l.file.matrix) × Represent (IsKnown l.file (length l.file.etas - l.back) l.row) l.denominator
+    (g.N.Numbers.fractions l.out)

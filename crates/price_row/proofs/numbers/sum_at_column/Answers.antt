@@ -12,5 +12,6 @@ sum_of_words-requires-clause-within g c =
 pub returns-in-Some-clause-value : goal.returns-in-Some-clause-value
 returns-in-Some-clause-value g c =
     some_map c.sum_of_words.result _ _
-    (λ n is_n. words_sum (map g.N.Numbers.fraction c.args.numbers.now) (column c.args.file.now.matrix c.args.j) c.in-Some.words.now (g.N.Numbers.fraction n) c.in-Some.ensures is_n)
+    (λ n is_n. words_sum (map g.N.Numbers.fraction c.args.numbers.now) (column c.args.file.now.matrix c.args.j) c.in-Some.words.now
+    (g.N.Numbers.fraction n) c.in-Some.ensures is_n)
     c.sum_of_words.ensures.value

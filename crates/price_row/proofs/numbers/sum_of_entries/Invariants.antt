@@ -9,6 +9,7 @@ use Rattle.price_row.proofs.numbers.sum_of_entries.Given as goal
 abbrev pub invariant-loop-entry : goal.invariant-loop-entry
 invariant-loop-entry g l = record {
   total : (p : ℕ) → value_at (map g.N.Numbers.fraction l.numbers) p ≡ zero_ℚ
-      → g.N.Numbers.fraction l.sum ≡ sum_from (g.N.Numbers.fraction l.fn.first) (weighted p (map g.N.Numbers.fraction l.numbers) (take l.entry-index l.entries));
+      → g.N.Numbers.fraction l.sum ≡ sum_from (g.N.Numbers.fraction l.fn.first)
+      (weighted p (map g.N.Numbers.fraction l.numbers) (take l.entry-index l.entries));
   sound : g.N.Numbers.is_sound l.sum;
 }

@@ -12,7 +12,9 @@ loop-entry-preserved g c =
     record {
       total =
           words_more (map g.N.Numbers.fraction c.args.numbers.now) c.args.words.now c.loop-entry.entry-index nought
-          (g.N.Numbers.fraction c.loop-entry.sum) (g.N.Numbers.fraction c.number_at-number.result) _ (g.N.Numbers.fraction c.in_ok-sum.sum) c.loop-entry-test.true c.loop-entry.invariant.total
-          c.number_at-number.ensures.value (ap whole (to_z-of_z w64 (get_or c.args.words.now c.loop-entry.entry-index nought).value (search rules))) c.in_ok-sum.ensures.value;
+          (g.N.Numbers.fraction c.loop-entry.sum) (g.N.Numbers.fraction c.number_at-number.result) _
+          (g.N.Numbers.fraction c.in_ok-sum.sum) c.loop-entry-test.true c.loop-entry.invariant.total
+          c.number_at-number.ensures.value
+          (ap whole (to_z-of_z w64 (get_or c.args.words.now c.loop-entry.entry-index nought).value (search rules))) c.in_ok-sum.ensures.value;
       sound = c.in_ok-sum.ensures.sound;
     }

@@ -14,7 +14,8 @@ returns-clause-value g c =
     let lead = value_at xs c.args.q *ℚ c.args.whole.now.scale in
     let first : g.N.Numbers.fraction c.in_ok-first.first ≡ lead =
     c.in_ok-first.ensures.value ∙ ap₂ (λ s x. s +ℚ x *ℚ c.args.whole.now.scale) c.zero.ensures.value c.number_at-lead.ensures.value ∙ zero-add lead in
-    some_map c.sum_of_entries.result (λ v. (p : ℕ) → value_at xs p ≡ zero_ℚ → g.N.Numbers.fraction v ≡ sum_from (g.N.Numbers.fraction c.in_ok-first.first) (weighted p xs es))
+    some_map c.sum_of_entries.result
+    (λ v. (p : ℕ) → value_at xs p ≡ zero_ℚ → g.N.Numbers.fraction v ≡ sum_from (g.N.Numbers.fraction c.in_ok-first.first) (weighted p xs es))
     (λ v. (p : ℕ) → value_at xs p ≡ zero_ℚ → g.N.Numbers.fraction v ≡ sum_from lead (weighted p xs es))
     (λ v total p none. total p none ∙ ap (λ x. sum_from x (weighted p xs es)) first)
     c.sum_of_entries.ensures.value

@@ -15,4 +15,5 @@ returns-in_err-high-clause-refused c =
 
 pub returns-clause-interval : goal.returns-clause-interval
 returns-clause-interval c t =
-    moved_is c.args.stands t c.args.ends.now c.in_ok-low.low c.in_ok-high.high (IsOwn c.args.lp.now c.args.basis.now c.args.k t) (IsIn c.up_to_other.result t) c.in_ok-low.ensures.value c.in_ok-high.ensures.value (c.up_to_other.ensures t)
+    moved_is c.args.stands t c.args.ends.now c.in_ok-low.low c.in_ok-high.high (IsOwn c.args.lp.now c.args.basis.now c.args.k t)
+    (IsIn c.up_to_other.result t) c.in_ok-low.ensures.value c.in_ok-high.ensures.value (c.up_to_other.ensures t)

@@ -11,8 +11,11 @@ use Rattle.lp_laws.proofs.Places.{value_next, value_read}
 pub returns-in_err-now-clause-refused : goal.returns-in_err-now-clause-refused
 returns-in_err-now-clause-refused c =
     let is_err : c.from_residual-in_err-now.result ≡ Err c.in_err-now.field-0.0 = search rules in
-    let value : c.index-point-i.result ≡ value_at c.args.point.now c.args.i = value_read c.args.point.now c.args.i c.index-point-i.result (omega arith) c.index-point-i.is in
-    rw is_err (inr (rate_refused c.args.lp.now (value_at c.args.point.now c.args.i) c.args.i (value_at c.args.row.now) (c.loop-k.k + 1) c.index-row-k.result c.in_err-now.field-0.0 c.in_ok-far.far
+    let value : c.index-point-i.result ≡ value_at c.args.point.now c.args.i =
+    value_read c.args.point.now c.args.i c.index-point-i.result (omega arith) c.index-point-i.is in
+    rw is_err (inr
+    (rate_refused c.args.lp.now (value_at c.args.point.now c.args.i) c.args.i (value_at c.args.row.now)
+    (c.loop-k.k + 1) c.index-row-k.result c.in_err-now.field-0.0 c.in_ok-far.far
     (c.in_ok-far.ensures.distances ∙ ap (λ v. distances_of c.args.lp.now v c.args.i) value)
     (omega arith, omega arith)
     (value_next c.args.row.now c.loop-k.k c.index-row-k.result (omega arith) c.index-row-k.is)
@@ -20,13 +23,21 @@ returns-in_err-now-clause-refused c =
 
 pub loop-k-preserved : goal.loop-k-preserved
 loop-k-preserved c =
-    let value : c.index-point-i.result ≡ value_at c.args.point.now c.args.i = value_read c.args.point.now c.args.i c.index-point-i.result (omega arith) c.index-point-i.is in
-    let rate : value_at c.args.row.now (c.loop-k.k + 1) ≡ c.index-row-k.result = value_next c.args.row.now c.loop-k.k c.index-row-k.result (omega arith) c.index-row-k.is in
+    let value : c.index-point-i.result ≡ value_at c.args.point.now c.args.i =
+    value_read c.args.point.now c.args.i c.index-point-i.result (omega arith) c.index-point-i.is in
+    let rate : value_at c.args.row.now (c.loop-k.k + 1) ≡ c.index-row-k.result =
+    value_next c.args.row.now c.loop-k.k c.index-row-k.result (omega arith) c.index-row-k.is in
     record {
-      met = met_next c.args.lp.now c.args.basis.now (value_at c.args.point.now c.args.i) (value_at c.args.row.now) c.args.i c.args.ends.now c.loop-k.k c.loop-k.ends c.index-ends-k.result c.in_ok-now.now (omega arith) c.index-ends-k.is
-          (λ stands. met c.args.lp.now (value_at c.args.point.now c.args.i) c.args.i c.requires.low c.requires.high (value_at c.args.row.now (c.loop-k.k + 1)) c.in_ok-far.far
-          (c.in_ok-far.ensures.distances ∙ ap (λ v. distances_of c.args.lp.now v c.args.i) value) (stands_at_limit (status_of c.args.basis.now (c.loop-k.k + 1))) stands c.index-ends-k.result c.in_ok-now.now
-          (subst (λ r. IsWithBasic (stands_at_limit (status_of c.args.basis.now (c.loop-k.k + 1))) c.in_ok-far.far r c.args.i c.index-ends-k.result c.in_ok-now.now) (sym rate) c.in_ok-now.ensures.ends))
+      met =
+          met_next c.args.lp.now c.args.basis.now (value_at c.args.point.now c.args.i)
+          (value_at c.args.row.now) c.args.i c.args.ends.now c.loop-k.k c.loop-k.ends c.index-ends-k.result c.in_ok-now.now (omega arith) c.index-ends-k.is
+          (λ stands. met c.args.lp.now (value_at c.args.point.now c.args.i) c.args.i c.requires.low c.requires.high
+          (value_at c.args.row.now (c.loop-k.k + 1)) c.in_ok-far.far
+          (c.in_ok-far.ensures.distances ∙ ap (λ v. distances_of c.args.lp.now v c.args.i) value)
+          (stands_at_limit (status_of c.args.basis.now (c.loop-k.k + 1))) stands c.index-ends-k.result c.in_ok-now.now
+          (subst (λ r. IsWithBasic
+          (stands_at_limit (status_of c.args.basis.now (c.loop-k.k + 1))) c.in_ok-far.far r c.args.i c.index-ends-k.result c.in_ok-now.now)
+          (sym rate) c.in_ok-now.ensures.ends))
           c.loop-k.invariant.met;
       places = length-set c.loop-k.ends c.loop-k.k c.in_ok-now.now ∙ c.loop-k.invariant.places;
     }

@@ -6,4 +6,6 @@ use Rattle.ranging.specs.Lists.{ListsTo}
 use Rattle.ranging.proofs.lists.limit_list.Given as goal
 
 abbrev pub invariant-loop-k : goal.invariant-loop-k
-invariant-loop-k l = ListsTo (filter (λ k. stands_at_limit (status_of l.at.basis.now k)) (numbers_from 1 l.k)) (λ k t. IsOptimalBasis (with_limit l.at.lp.now l.at.basis.now k t) l.at.basis.now) l.list.items
+invariant-loop-k l =
+    ListsTo (filter (λ k. stands_at_limit (status_of l.at.basis.now k)) (numbers_from 1 l.k))
+    (λ k t. IsOptimalBasis (with_limit l.at.lp.now l.at.basis.now k t) l.at.basis.now) l.list.items

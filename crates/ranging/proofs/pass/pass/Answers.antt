@@ -29,7 +29,8 @@ pub returns-in_err-visit_basic-clause-overflow : goal.returns-in_err-visit_basic
 returns-in_err-visit_basic-clause-overflow g c =
     let is_err : c.from_residual.result ≡ Err c.in_err-visit_basic.field-0.0 = search rules in
     rw is_err (IfOverflow-map c.in_err-visit_basic.field-0.0
-    (λ e h. range_refused_later c.args.at.now.lp.now (g.R.Rates.state c.args.rates.now).waypoints (g.R.Rates.state c.loop-k.rates).waypoints (g.R.Rates.state c.visit_basic.new.rates).waypoints c.args.at.now.basis.now e c.loop-k.invariant.rates.1 h)
+    (λ e h. range_refused_later c.args.at.now.lp.now (g.R.Rates.state c.args.rates.now).waypoints (g.R.Rates.state c.loop-k.rates).waypoints
+    (g.R.Rates.state c.visit_basic.new.rates).waypoints c.args.at.now.basis.now e c.loop-k.invariant.rates.1 h)
     c.in_err-visit_basic.ensures.overflow)
 
 pub loop-k-preserved : goal.loop-k-preserved

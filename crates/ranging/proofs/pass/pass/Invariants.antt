@@ -6,7 +6,8 @@ use Rattle.ranging.proofs.pass.pass.Given as goal
 
 abbrev pub invariant-loop-k : goal.invariant-loop-k
 invariant-loop-k g l = record {
-  rates : KeepsRates (g.R.Rates.state l.rates).matrix (g.R.Rates.state l.rates).basics l.at.lp.now l.at.basis.now (g.R.Rates.state l.initial.rates).waypoints (g.R.Rates.state l.rates).waypoints;
+  rates : KeepsRates (g.R.Rates.state l.rates).matrix (g.R.Rates.state l.rates).basics l.at.lp.now l.at.basis.now (g.R.Rates.state l.initial.rates).waypoints
+      (g.R.Rates.state l.rates).waypoints;
   row_places : length l.row ≡ length l.initial.row;
   found_places : length l.found ≡ length l.initial.found;
   end_places : length l.ends ≡ length l.initial.ends;

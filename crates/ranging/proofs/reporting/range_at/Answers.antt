@@ -21,15 +21,21 @@ pub pass-requires-clause-begins : goal.pass-requires-clause-begins
 pass-requires-clause-begins g c =
     let counted : c.number_of_variables-size.result ≡ size c.args.at.now.lp.now.matrix = search rules in
     let items : c.deref_mut-3.result.now ≡ replicate c.number_of_variables-size.result c.without_ends-2.result = search rules in
-    met_begins c.args.at.now.lp.now c.args.at.now.basis.now c.number_of_variables-size.ensures.lawful c.requires.optimum.no_change c.requires.optimum.optimal (value_at c.args.at.now.point.now) c.requires.optimum.point c.deref_mut-3.result.now
-    (λ k is. ap (λ xs. ends_at xs k) items ∙ get_or-replicate c.number_of_variables-size.result (k - 1) c.without_ends-2.result no_ends (omega (arith, counted, is.0, is.1)) ∙ c.without_ends-2.ensures)
+    met_begins c.args.at.now.lp.now c.args.at.now.basis.now c.number_of_variables-size.ensures.lawful c.requires.optimum.no_change c.requires.optimum.optimal
+    (value_at c.args.at.now.point.now) c.requires.optimum.point c.deref_mut-3.result.now
+    (λ k is. ap (λ xs. ends_at xs k) items
+    ∙ get_or-replicate c.number_of_variables-size.result (k - 1) c.without_ends-2.result no_ends (omega (arith, counted, is.0, is.1))
+    ∙ c.without_ends-2.ensures)
 
 pub report-requires-clause-met : goal.report-requires-clause-met
 report-requires-clause-met g c =
-    let same : c.deref-2.result.now ≡ c.pass.new.ends = c.deref-2.ensures.value ∙ take_all c.pass.new.ends (drop (length c.pass.new.ends) c.in_ok-ends.ends.items) c.in_ok-ends.ends.len (omega arith) in
-    subst (AllMet c.args.at.now.lp.now c.args.at.now.basis.now (value_at c.args.at.now.point.now) (size c.args.at.now.lp.now.matrix)) (sym same) c.in_ok-pass.ensures.met
+    let same : c.deref-2.result.now ≡ c.pass.new.ends =
+    c.deref-2.ensures.value ∙ take_all c.pass.new.ends (drop (length c.pass.new.ends) c.in_ok-ends.ends.items) c.in_ok-ends.ends.len (omega arith) in
+    subst (AllMet c.args.at.now.lp.now c.args.at.now.basis.now (value_at c.args.at.now.point.now) (size c.args.at.now.lp.now.matrix))
+    (sym same) c.in_ok-pass.ensures.met
 
 pub report-requires-clause-found : goal.report-requires-clause-found
 report-requires-clause-found g c =
-    let same : c.deref.result.now ≡ c.pass.new.found = c.deref.ensures.value ∙ take_all c.pass.new.found (drop (length c.pass.new.found) c.in_ok-found.found.items) c.in_ok-found.found.len (omega arith) in
+    let same : c.deref.result.now ≡ c.pass.new.found =
+    c.deref.ensures.value ∙ take_all c.pass.new.found (drop (length c.pass.new.found) c.in_ok-found.found.items) c.in_ok-found.found.len (omega arith) in
     subst (AllFound c.args.at.now.lp.now c.args.at.now.basis.now (size c.args.at.now.lp.now.matrix)) (sym same) c.in_ok-pass.ensures.found

@@ -19,7 +19,8 @@ returns-clause-direction c =
     let nonbasic : IsNonbasic inverse.matrix inverse.basics c.args.j = rw (← c.self.view_is) at c.requires.nonbasic in
     let places : length c.args.out.now ≡ size inverse.matrix = rw (← c.self.view_is) at c.requires.places in
     let filled : c.fill.new.self ≡ replicate (length c.args.out.now) c.whole.result = search rules in
-    let zeros : c.fill.new.self ≡ replicate (size inverse.matrix) zero_ℚ = filled ∙ ap (λ n. replicate n c.whole.result) places ∙ ap (λ (v : ℚ). replicate (size inverse.matrix) v) c.whole.ensures in
+    let zeros : c.fill.new.self ≡ replicate (size inverse.matrix) zero_ℚ =
+    filled ∙ ap (λ n. replicate n c.whole.result) places ∙ ap (λ (v : ℚ). replicate (size inverse.matrix) v) c.whole.ensures in
     let counted : length c.take_rates.new.out ≡ size inverse.matrix = c.take_rates.auto.out ∙ c.fill.ensures.len ∙ places in
     rw (← c.self.view_is)
     (direction_written inverse.matrix inverse.basics c.self.inside.slots.items c.self.inside.lines.items c.self.inside.quotients.items c.self.invariant.0

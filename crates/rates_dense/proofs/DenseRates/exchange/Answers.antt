@@ -54,7 +54,8 @@ returns-in-Err-clause-own c =
     let is_slot : c.index-slot.result.now ≡ get_or c.self.inside.slots.items (c.args.p - 1) 0 =
     slot_read inverse.matrix inverse.basics c.self.inside.slots.items c.self.inside.lines.items c.self.inside.quotients.items c.self.invariant.0 c.args.p c.args.q leaves enters pivot c.index-slot.result.now c.index-slot.ensures in
     let within : c.index-slot.result.now < length c.deref_mut.result.now =
-    rw (c.deref_mut.ensures.value, is_slot) (slot_within inverse.matrix inverse.basics c.self.inside.slots.items c.self.inside.lines.items c.self.inside.quotients.items c.self.invariant.0 c.args.p c.args.q leaves enters pivot) in
+    rw (c.deref_mut.ensures.value, is_slot)
+    (slot_within inverse.matrix inverse.basics c.self.inside.slots.items c.self.inside.lines.items c.self.inside.quotients.items c.self.invariant.0 c.args.p c.args.q leaves enters pivot) in
     lines_own c.args.p c.args.q c.deref_mut.result.now c.index-slot.result.now c.in-Err.evidence within c.in-Err.ensures.refused
 
 pub invariant_of-self-2 : goal.invariant_of-self-2

@@ -14,8 +14,12 @@ returns-then-eq-clause-quotient c =
 
 pub returns-then-eq-2-clause-product : goal.returns-then-eq-2-clause-product
 returns-then-eq-2-clause-product c =
-    c.neg.ensures ∙ times_minus_one c.args.x c.args.factor (same_reported c.args.factor (whole (negsuc 0)) c.whole-else-eq.result c.eq-else-eq.result c.eq-else-eq.ensures c.if-eq-2.true c.whole-else-eq.ensures)
+    c.neg.ensures
+    ∙ times_minus_one c.args.x c.args.factor
+    (same_reported c.args.factor (whole (negsuc 0)) c.whole-else-eq.result c.eq-else-eq.result c.eq-else-eq.ensures c.if-eq-2.true c.whole-else-eq.ensures)
 
 pub returns-then-eq-2-clause-quotient : goal.returns-then-eq-2-clause-quotient
 returns-then-eq-2-clause-quotient c =
-    c.neg.ensures ∙ over_minus_one c.args.x c.args.factor (same_reported c.args.factor (whole (negsuc 0)) c.whole-else-eq.result c.eq-else-eq.result c.eq-else-eq.ensures c.if-eq-2.true c.whole-else-eq.ensures)
+    c.neg.ensures
+    ∙ over_minus_one c.args.x c.args.factor
+    (same_reported c.args.factor (whole (negsuc 0)) c.whole-else-eq.result c.eq-else-eq.result c.eq-else-eq.ensures c.if-eq-2.true c.whole-else-eq.ensures)

@@ -9,9 +9,11 @@ returns-in_err-next-clause-refused c =
     let within : c.loop-place.place < length c.args.changed.now = c.loop-place-test.true in
     let number = c.requires.variables c.loop-place.place within in
     rw is_err
-    (rest_refused_at c.args.i c.args.exchange.now.p c.args.exchange.now.q c.args.quotients.now c.args.rates.now (get_or c.args.changed.now c.loop-place.place 0) c.index-rates-j.result c.index-quotients-j.result c.index-rates-q.result c.in_err-next.field-0.0
+    (rest_refused_at c.args.i c.args.exchange.now.p c.args.exchange.now.q c.args.quotients.now c.args.rates.now
+    (get_or c.args.changed.now c.loop-place.place 0) c.index-rates-j.result c.index-quotients-j.result c.index-rates-q.result c.in_err-next.field-0.0
     number.0 (omega (arith, number.1, c.requires.places))
-    (value_at_place c.args.rates.now (get_or c.args.changed.now c.loop-place.place 0) c.index-rates-j.result number.0 (omega (arith, number.1, c.requires.places)) c.index-rates-j.is)
+    (value_at_place c.args.rates.now (get_or c.args.changed.now c.loop-place.place 0) c.index-rates-j.result number.0
+    (omega (arith, number.1, c.requires.places)) c.index-rates-j.is)
     (value_at_place c.args.quotients.now (get_or c.args.changed.now c.loop-place.place 0) c.index-quotients-j.result number.0 number.1 c.index-quotients-j.is)
     (value_at_place c.args.rates.now c.args.exchange.now.q c.index-rates-q.result c.requires.q_low c.requires.q_high c.index-rates-q.is)
     c.if-j-p.false c.in_err-next.ensures.refused)

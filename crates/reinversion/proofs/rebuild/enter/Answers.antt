@@ -16,9 +16,11 @@ leaver-p-requires-clause-some c =
     let basic : is_in c.args.old.now.basics (c.args.old.now.matrix.rows + c.args.c) ≡ true =
     ap (λ m. is_in c.args.old.now.basics (m + c.args.c)) (sym c.rows.ensures) ∙ sym c.is_basic.ensures ∙ c.if-not-is_basic.false in
     let direction : IsDirectionOf c.args.old.now.matrix c.args.new.now.basics (c.args.old.now.matrix.rows + c.args.c) (value_at c.values.result.now) =
-    subst (λ (m : Matrix). IsDirectionOf m c.args.new.now.basics (c.args.old.now.matrix.rows + c.args.c) (value_at c.values.result.now)) c.requires.rebuilt.same_matrix
+    subst (λ (m : Matrix). IsDirectionOf m c.args.new.now.basics (c.args.old.now.matrix.rows + c.args.c)
+    (value_at c.values.result.now)) c.requires.rebuilt.same_matrix
     (subst (λ n. IsDirectionOf c.args.new.now.matrix c.args.new.now.basics (n + c.args.c) (value_at c.values.result.now)) c.rows.ensures
-    (subst (λ xs. IsDirectionOf c.args.new.now.matrix c.args.new.now.basics (c.rows.result + c.args.c) (value_at xs)) (sym c.values.ensures) c.in_default.ensures.direction)) in
+    (subst (λ xs. IsDirectionOf c.args.new.now.matrix c.args.new.now.basics (c.rows.result + c.args.c) (value_at xs))
+    (sym c.values.ensures) c.in_default.ensures.direction)) in
     some_leaver c.args.old.now.matrix c.args.old.now.basics c.args.c c.args.new.now c.values.result.now c.size-size.ensures.nonsingular c.requires.column basic c.requires.rebuilt direction
 
 pub returns-clause-keeps : goal.returns-clause-keeps

@@ -9,7 +9,9 @@ pub loop-entering-preserved : goal.loop-entering-preserved
 loop-entering-preserved c =
     elim c.if-entering-ge1.branch [
       | then-entering-ge1+then-entering-cols+in_ok-enter w ↦ record {
-        rebuilt = subst (λ (g : Inverse). IsRebuilt c.args.old.now.matrix c.args.old.now.basics 0 g) (sym w.new-is) (w.in_ok-enter.ensures.keeps 0 c.loop-entering.invariant.rebuilt);
+        rebuilt =
+            subst (λ (g : Inverse). IsRebuilt c.args.old.now.matrix c.args.old.now.basics 0 g) (sym w.new-is)
+            (w.in_ok-enter.ensures.keeps 0 c.loop-entering.invariant.rebuilt);
         places = ap (λ (xs : List ℚ). length xs) w.workspace-is ∙ w.in_ok-enter.ensures.places;
         wholes = ap (λ (xs : List ℚ). length xs) w.wholes-is ∙ w.in_ok-enter.ensures.wholes ∙ c.loop-entering.invariant.wholes;
       }

@@ -7,4 +7,5 @@ pub returns : goal.returns
 returns c =
     let counted = c.number_of_variables-size.ensures.lawful.is_matrix.columns_counted in
     let cols : c.lp.inside.cols ≡ c.args.lp.now.matrix.cols = ap (λ (p : LinearProgram). p.matrix.cols) c.lp.view_is in
-    cost_fits c.args.lp.now c.requires (looked_all ColumnFits c.args.lp.now.matrix.columns [] no_column_fits c.loop-j.j (omega (arith, counted, cols, c.loop-j-test.false)) c.loop-j.invariant)
+    cost_fits c.args.lp.now c.requires
+    (looked_all ColumnFits c.args.lp.now.matrix.columns [] no_column_fits c.loop-j.j (omega (arith, counted, cols, c.loop-j-test.false)) c.loop-j.invariant)

@@ -14,4 +14,5 @@ pub returns-in-Unbounded : goal.returns-in-Unbounded
 returns-in-Unbounded c =
     let point = subst (λ (xs : List ℚ). VectorFits (value_at xs)) c.values-in-Unbounded.ensures c.recall_sizes-in-Unbounded.ensures in
     let direction = subst (λ (xs : List ℚ). VectorFits (value_at xs)) c.values-in-Unbounded-2.ensures c.recall_sizes-in-Unbounded-2.ensures in
-    rw c.in-Unbounded.is (point c.args.sheet.lp.now.objective, pairs_fit c.args.sheet.problem.now c.args.sheet.lp.now c.in-Unbounded.point c.in-Unbounded.direction point direction)
+    rw c.in-Unbounded.is
+    (point c.args.sheet.lp.now.objective, pairs_fit c.args.sheet.problem.now c.args.sheet.lp.now c.in-Unbounded.point c.in-Unbounded.direction point direction)

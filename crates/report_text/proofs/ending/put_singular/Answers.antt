@@ -13,5 +13,6 @@ returns-in_err-put_verb_fault g c =
 
 pub returns : goal.returns
 returns g c =
-    writes_then c.in_ok-put_verb_fault.ensures (writes_same (ray_table c.args.sheet c.number_of_variables-last.result c.number_of_variables-last.ensures.size c.values.result
+    writes_then c.in_ok-put_verb_fault.ensures
+    (writes_same (ray_table c.args.sheet c.number_of_variables-last.result c.number_of_variables-last.ensures.size c.values.result
     ∙ ap (λ ray. table_text (ray_lines c.args.sheet.problem.now c.args.sheet.lp.now ray)) c.values.ensures) c.put_table.ensures)

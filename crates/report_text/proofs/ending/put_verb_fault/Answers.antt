@@ -5,4 +5,5 @@ use Rattle.job_devices.proofs.TextLemmas.{writes_same}
 use Rattle.report_text.proofs.ending.put_verb_fault.Goals as goal
 
 pub returns : goal.returns
-returns g c = writes_same (ap (λ n. concat (codes "STOP 10 VERB " ∷ fault_text n c.args.card ∷ codes "\n" ∷ [])) c.verb_fault_number.ensures) c.put_fault.ensures
+returns g c =
+    writes_same (ap (λ n. concat (codes "STOP 10 VERB " ∷ fault_text n c.args.card ∷ codes "\n" ∷ [])) c.verb_fault_number.ensures) c.put_fault.ensures

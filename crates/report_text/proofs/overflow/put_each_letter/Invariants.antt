@@ -5,4 +5,6 @@ use Rattle.report_text.specs.Views.{letters_of}
 use Rattle.report_text.proofs.overflow.put_each_letter.Given as goal
 
 abbrev pub invariant-loop-item : goal.invariant-loop-item
-invariant-loop-item g l = Writes {T = Unit {0}} (g.P.Sink.taken l.fn.print) (g.P.Sink.taken l.print) (Ok tt) (flat_map (letters_of g.T.Lettered.letter_of) (take l.item-index l.items))
+invariant-loop-item g l =
+    Writes {T = Unit {0}} (g.P.Sink.taken l.fn.print) (g.P.Sink.taken l.print) (Ok tt)
+    (flat_map (letters_of g.T.Lettered.letter_of) (take l.item-index l.items))

@@ -14,8 +14,12 @@ returns-in_err-put_interval g c =
     let parts = c.args.parts.now in
     let i = c.loop-index.index in
     let p = err_from_is_err_and c.from_residual.result c.from_residual.ensures.1 in
-    rw (p.1, p.2) (writes_item interval_text (enumerate_from 1 (map viewed parts)) i (0, viewed part) (numbered_inside viewed interval_text parts i c.loop-index-test.true) c.loop-index.invariant
-    (writes_same (ap (λ x. interval_text (i + 1, viewed x)) c.index-parts-index.is ∙ sym (numbered_at viewed interval_text parts i part c.loop-index-test.true)) c.in_err-put_interval.ensures))
+    rw (p.1, p.2)
+    (writes_item interval_text (enumerate_from 1 (map viewed parts)) i (0, viewed part)
+    (numbered_inside viewed interval_text parts i c.loop-index-test.true) c.loop-index.invariant
+    (writes_same
+    (ap (λ x. interval_text (i + 1, viewed x)) c.index-parts-index.is
+    ∙ sym (numbered_at viewed interval_text parts i part c.loop-index-test.true)) c.in_err-put_interval.ensures))
 
 pub loop-index-preserved : goal.loop-index-preserved
 loop-index-preserved g c =

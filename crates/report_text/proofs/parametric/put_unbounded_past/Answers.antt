@@ -16,4 +16,5 @@ pub returns : goal.returns
 returns g c =
     let lines = pair_lines c.args.sheet.problem.now c.args.sheet.lp.now c.args.point.now c.args.direction.now in
     writes_same (unbounded_parts c.args.by c.args.past lines) (writes_then c.in_ok-put_end_head.ensures
-    (writes_same (pair_table c.args.sheet c.number_of_variables-last.result c.number_of_variables-last.ensures.size c.args.point c.args.direction) c.put_table.ensures))
+    (writes_same
+    (pair_table c.args.sheet c.number_of_variables-last.result c.number_of_variables-last.ensures.size c.args.point c.args.direction) c.put_table.ensures))

@@ -13,12 +13,18 @@ put_column_section-requires g c = column_lines c.args.sheet c.args.standing c.re
 pub returns-in_err-put_mark : goal.returns-in_err-put_mark
 returns-in_err-put_mark g c =
     let p = err_from_is_err_and c.from_residual.result c.from_residual.ensures.1 in
-    rw (p.1, p.2) (writes_same (solution_written c.args.sheet c.args.standing c.args.mark) (writes_more (rows_text c.args.sheet c.args.standing ++ columns_text c.args.sheet c.args.standing) c.in_err-put_mark.ensures))
+    rw (p.1, p.2)
+    (writes_same (solution_written c.args.sheet c.args.standing c.args.mark)
+    (writes_more (rows_text c.args.sheet c.args.standing ++ columns_text c.args.sheet c.args.standing) c.in_err-put_mark.ensures))
 
 pub returns-in_err-put_row_section : goal.returns-in_err-put_row_section
 returns-in_err-put_row_section g c =
     let p = err_from_is_err_and c.from_residual-in_err-put_row_section.result c.from_residual-in_err-put_row_section.ensures.1 in
-    rw (p.1, p.2) (writes_same (solution_written c.args.sheet c.args.standing c.args.mark) (writes_then c.in_ok-put_mark.ensures (writes_more (columns_text c.args.sheet c.args.standing) c.in_err-put_row_section.ensures)))
+    rw (p.1, p.2)
+    (writes_same (solution_written c.args.sheet c.args.standing c.args.mark)
+    (writes_then c.in_ok-put_mark.ensures (writes_more (columns_text c.args.sheet c.args.standing) c.in_err-put_row_section.ensures)))
 
 pub returns : goal.returns
-returns g c = writes_same (solution_written c.args.sheet c.args.standing c.args.mark) (writes_then c.in_ok-put_mark.ensures (writes_then c.in_ok-put_row_section.ensures c.put_column_section.ensures))
+returns g c =
+    writes_same (solution_written c.args.sheet c.args.standing c.args.mark)
+    (writes_then c.in_ok-put_mark.ensures (writes_then c.in_ok-put_row_section.ensures c.put_column_section.ensures))

@@ -12,15 +12,20 @@ returns-in_err-put_verdict_head g c =
     let verdict = verdict_view c.args.sheet c.args.outcome.now in
     let check = check_view c.args.refused in
     let p = err_from_is_err_and c.from_residual.result c.from_residual.ensures.1 in
-    rw (p.1, p.2) (writes_same (verdict_parts c.args.by verdict check) (writes_more (concat (codes " " ∷ check_text check ∷ codes "\n" ∷ []) ++ table_text (verdict_lines verdict)) c.in_err-put_verdict_head.ensures))
+    rw (p.1, p.2)
+    (writes_same (verdict_parts c.args.by verdict check)
+    (writes_more (concat (codes " " ∷ check_text check ∷ codes "\n" ∷ []) ++ table_text (verdict_lines verdict)) c.in_err-put_verdict_head.ensures))
 
 pub returns-in_err-put_check : goal.returns-in_err-put_check
 returns-in_err-put_check g c =
     let verdict = verdict_view c.args.sheet c.args.outcome.now in
     let check = check_view c.args.refused in
     let p = err_from_is_err_and c.from_residual-in_err-put_check.result c.from_residual-in_err-put_check.ensures.1 in
-    rw (p.1, p.2) (writes_same (verdict_parts c.args.by verdict check) (writes_then c.in_ok-put_verdict_head.ensures (writes_more (table_text (verdict_lines verdict)) c.in_err-put_check.ensures)))
+    rw (p.1, p.2)
+    (writes_same (verdict_parts c.args.by verdict check)
+    (writes_then c.in_ok-put_verdict_head.ensures (writes_more (table_text (verdict_lines verdict)) c.in_err-put_check.ensures)))
 
 pub returns : goal.returns
 returns g c =
-    writes_same (verdict_parts c.args.by (verdict_view c.args.sheet c.args.outcome.now) (check_view c.args.refused)) (writes_then c.in_ok-put_verdict_head.ensures (writes_then c.in_ok-put_check.ensures c.put_verdict_lines.ensures))
+    writes_same (verdict_parts c.args.by (verdict_view c.args.sheet c.args.outcome.now) (check_view c.args.refused))
+    (writes_then c.in_ok-put_verdict_head.ensures (writes_then c.in_ok-put_check.ensures c.put_verdict_lines.ensures))

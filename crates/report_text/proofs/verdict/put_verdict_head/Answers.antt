@@ -18,4 +18,5 @@ returns-in-Infeasible g c = rw c.in-Infeasible.is c.put_found-in-Infeasible.ensu
 pub returns-in-Unbounded : goal.returns-in-Unbounded
 returns-in-Unbounded g c =
     rw c.in-Unbounded.is (writes_same (same_objective c.args.by (codes "UNBOUNDED STEPS ") c.in-Unbounded.steps _ _
-    (c.objective_of-value-in-Unbounded.ensures ∙ ap (λ point. value_at point c.args.sheet.lp.now.objective) c.values-in-Unbounded.ensures)) c.put_objective-in-Unbounded.ensures)
+    (c.objective_of-value-in-Unbounded.ensures
+    ∙ ap (λ point. value_at point c.args.sheet.lp.now.objective) c.values-in-Unbounded.ensures)) c.put_objective-in-Unbounded.ensures)

@@ -21,20 +21,26 @@ abbrev bounds_differ : List (Group (Entry ℕ)) → List (Group (Bound ℕ)) →
 bounds_differ columns sets = AreDifferentGroups AreDifferentBounds (map (group_by (bound_by (name_at (group_names columns)))) sets)
 
 pub named_rows-requires : goal.named_rows-requires
-named_rows-requires c = subst (λ (rows : List (Row ℕ)). AreDifferentRows (map (row_by (name_at (map (λ row. row.name) rows))) rows)) (sym c.rows-rows.ensures.rows) (different_rows c.args.problem.now c.rows-rows.ensures.is_problem)
+named_rows-requires c =
+    subst (λ (rows : List (Row ℕ)). AreDifferentRows (map (row_by (name_at (map (λ row. row.name) rows))) rows)) (sym c.rows-rows.ensures.rows)
+    (different_rows c.args.problem.now c.rows-rows.ensures.is_problem)
 
 pub named_groups-requires : goal.named_groups-requires
 named_groups-requires c =
-    subst (λ rows. differ rows c.columns-columns.result.now) (sym c.rows-rows.ensures.rows) (subst (differ c.args.problem.now.rows) (sym c.columns-columns.ensures.columns) (different_columns c.args.problem.now c.rows-rows.ensures.is_problem))
+    subst (λ rows. differ rows c.columns-columns.result.now) (sym c.rows-rows.ensures.rows)
+    (subst (differ c.args.problem.now.rows) (sym c.columns-columns.ensures.columns) (different_columns c.args.problem.now c.rows-rows.ensures.is_problem))
 
 pub named_groups-requires-2 : goal.named_groups-requires-2
 named_groups-requires-2 c =
-    subst (λ rows. differ rows c.rhs.result.now) (sym c.rows-rows.ensures.rows) (subst (differ c.args.problem.now.rows) (sym c.rhs.ensures.rhs) (different_rhs c.args.problem.now c.rows-rows.ensures.is_problem))
+    subst (λ rows. differ rows c.rhs.result.now) (sym c.rows-rows.ensures.rows)
+    (subst (differ c.args.problem.now.rows) (sym c.rhs.ensures.rhs) (different_rhs c.args.problem.now c.rows-rows.ensures.is_problem))
 
 pub named_groups-requires-3 : goal.named_groups-requires-3
 named_groups-requires-3 c =
-    subst (λ rows. differ rows c.ranges-2.result.now) (sym c.rows-rows.ensures.rows) (subst (differ c.args.problem.now.rows) (sym c.ranges-2.ensures.ranges) (different_ranges c.args.problem.now c.rows-rows.ensures.is_problem))
+    subst (λ rows. differ rows c.ranges-2.result.now) (sym c.rows-rows.ensures.rows)
+    (subst (differ c.args.problem.now.rows) (sym c.ranges-2.ensures.ranges) (different_ranges c.args.problem.now c.rows-rows.ensures.is_problem))
 
 pub named_bound_sets-requires : goal.named_bound_sets-requires
 named_bound_sets-requires c =
-    subst (λ columns. bounds_differ columns c.bounds.result.now) (sym c.columns-columns.ensures.columns) (subst (bounds_differ c.args.problem.now.columns) (sym c.bounds.ensures.bounds) (different_bounds c.args.problem.now c.rows-rows.ensures.is_problem))
+    subst (λ columns. bounds_differ columns c.bounds.result.now) (sym c.columns-columns.ensures.columns)
+    (subst (bounds_differ c.args.problem.now.columns) (sym c.bounds.ensures.bounds) (different_bounds c.args.problem.now c.rows-rows.ensures.is_problem))

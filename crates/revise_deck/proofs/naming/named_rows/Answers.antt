@@ -9,11 +9,16 @@ use Rattle.revise_deck.proofs.naming.named_rows.Goals as goal
 
 pub named_parts-requires : goal.named_parts-requires
 named_parts-requires c =
-    subst (λ (row : Row ℕ). IfSome (option_map (map (entry_by (name_at (map (λ row. row.name) c.args.rows.now)))) row.parts) AreDifferentEntries) (sym c.row.view_is)
-    (each_at (λ row. IfSome row.parts AreDifferentEntries) (row_by (name_at (map (λ row. row.name) c.args.rows.now))) c.args.rows.now c.loop-row.row-index _ c.row-item.result c.requires.parts c.loop-row-test.true c.row-item.is)
+    subst (λ (row : Row ℕ). IfSome (option_map (map (entry_by (name_at (map (λ row. row.name) c.args.rows.now)))) row.parts) AreDifferentEntries)
+    (sym c.row.view_is)
+    (each_at (λ row. IfSome row.parts AreDifferentEntries)
+    (row_by (name_at
+    (map (λ row. row.name) c.args.rows.now))) c.args.rows.now c.loop-row.row-index _ c.row-item.result c.requires.parts c.loop-row-test.true c.row-item.is)
 
 pub add-requires : goal.add-requires
 add-requires c =
     ap (λ (row : Row ℕ). has_row c.loop-row.list row.name) c.row.view_is
-    ∙ name_is_new (row_by (name_at (map (λ row. row.name) c.args.rows.now))) (λ row. row.name) c.args.rows.now c.loop-row.list c.loop-row.row-index _ c.row-item.result (row_by (name_at (map (λ row. row.name) c.args.rows.now)) c.row-item.result)
+    ∙ name_is_new (row_by (name_at (map (λ row. row.name) c.args.rows.now)))
+    (λ row. row.name) c.args.rows.now c.loop-row.list c.loop-row.row-index _ c.row-item.result
+    (row_by (name_at (map (λ row. row.name) c.args.rows.now)) c.row-item.result)
     c.requires.names c.loop-row-test.true c.row-item.is refl c.loop-row.invariant

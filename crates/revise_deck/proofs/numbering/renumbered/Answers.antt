@@ -11,7 +11,8 @@ module _ (name own : Name) (rows : List (Row Name)) (columns rhs ranges : List (
 
   -- the parts by numbers make a problem, where the whole by numbers is one
   by_parts : (problem : Problem Name) (own_rows : List (Row ℕ)) (own_columns own_rhs own_ranges : List (Group (Entry ℕ))) (own_bounds : List (Group (Bound ℕ)))
-      → record { name = own; rows = rows; columns = columns; rhs = rhs; ranges = ranges; bounds = bounds } ≡ problem → IsProblem (numbered (record problem { name = name }))
+      → record { name = own; rows = rows; columns = columns; rhs = rhs; ranges = ranges; bounds = bounds } ≡ problem
+      → IsProblem (numbered (record problem { name = name }))
       → own_rows ≡ map (row_by by_row) rows → own_columns ≡ map (group_by (entry_by by_row)) columns → own_rhs ≡ map (group_by (entry_by by_row)) rhs
       → own_ranges ≡ map (group_by (entry_by by_row)) ranges → own_bounds ≡ map (group_by (bound_by (number_in (group_names columns)))) bounds
       → IsProblem (record { name = name; rows = own_rows; columns = own_columns; rhs = own_rhs; ranges = own_ranges; bounds = own_bounds })
@@ -21,11 +22,13 @@ module _ (name own : Name) (rows : List (Row Name)) (columns rhs ranges : List (
       (subst (λ (p : Problem Name). IsProblem (numbered (record p { name = name }))) (sym view) is)
 
   -- the parts by numbers are the whole by numbers
-  same_parts : (problem : Problem Name) (own_rows : List (Row ℕ)) (own_columns own_rhs own_ranges : List (Group (Entry ℕ))) (own_bounds : List (Group (Bound ℕ)))
+  same_parts : (problem : Problem Name) (own_rows : List (Row ℕ)) (own_columns own_rhs own_ranges : List (Group (Entry ℕ)))
+      (own_bounds : List (Group (Bound ℕ)))
       → record { name = own; rows = rows; columns = columns; rhs = rhs; ranges = ranges; bounds = bounds } ≡ problem
       → own_rows ≡ map (row_by by_row) rows → own_columns ≡ map (group_by (entry_by by_row)) columns → own_rhs ≡ map (group_by (entry_by by_row)) rhs
       → own_ranges ≡ map (group_by (entry_by by_row)) ranges → own_bounds ≡ map (group_by (bound_by (number_in (group_names columns)))) bounds
-      → record { name = name; rows = own_rows; columns = own_columns; rhs = own_rhs; ranges = own_ranges; bounds = own_bounds } ≡ numbered (record problem { name = name })
+      → record { name = name; rows = own_rows; columns = own_columns; rhs = own_rhs; ranges = own_ranges; bounds = own_bounds } ≡ numbered
+      (record problem { name = name })
   unfolding numbered by_row
   same_parts problem own_rows own_columns own_rhs own_ranges own_bounds view r c h g b =
       let made : record { name = name; rows = own_rows; columns = own_columns; rhs = own_rhs; ranges = own_ranges; bounds = own_bounds }
@@ -36,7 +39,8 @@ module _ (name own : Name) (rows : List (Row Name)) (columns rhs ranges : List (
 pub returns : goal.returns
 unfolding by_row
 returns c =
-    c.new.ensures ∙ same_parts c.args.name c.problem.inside.name c.problem.inside.rows c.problem.inside.columns c.problem.inside.rhs c.problem.inside.ranges c.problem.inside.bounds c.args.problem.now _ _ _ _ _ c.problem.view_is
+    c.new.ensures
+    ∙ same_parts c.args.name c.problem.inside.name c.problem.inside.rows c.problem.inside.columns c.problem.inside.rhs c.problem.inside.ranges c.problem.inside.bounds c.args.problem.now _ _ _ _ _ c.problem.view_is
     c.in_ok-rows.ensures c.in_ok-columns.ensures c.in_ok-rhs.ensures c.in_ok-ranges.ensures c.in_ok-bounds.ensures
 
 pub new-requires : goal.new-requires

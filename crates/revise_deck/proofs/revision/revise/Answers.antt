@@ -20,7 +20,9 @@ returns-in_err-read_cards-clause-stop c =
     let deck = cards_between c.args.first c.args.last c.args.cards.now in
     let begins : c.new-draft.result.problem ≡ by_names c.args.old.now = ap (λ (s : State). s.problem) c.new-draft.ensures ∙ c.in-Ok.ensures in
     let p = err_from_is_err_and c.from_residual.result c.from_residual.ensures.1 in
-    rw (p.1, p.2) (faulty c.args.old.now deck c.args.name _ (subst (λ problem. Stops (revise_card_fault problem) deck c.in_err-read_cards.field-0.0) begins c.in_err-read_cards.ensures.stop))
+    rw (p.1, p.2)
+    (faulty c.args.old.now deck c.args.name _
+    (subst (λ problem. Stops (revise_card_fault problem) deck c.in_err-read_cards.field-0.0) begins c.in_err-read_cards.ensures.stop))
 
 pub problem_of-requires-clause-lawful : goal.problem_of-requires-clause-lawful
 problem_of-requires-clause-lawful c = λ own named.
@@ -35,7 +37,8 @@ returns-clause-problem c =
     let deck = cards_between c.args.first c.args.last c.args.cards.now in
     let own = unwrap_or c.args.name (deck_name (live deck)) in
     let begins : c.new-draft.result.problem ≡ by_names c.args.old.now = ap (λ (s : State). s.problem) c.new-draft.ensures ∙ c.in-Ok.ensures in
-    IfOk-weaker c.problem_of.result (λ problem. problem ≡ numbered (problem_named own c.read_cards.new.draft)) (λ problem. revision c.args.old.now deck c.args.name ≡ Ok problem)
+    IfOk-weaker c.problem_of.result (λ problem. problem ≡ numbered (problem_named own c.read_cards.new.draft))
+    (λ problem. revision c.args.old.now deck c.args.name ≡ Ok problem)
     (λ problem is. gives c.args.old.now deck c.args.name own c.read_cards.new.draft.problem problem
     (ap (λ problem. fault_by (revise_card_fault problem) deck) (sym begins) ∙ c.in_ok-read_cards.ensures.no_fault)
     (ap (λ (s : State). s.problem) (c.in_ok-read_cards.ensures.made ∙ ap (λ problem. state_of problem (live deck)) begins)) refl is)

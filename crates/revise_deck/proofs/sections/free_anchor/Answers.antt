@@ -9,4 +9,5 @@ pub returns : goal.returns
 returns c =
     let card = c.args.card.bytes.now in
     let word : c.word_text.result.now ≡ word_text card 1 = c.word_text.ensures card c.free_words.ensures in
-    short-name c.of.result c.word_text.result.now (subst IsWordText (sym word) (word_text-is card 1 c.args.card.printable)) c.of.ensures.is_name c.of.ensures.value ∙ ap short_name word
+    short-name c.of.result c.word_text.result.now
+    (subst IsWordText (sym word) (word_text-is card 1 c.args.card.printable)) c.of.ensures.is_name c.of.ensures.value ∙ ap short_name word

@@ -12,6 +12,7 @@ returns c =
     let rows = ap (λ (p : Problem Name). p.rows) c.seen.view_is in
     modify_parts c.args.seen.now card c.changed_fields_fault.result (search rules)
     (sym (c.has.ensures ∙ ap (λ list. has_row list card.name1) rows) ∙ c.if-not-has.false)
-    (sym (c.has_type_for.ensures ∙ ap (λ b. has_type_for b card) (c.has_combination.ensures ∙ ap (λ list. has_combination list card.name1) rows)) ∙ c.if-not-has_type_for.false)
+    (sym (c.has_type_for.ensures ∙ ap (λ b. has_type_for b card) (c.has_combination.ensures ∙ ap (λ list. has_combination list card.name1) rows))
+    ∙ c.if-not-has_type_for.false)
     (sym c.frees_ranged.ensures ∙ c.if-frees_ranged.false)
     (c.changed_fields_fault.ensures ∙ ap (λ (p : Problem Name). modified_fields_fault p card) c.seen.view_is)

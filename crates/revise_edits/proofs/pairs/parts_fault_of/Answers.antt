@@ -15,7 +15,9 @@ returns-in_default c =
 
 pub returns-in-Some-second_pair : goal.returns-in-Some-second_pair
 returns-in-Some-second_pair c =
-    pairs_found_two (rows_alone (take c.args.limit c.args.rows.now)) Rows (unwrap_or (option_copied c.args.parts) []) 0 c.first_of.result c.part_fault_at-fault.result c.part_fault_at-other.result
-    c.stands_on-is_first.result c.is_second_there-is_second.result (pair_view c.in-Some.first) (pair_view c.in-Some-second_pair.second) (part_pairs_of (viewed c.args.card.now))
+    pairs_found_two (rows_alone (take c.args.limit c.args.rows.now)) Rows
+    (unwrap_or (option_copied c.args.parts) []) 0 c.first_of.result c.part_fault_at-fault.result c.part_fault_at-other.result
+    c.stands_on-is_first.result c.is_second_there-is_second.result (pair_view c.in-Some.first) (pair_view c.in-Some-second_pair.second)
+    (part_pairs_of (viewed c.args.card.now))
     c.first_of.ensures c.part_fault_at-fault.ensures c.stands_on-is_first.ensures c.part_fault_at-other.ensures c.is_second_there-is_second.ensures
     (sym (ap₂ (λ first rest. first ++ rest) c.in-Some.ensures c.in-Some-second_pair.ensures))

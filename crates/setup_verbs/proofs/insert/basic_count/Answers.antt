@@ -11,7 +11,9 @@ loop-c-preserved-then-not-stands_basic c =
     let rows = ap (λ (p : LinearProgram). p.rows) c.lp.view_is in
     let cols = ap (λ (p : LinearProgram). p.cols) c.lp.view_is in
     let column = c.lp.inside.rows + c.loop-c.c + 1 in
-    let mark = sym (is_in-basics_of c.args.basis.now column (omega arith) (omega (arith, c.requires, c.loop-c-test.true, rows, cols))) ∙ sym c.stands_basic.ensures ∙ c.if-not-stands_basic.true in
+    let mark =
+    sym (is_in-basics_of c.args.basis.now column (omega arith) (omega (arith, c.requires, c.loop-c-test.true, rows, cols))) ∙ sym c.stands_basic.ensures
+    ∙ c.if-not-stands_basic.true in
     let is = not_counted lp c.args.basis.now c.loop-c.c column (omega (arith, rows)) mark in
     (omega (arith, h.0, is), omega (arith, h.1))
 
@@ -22,6 +24,8 @@ loop-c-preserved c =
     let rows = ap (λ (p : LinearProgram). p.rows) c.lp.view_is in
     let cols = ap (λ (p : LinearProgram). p.cols) c.lp.view_is in
     let column = c.lp.inside.rows + c.loop-c.c + 1 in
-    let mark = sym (is_in-basics_of c.args.basis.now column (omega arith) (omega (arith, c.requires, c.loop-c-test.true, rows, cols))) ∙ sym c.stands_basic.ensures ∙ c.if-not-stands_basic.false in
+    let mark =
+    sym (is_in-basics_of c.args.basis.now column (omega arith) (omega (arith, c.requires, c.loop-c-test.true, rows, cols))) ∙ sym c.stands_basic.ensures
+    ∙ c.if-not-stands_basic.false in
     let is = counted_in lp c.args.basis.now c.loop-c.c column (omega (arith, rows)) mark in
     (omega (arith, h.0, is), omega (arith, h.1))

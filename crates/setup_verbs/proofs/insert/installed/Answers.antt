@@ -14,7 +14,8 @@ pub returns-in-Ok : goal.returns-in-Ok
 returns-in-Ok g c = record {
   name = ap (λ (s : Setup). s.name) c.setup.view_is;
   options = ap (λ (s : Setup). s.options) c.setup.view_is;
-  is_chosen = ap₂ (λ (chosen : Choice) (s : Setup). record { objective = chosen.objective; rhs = chosen.rhs; options = s.options }) c.choice.view_is c.setup.view_is;
+  is_chosen =
+      ap₂ (λ (chosen : Choice) (s : Setup). record { objective = chosen.objective; rhs = chosen.rhs; options = s.options }) c.choice.view_is c.setup.view_is;
   same_lp = refl;
   same_basis = refl;
   rates = c.in-Ok.ensures.rates;
@@ -43,5 +44,7 @@ returns-in-Ok-overflow_end g c =
       way = waypoint (g.E.Rates.state c.in-Err-Overflow.engine).basics (g.E.Rates.state c.in-Err-Overflow.engine).waypoints c.in-Err-Overflow.evidence.way;
       is_refused = stops.refuses.refused;
       fits = subst EvidenceFits c.in-Err-Overflow.evidence-is c.in-Ok-overflow_end.ensures.1;
-      is_end = ended_at (λ e. (g.E.Rates.state e).basics) (λ e. (g.E.Rates.state e).waypoints) c.args.card _ _ c.setup.view_is _ _ c.in-Err-Overflow.evidence-is _ _ c.in-Err-Overflow.engine-is c.in-Ok-overflow_end.end c.in-Ok-overflow_end.ensures.0;
+      is_end =
+          ended_at (λ e. (g.E.Rates.state e).basics)
+          (λ e. (g.E.Rates.state e).waypoints) c.args.card _ _ c.setup.view_is _ _ c.in-Err-Overflow.evidence-is _ _ c.in-Err-Overflow.engine-is c.in-Ok-overflow_end.end c.in-Ok-overflow_end.ensures.0;
     }

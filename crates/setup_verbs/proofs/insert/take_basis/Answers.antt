@@ -29,5 +29,7 @@ returns-in-Ok c = record {
 
 pub returns-in-Err-Fault : goal.returns-in-Err-Fault
 returns-in-Err-Fault c =
-    let stop = subst (Refuses c.args.problem.now c.args.lp.now (cards_between c.in-Some.deck.first c.in-Some.deck.last c.args.cards.now)) c.in-Err-Fault.field-0-is c.in-Err-Fault.ensures.stop in
+    let stop =
+    subst (Refuses c.args.problem.now c.args.lp.now
+    (cards_between c.in-Some.deck.first c.in-Some.deck.last c.args.cards.now)) c.in-Err-Fault.field-0-is c.in-Err-Fault.ensures.stop in
     inr (_, _, c.in-Err-Fault.fault, c.in-Some.ensures.taken, stop, ap ends.Deck c.in-Err-Fault.fault-is)

@@ -7,7 +7,11 @@ use Rattle.setup_verbs.proofs.overflow.overflow_at.Goals as goal
 pub returns-in-Ok : goal.returns-in-Ok
 returns-in-Ok g c =
     reported c.in-Ok.place (c.in-Ok.ensures
-    ∙ ap (λ (b : Basics). record { basis = c.args.basis.now; way = waypoint b (g.R.Rates.state c.args.rates.now).waypoints c.args.evidence.way }) c.requires.rates.same_basics)
+    ∙ ap (λ (b : Basics). record {
+      basis = c.args.basis.now;
+      way = waypoint b
+          (g.R.Rates.state c.args.rates.now).waypoints c.args.evidence.way;
+    }) c.requires.rates.same_basics)
     (record {
       formula = search rules;
       left = search rules;

@@ -14,9 +14,14 @@ returns-in-Ok-clause-tells g c = c.print_ranges.ensures (g.R.Rates.state c.args.
 
 pub returns-in-Err-Overflow-clause-tells : goal.returns-in-Err-Overflow-clause-tells
 returns-in-Err-Overflow-clause-tells g c =
-    let t = subst (λ stop. IfOverflow stop (RangesRefused c.args.sheet.lp.now (g.R.Rates.state c.args.rates.now).waypoints c.args.basis.now (g.R.Rates.state c.ranges_of.new.rates).waypoints)) c.in-Err-Overflow.field-0-is c.in-Err-Overflow.ensures.overflow in
+    let t =
+    subst (λ stop. IfOverflow stop
+    (RangesRefused c.args.sheet.lp.now (g.R.Rates.state c.args.rates.now).waypoints c.args.basis.now
+    (g.R.Rates.state c.ranges_of.new.rates).waypoints)) c.in-Err-Overflow.field-0-is c.in-Err-Overflow.ensures.overflow in
     overflow_tells
     (RangesFound (sheet_view c.args.sheet) c.args.basis.now (g.R.Rates.state c.args.rates.now).waypoints) (g.P.Sink.taken c.args.print.now)
     c.args.basis.now (g.R.Rates.state c.ranges_of.new.rates).waypoints c.in-Err-Overflow.evidence c.overflow_at.result
-    (subst (λ (e : Evidence). IsOverflowAt c.args.basis.now (g.R.Rates.state c.ranges_of.new.rates).waypoints e c.overflow_at.result) c.in-Err-Overflow.evidence-is c.overflow_at.ensures)
-    (ranges_overflow c.args.sheet c.args.basis.now (g.R.Rates.state c.args.rates.now).waypoints (g.R.Rates.state c.ranges_of.new.rates).waypoints c.in-Err-Overflow.evidence t)
+    (subst (λ (e : Evidence). IsOverflowAt c.args.basis.now
+    (g.R.Rates.state c.ranges_of.new.rates).waypoints e c.overflow_at.result) c.in-Err-Overflow.evidence-is c.overflow_at.ensures)
+    (ranges_overflow c.args.sheet c.args.basis.now (g.R.Rates.state c.args.rates.now).waypoints
+    (g.R.Rates.state c.ranges_of.new.rates).waypoints c.in-Err-Overflow.evidence t)

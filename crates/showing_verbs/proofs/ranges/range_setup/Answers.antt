@@ -17,9 +17,11 @@ range_basis-requires-clause-sheet g c =
 
 pub range_basis-requires-clause-no_change : goal.range_basis-requires-clause-no_change
 range_basis-requires-clause-no_change g c =
-    ready_unchanged c.args.file.now _ (subst (IsReady c.args.file.now) (sym c.setup.view_is) c.requires.ready) c.problem_on_file-problem.result.now c.problem_on_file-problem.ensures
+    ready_unchanged c.args.file.now _
+    (subst (IsReady c.args.file.now) (sym c.setup.view_is) c.requires.ready) c.problem_on_file-problem.result.now c.problem_on_file-problem.ensures
 
 pub returns-clause-tells : goal.returns-clause-tells
 returns-clause-tells g c =
-    ranges_at c.args.file.now c.setup.view_is c.problem_on_file-problem.result.now c.problem_on_file-problem.ensures (g.P.Sink.taken c.args.print.now) (g.P.Sink.taken c.range_basis.new.print) c.range_basis.result
+    ranges_at c.args.file.now c.setup.view_is c.problem_on_file-problem.result.now c.problem_on_file-problem.ensures (g.P.Sink.taken c.args.print.now)
+    (g.P.Sink.taken c.range_basis.new.print) c.range_basis.result
     c.range_basis.ensures.tells

@@ -9,7 +9,8 @@ use Rattle.listing_definitions.specs.declared.Mark.TheVariants.{Optimal}
 use Rattle.showing_verbs.proofs.ranges.show_ranges.Goals as goal
 
 pub returns-in_default-clause-acts : goal.returns-in_default-clause-acts
-returns-in_default-clause-acts g c = λ cards. rw c.act.ensures (ranges_no_setup c.args.card cards c.args.machine.now (g.P.Sink.taken c.args.print.now) c.in_default.is)
+returns-in_default-clause-acts g c =
+    λ cards. rw c.act.ensures (ranges_no_setup c.args.card cards c.args.machine.now (g.P.Sink.taken c.args.print.now) c.in_default.is)
 
 pub returns-in-Some-range_fault-clause-acts : goal.returns-in-Some-range_fault-clause-acts
 returns-in-Some-range_fault-clause-acts g c = λ cards.
@@ -21,7 +22,8 @@ returns-in-Some-range_fault-clause-acts g c = λ cards.
 pub range_setup-requires-clause-optimal : goal.range_setup-requires-clause-optimal
 range_setup-requires-clause-optimal g c =
     let marked = without_fault c.args.machine.now.mark (sym c.range_fault.ensures ∙ c.in_default-range_fault.is) in
-    let solved = solved_of c.args.machine.now.cells c.args.machine.now.file c.args.machine.now.mark c.args.machine.now.setup Optimal c.in-Some.setup marked c.in-Some.is c.requires.solved in
+    let solved =
+    solved_of c.args.machine.now.cells c.args.machine.now.file c.args.machine.now.mark c.args.machine.now.setup Optimal c.in-Some.setup marked c.in-Some.is c.requires.solved in
     solved.optimal refl
 
 pub returns-in_err-finding-clause-acts : goal.returns-in_err-finding-clause-acts
@@ -31,10 +33,13 @@ returns-in_err-finding-clause-acts g c = λ cards.
     let same : IsSameSetup c.in-Some.setup c.range_setup.new.setup =
     record { name = c.range_setup.ensures.name; options = c.range_setup.ensures.options; lp = c.range_setup.ensures.lp; basis = c.range_setup.ensures.basis; keeps = c.range_setup.ensures.waypoints } in
     let marked = without_fault c.args.machine.now.mark (sym c.range_fault.ensures ∙ c.in_default-range_fault.is) in
-    let solved = solved_of c.args.machine.now.cells c.args.machine.now.file c.args.machine.now.mark c.args.machine.now.setup Optimal c.in-Some.setup marked c.in-Some.is c.requires.solved in
+    let solved =
+    solved_of c.args.machine.now.cells c.args.machine.now.file c.args.machine.now.mark c.args.machine.now.setup Optimal c.in-Some.setup marked c.in-Some.is c.requires.solved in
     rw (p.1, p.2)
-    (ranges_broken c.args.card cards c.args.machine.now c.in-Some.setup c.in-Some.is ready.problem ready.on_file (g.P.Sink.taken c.args.print.now) (g.P.Sink.taken c.range_setup.new.print) c.range_setup.new.setup
-    marked (solved.is_selected ready.problem ready.on_file) same (record (c.args.machine.now) { setup = Some c.range_setup.new.setup }) c.in_err-finding.field-0.0
+    (ranges_broken c.args.card cards c.args.machine.now c.in-Some.setup c.in-Some.is ready.problem ready.on_file (g.P.Sink.taken c.args.print.now)
+    (g.P.Sink.taken c.range_setup.new.print) c.range_setup.new.setup
+    marked (solved.is_selected ready.problem ready.on_file) same
+    (record (c.args.machine.now) { setup = Some c.range_setup.new.setup }) c.in_err-finding.field-0.0
     (c.in_err-finding.ensures.tells ready.problem ready.on_file))
 
 pub returns-in_err-finding-clause-sound : goal.returns-in_err-finding-clause-sound
@@ -50,9 +55,12 @@ returns-clause-acts g c = λ cards.
     let same : IsSameSetup c.in-Some.setup c.range_setup.new.setup =
     record { name = c.range_setup.ensures.name; options = c.range_setup.ensures.options; lp = c.range_setup.ensures.lp; basis = c.range_setup.ensures.basis; keeps = c.range_setup.ensures.waypoints } in
     let marked = without_fault c.args.machine.now.mark (sym c.range_fault.ensures ∙ c.in_default-range_fault.is) in
-    let solved = solved_of c.args.machine.now.cells c.args.machine.now.file c.args.machine.now.mark c.args.machine.now.setup Optimal c.in-Some.setup marked c.in-Some.is c.requires.solved in
-    ranges_found c.args.card cards c.args.machine.now c.in-Some.setup c.in-Some.is ready.problem ready.on_file (g.P.Sink.taken c.args.print.now) (g.P.Sink.taken c.range_setup.new.print) c.range_setup.new.setup
-    marked (solved.is_selected ready.problem ready.on_file) same c.in_ok-finding.finding c.act_of.result c.act_of.ensures (c.in_ok-finding.ensures.tells ready.problem ready.on_file)
+    let solved =
+    solved_of c.args.machine.now.cells c.args.machine.now.file c.args.machine.now.mark c.args.machine.now.setup Optimal c.in-Some.setup marked c.in-Some.is c.requires.solved in
+    ranges_found c.args.card cards c.args.machine.now c.in-Some.setup c.in-Some.is ready.problem ready.on_file (g.P.Sink.taken c.args.print.now)
+    (g.P.Sink.taken c.range_setup.new.print) c.range_setup.new.setup
+    marked (solved.is_selected ready.problem ready.on_file) same c.in_ok-finding.finding c.act_of.result c.act_of.ensures
+    (c.in_ok-finding.ensures.tells ready.problem ready.on_file)
 
 pub returns-clause-sound : goal.returns-clause-sound
 returns-clause-sound g c = λ cards sound.

@@ -17,9 +17,11 @@ show_basis-requires-clause-sheet g c =
 
 pub show_basis-requires-clause-no_change : goal.show_basis-requires-clause-no_change
 show_basis-requires-clause-no_change g c =
-    ready_unchanged c.args.file.now _ (subst (IsReady c.args.file.now) (sym c.setup.view_is) c.requires) c.problem_on_file-problem.result.now c.problem_on_file-problem.ensures
+    ready_unchanged c.args.file.now _
+    (subst (IsReady c.args.file.now) (sym c.setup.view_is) c.requires) c.problem_on_file-problem.result.now c.problem_on_file-problem.ensures
 
 pub returns-clause-tells : goal.returns-clause-tells
 returns-clause-tells g c =
-    lines_at c.args.file.now c.setup.view_is c.args.mark c.problem_on_file-problem.result.now c.problem_on_file-problem.ensures (g.P.Sink.taken c.args.print.now) (g.P.Sink.taken c.show_basis.new.print) c.show_basis.result
+    lines_at c.args.file.now c.setup.view_is c.args.mark c.problem_on_file-problem.result.now c.problem_on_file-problem.ensures
+    (g.P.Sink.taken c.args.print.now) (g.P.Sink.taken c.show_basis.new.print) c.show_basis.result
     c.show_basis.ensures.tells

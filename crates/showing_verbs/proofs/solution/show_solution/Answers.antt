@@ -7,7 +7,8 @@ use Rattle.showing_verbs.proofs.Showing.{solution_no_setup, solution_not_solved,
 use Rattle.showing_verbs.proofs.solution.show_solution.Goals as goal
 
 pub returns-in_default-clause-acts : goal.returns-in_default-clause-acts
-returns-in_default-clause-acts g c = λ cards. rw c.act.ensures (solution_no_setup c.args.card cards c.args.machine.now (g.P.Sink.taken c.args.print.now) c.in_default.is)
+returns-in_default-clause-acts g c =
+    λ cards. rw c.act.ensures (solution_no_setup c.args.card cards c.args.machine.now (g.P.Sink.taken c.args.print.now) c.in_default.is)
 
 pub returns-in_default-mark-clause-acts : goal.returns-in_default-mark-clause-acts
 returns-in_default-mark-clause-acts g c = λ cards.
@@ -22,10 +23,13 @@ returns-in_err-finding-clause-acts g c = λ cards.
     let ready = ready_of c.args.machine.now.file c.args.machine.now.setup c.in-Some.setup c.in-Some.is c.requires.ready in
     let same : IsSameSetup c.in-Some.setup c.show_setup.new.setup =
     record { name = c.show_setup.ensures.name; options = c.show_setup.ensures.options; lp = c.show_setup.ensures.lp; basis = c.show_setup.ensures.basis; keeps = c.show_setup.ensures.waypoints } in
-    let solved = solved_of c.args.machine.now.cells c.args.machine.now.file c.args.machine.now.mark c.args.machine.now.setup c.in-Some-mark.mark c.in-Some.setup c.in-Some-mark.is c.in-Some.is c.requires.solved in
+    let solved =
+    solved_of c.args.machine.now.cells c.args.machine.now.file c.args.machine.now.mark c.args.machine.now.setup c.in-Some-mark.mark c.in-Some.setup c.in-Some-mark.is c.in-Some.is c.requires.solved in
     rw (p.1, p.2)
-    (solution_cut c.args.card cards c.args.machine.now c.in-Some.setup c.in-Some.is ready.problem ready.on_file (g.P.Sink.taken c.args.print.now) (g.P.Sink.taken c.show_setup.new.print) c.show_setup.new.setup
-    c.in-Some-mark.mark c.in-Some-mark.is (solved.is_selected ready.problem ready.on_file) same (record (c.args.machine.now) { setup = Some c.show_setup.new.setup }) c.in_err-finding.field-0.0
+    (solution_cut c.args.card cards c.args.machine.now c.in-Some.setup c.in-Some.is ready.problem ready.on_file (g.P.Sink.taken c.args.print.now)
+    (g.P.Sink.taken c.show_setup.new.print) c.show_setup.new.setup
+    c.in-Some-mark.mark c.in-Some-mark.is (solved.is_selected ready.problem ready.on_file) same
+    (record (c.args.machine.now) { setup = Some c.show_setup.new.setup }) c.in_err-finding.field-0.0
     (c.in_err-finding.ensures.tells ready.problem ready.on_file))
 
 pub returns-in_err-finding-clause-sound : goal.returns-in_err-finding-clause-sound
@@ -40,9 +44,12 @@ returns-clause-acts g c = λ cards.
     let ready = ready_of c.args.machine.now.file c.args.machine.now.setup c.in-Some.setup c.in-Some.is c.requires.ready in
     let same : IsSameSetup c.in-Some.setup c.show_setup.new.setup =
     record { name = c.show_setup.ensures.name; options = c.show_setup.ensures.options; lp = c.show_setup.ensures.lp; basis = c.show_setup.ensures.basis; keeps = c.show_setup.ensures.waypoints } in
-    let solved = solved_of c.args.machine.now.cells c.args.machine.now.file c.args.machine.now.mark c.args.machine.now.setup c.in-Some-mark.mark c.in-Some.setup c.in-Some-mark.is c.in-Some.is c.requires.solved in
-    solution_found c.args.card cards c.args.machine.now c.in-Some.setup c.in-Some.is ready.problem ready.on_file (g.P.Sink.taken c.args.print.now) (g.P.Sink.taken c.show_setup.new.print) c.show_setup.new.setup
-    c.in-Some-mark.mark c.in-Some-mark.is (solved.is_selected ready.problem ready.on_file) same c.in_ok-finding.finding c.act_of.result c.act_of.ensures (c.in_ok-finding.ensures.tells ready.problem ready.on_file)
+    let solved =
+    solved_of c.args.machine.now.cells c.args.machine.now.file c.args.machine.now.mark c.args.machine.now.setup c.in-Some-mark.mark c.in-Some.setup c.in-Some-mark.is c.in-Some.is c.requires.solved in
+    solution_found c.args.card cards c.args.machine.now c.in-Some.setup c.in-Some.is ready.problem ready.on_file (g.P.Sink.taken c.args.print.now)
+    (g.P.Sink.taken c.show_setup.new.print) c.show_setup.new.setup
+    c.in-Some-mark.mark c.in-Some-mark.is (solved.is_selected ready.problem ready.on_file) same c.in_ok-finding.finding c.act_of.result c.act_of.ensures
+    (c.in_ok-finding.ensures.tells ready.problem ready.on_file)
 
 pub returns-clause-sound : goal.returns-clause-sound
 returns-clause-sound g c = λ cards sound.

@@ -23,4 +23,5 @@ returns-then-is_some-2 c =
     let leaves : status_of c.args.basis.now c.args.r ≡ Bs = search rules in
     let enters : status_of c.args.basis.now c.args.q ≢ Bs = search rules in
     let allowed : IsSome (upper_of c.args.lp.now c.args.r) = search rules in
-    rw c.replace-then-is_some-2.ensures (IsBasis-replaced c.args.lp.now c.args.basis.now c.requires c.args.r c.args.q Ul is_r is_q leaves enters (λ e. cc) (λ e. cc) allowed)
+    rw c.replace-then-is_some-2.ensures
+    (IsBasis-replaced c.args.lp.now c.args.basis.now c.requires c.args.r c.args.q Ul is_r is_q leaves enters (λ e. cc) (λ e. cc) allowed)

@@ -11,5 +11,7 @@ exchange-requires-clause-pivot c =
     rw c.column.ensures.same (
       value_at c.column.new.out,
       c.column.ensures.direction,
-      λ zero. clash (sym (c.is_zero.ensures.1 (c.index-out-p.is ∙ get_or_default c.column.new.out (c.args.p - 1) c.index-out-p.result zero_ℚ (search rules) ∙ zero)) ∙ c.if-is_zero.false),
+      λ zero. clash
+          (sym (c.is_zero.ensures.1 (c.index-out-p.is ∙ get_or_default c.column.new.out (c.args.p - 1) c.index-out-p.result zero_ℚ (search rules) ∙ zero))
+          ∙ c.if-is_zero.false),
     )

@@ -14,13 +14,16 @@ pub returns-in-Err-clause-tells : goal.returns-in-Err-clause-tells
 returns-in-Err-clause-tells g c =
     rw c.refused.ensures
     (unselected_reported c.args.verb c.args.cells.now c.args.file.now refl c.select_again.new.setup c.problem_on_file-problem.result.now
-    (ap (λ (s : Setup). filed_under s.name c.args.file.now) (sym c.setup.view_is) ∙ c.problem_on_file-problem.ensures) (g.P.Sink.taken c.args.print.now) c.in-Err.refusal c.in-Err.ensures.refused)
+    (ap (λ (s : Setup). filed_under s.name c.args.file.now) (sym c.setup.view_is) ∙ c.problem_on_file-problem.ensures)
+    (g.P.Sink.taken c.args.print.now) c.in-Err.refusal c.in-Err.ensures.refused)
 
 pub returns-in-Err-request_of-clause-tells : goal.returns-in-Err-request_of-clause-tells
 returns-in-Err-request_of-clause-tells g c =
     rw (c.refused-in-Err-request_of.ensures, c.refusal_of.ensures)
     (unasked_reported c.args.verb c.args.cells.now c.args.file.now refl c.select_again.new.setup c.problem_on_file-problem.result.now
-    (ap (λ (s : Setup). filed_under s.name c.args.file.now) (sym c.setup.view_is) ∙ c.problem_on_file-problem.ensures) c.select_again.new.setup.lp c.in_default.ensures.selected (g.P.Sink.taken c.args.print.now) c.in-Err-request_of.stop c.in-Err-request_of.ensures.refused)
+    (ap (λ (s : Setup). filed_under s.name c.args.file.now) (sym c.setup.view_is)
+    ∙ c.problem_on_file-problem.ensures) c.select_again.new.setup.lp c.in_default.ensures.selected
+    (g.P.Sink.taken c.args.print.now) c.in-Err-request_of.stop c.in-Err-request_of.ensures.refused)
 
 pub returns-in-Err-request_of-clause-ready : goal.returns-in-Err-request_of-clause-ready
 returns-in-Err-request_of-clause-ready g c =
@@ -33,7 +36,8 @@ returns-in-Err-request_of-clause-ready g c =
 
 pub follow-requires-clause-sheet : goal.follow-requires-clause-sheet
 follow-requires-clause-sheet g c =
-    let is = now_is c.args.setup.now c.setup-2.view_is c.select_again.ensures.others c.args.file.now c.problem_on_file-problem.result.now c.args.cells.now c.in_default.ensures.selected in
+    let is =
+    now_is c.args.setup.now c.setup-2.view_is c.select_again.ensures.others c.args.file.now c.problem_on_file-problem.result.now c.args.cells.now c.in_default.ensures.selected in
     record {
       rows = as_many_rows c.problem_on_file-problem.result.now (choice_of c.args.cells.now c.args.setup.now.options) _ is;
       columns = as_many_columns c.problem_on_file-problem.result.now (choice_of c.args.cells.now c.args.setup.now.options) _ is;
@@ -41,7 +45,8 @@ follow-requires-clause-sheet g c =
 
 pub follow-requires-clause-no_change : goal.follow-requires-clause-no_change
 follow-requires-clause-no_change g c =
-    no_change c.problem_on_file-problem.result.now (choice_of c.args.cells.now c.args.setup.now.options) _ (now_is c.args.setup.now c.setup-2.view_is c.select_again.ensures.others c.args.file.now c.problem_on_file-problem.result.now c.args.cells.now c.in_default.ensures.selected)
+    no_change c.problem_on_file-problem.result.now (choice_of c.args.cells.now c.args.setup.now.options) _
+    (now_is c.args.setup.now c.setup-2.view_is c.select_again.ensures.others c.args.file.now c.problem_on_file-problem.result.now c.args.cells.now c.in_default.ensures.selected)
 
 pub follow-requires-clause-rates : goal.follow-requires-clause-rates
 follow-requires-clause-rates g c =
@@ -51,12 +56,14 @@ follow-requires-clause-rates g c =
 pub follow-requires-clause-serves : goal.follow-requires-clause-serves
 follow-requires-clause-serves g c =
     c.run_of-parametric_run.ensures.serves c.problem_on_file-problem.result.now c.setup-2.inside.lp
-    (serves c.problem_on_file-problem.result.now (choice_of c.args.cells.now c.args.setup.now.options) c.setup-2.inside.lp (now_is c.args.setup.now c.setup-2.view_is c.select_again.ensures.others c.args.file.now c.problem_on_file-problem.result.now c.args.cells.now c.in_default.ensures.selected)
+    (serves c.problem_on_file-problem.result.now (choice_of c.args.cells.now c.args.setup.now.options) c.setup-2.inside.lp
+    (now_is c.args.setup.now c.setup-2.view_is c.select_again.ensures.others c.args.file.now c.problem_on_file-problem.result.now c.args.cells.now c.in_default.ensures.selected)
     c.in-Ok.request c.in-Ok.ensures.of)
 
 pub returns-clause-tells : goal.returns-clause-tells
 returns-clause-tells g c =
     again_reported c.args.verb c.args.cells.now c.args.file.now c.args.setup.now c.setup-2.view_is c.select_again.ensures.others c.problem_on_file-problem.result.now
-    (ap (λ (s : Setup). filed_under s.name c.args.file.now) (sym c.setup.view_is) ∙ c.problem_on_file-problem.ensures) c.in_default.ensures.selected _ refl refl (parametric_run_view c.run_of-parametric_run.result)
+    (ap (λ (s : Setup). filed_under s.name c.args.file.now) (sym c.setup.view_is) ∙ c.problem_on_file-problem.ensures) c.in_default.ensures.selected _ refl refl
+    (parametric_run_view c.run_of-parametric_run.result)
     (asked_of c.args.verb c.problem_on_file-problem.result.now c.args.cells.now c.in-Ok.request c.run_of-parametric_run.result c.steps_allowed.result c.steps_allowed.ensures.steps c.run_of-parametric_run.ensures.viewed c.in-Ok.ensures.asked)
     (g.P.Sink.taken c.args.print.now) (g.P.Sink.taken c.follow.new.print) c.follow.result c.follow.ensures.tells

@@ -14,9 +14,11 @@ print_chain-requires g c = subst (IsPrintable c.args.sheet) c.in-Run.is c.requir
 pub returns-in-Opening : goal.returns-in-Opening
 returns-in-Opening g c = λ s reached before after a.
     c.print_opening.ensures s reached before after
-    (subst (λ (r : ParaReport). IsAnswered c.args.sheet (parametric_run_view c.args.parametric_run.now) s reached before after (record { report = r; refused = c.args.answer.now.refused })) c.in-Opening.is a)
+    (subst (λ (r : ParaReport). IsAnswered c.args.sheet (parametric_run_view c.args.parametric_run.now) s reached before after
+    (record { report = r; refused = c.args.answer.now.refused })) c.in-Opening.is a)
 
 pub returns-in-Run : goal.returns-in-Run
 returns-in-Run g c = λ s reached before after a.
     c.print_chain.ensures s reached before after c.args.answer.now.refused
-    (subst (λ (r : ParaReport). IsAnswered c.args.sheet (parametric_run_view c.args.parametric_run.now) s reached before after (record { report = r; refused = c.args.answer.now.refused })) c.in-Run.is a)
+    (subst (λ (r : ParaReport). IsAnswered c.args.sheet (parametric_run_view c.args.parametric_run.now) s reached before after
+    (record { report = r; refused = c.args.answer.now.refused })) c.in-Run.is a)

@@ -13,11 +13,13 @@ pub returns-in-Err-clause-tells : goal.returns-in-Err-clause-tells
 returns-in-Err-clause-tells g c =
     rw c.refused.ensures
     (refusal_reported c.args.verb c.args.cells.now c.args.file.now refl c.select_again.new.setup c.problem_on_file-problem.result.now
-    (ap (λ (s : Setup). filed_under s.name c.args.file.now) (sym c.setup.view_is) ∙ c.problem_on_file-problem.ensures) (g.P.Sink.taken c.args.print.now) c.in-Err.refusal c.in-Err.ensures.refused)
+    (ap (λ (s : Setup). filed_under s.name c.args.file.now) (sym c.setup.view_is) ∙ c.problem_on_file-problem.ensures)
+    (g.P.Sink.taken c.args.print.now) c.in-Err.refusal c.in-Err.ensures.refused)
 
 pub follow-requires-clause-sheet : goal.follow-requires-clause-sheet
 follow-requires-clause-sheet g c =
-    let is = now_is c.args.setup.now c.setup-2.view_is c.select_again.ensures.others c.args.file.now c.problem_on_file-problem.result.now c.args.cells.now c.in_default.ensures.selected in
+    let is =
+    now_is c.args.setup.now c.setup-2.view_is c.select_again.ensures.others c.args.file.now c.problem_on_file-problem.result.now c.args.cells.now c.in_default.ensures.selected in
     record {
       rows = as_many_rows c.problem_on_file-problem.result.now (choice_of c.args.cells.now c.args.setup.now.options) _ is;
       columns = as_many_columns c.problem_on_file-problem.result.now (choice_of c.args.cells.now c.args.setup.now.options) _ is;
@@ -28,7 +30,8 @@ follow-requires-clause-lawful g c = c.number_of_variables-size.ensures.lawful
 
 pub follow-requires-clause-no_change : goal.follow-requires-clause-no_change
 follow-requires-clause-no_change g c =
-    no_change c.problem_on_file-problem.result.now (choice_of c.args.cells.now c.args.setup.now.options) _ (now_is c.args.setup.now c.setup-2.view_is c.select_again.ensures.others c.args.file.now c.problem_on_file-problem.result.now c.args.cells.now c.in_default.ensures.selected)
+    no_change c.problem_on_file-problem.result.now (choice_of c.args.cells.now c.args.setup.now.options) _
+    (now_is c.args.setup.now c.setup-2.view_is c.select_again.ensures.others c.args.file.now c.problem_on_file-problem.result.now c.args.cells.now c.in_default.ensures.selected)
 
 pub follow-requires-clause-rates : goal.follow-requires-clause-rates
 follow-requires-clause-rates g c =
@@ -38,10 +41,12 @@ follow-requires-clause-rates g c =
 pub returns-clause-tells : goal.returns-clause-tells
 returns-clause-tells g c =
     again_reported c.args.verb c.args.cells.now c.args.file.now c.args.setup.now c.setup-2.view_is c.select_again.ensures.others c.problem_on_file-problem.result.now
-    (ap (λ (s : Setup). filed_under s.name c.args.file.now) (sym c.setup.view_is) ∙ c.problem_on_file-problem.ensures) c.in_default.ensures.selected _ refl refl (g.P.Sink.taken c.args.print.now) (g.P.Sink.taken c.follow.new.print) c.follow.result c.follow.ensures.tells
+    (ap (λ (s : Setup). filed_under s.name c.args.file.now) (sym c.setup.view_is) ∙ c.problem_on_file-problem.ensures) c.in_default.ensures.selected _ refl refl
+    (g.P.Sink.taken c.args.print.now) (g.P.Sink.taken c.follow.new.print) c.follow.result c.follow.ensures.tells
 
 pub returns-clause-solved : goal.returns-clause-solved
 returns-clause-solved g c =
     again_solved c.args.verb c.args.cells.now c.args.file.now c.args.setup.now c.setup-2.view_is c.select_again.ensures.others c.problem_on_file-problem.result.now
-    (ap (λ (s : Setup). filed_under s.name c.args.file.now) (sym c.setup.view_is) ∙ c.problem_on_file-problem.ensures) c.in_default.ensures.selected _ refl refl (g.P.Sink.taken c.args.print.now) (g.P.Sink.taken c.follow.new.print) c.follow.result c.follow.ensures.tells
+    (ap (λ (s : Setup). filed_under s.name c.args.file.now) (sym c.setup.view_is) ∙ c.problem_on_file-problem.ensures) c.in_default.ensures.selected _ refl refl
+    (g.P.Sink.taken c.args.print.now) (g.P.Sink.taken c.follow.new.print) c.follow.result c.follow.ensures.tells
     c.requires refl c.number_of_variables-size.ensures.lawful c.follow.ensures.rates

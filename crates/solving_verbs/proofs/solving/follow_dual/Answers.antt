@@ -13,26 +13,40 @@ use Rattle.solving_verbs.proofs.solving.follow_dual.Goals as goal
 
 pub returns-in-Ok-clause-tells : goal.returns-in-Ok-clause-tells
 returns-in-Ok-clause-tells g c =
-    c.print_verdict.ensures c.args.basis.now c.dual_from.new.basis (Some c.args.limit) (g.R.Rates.state c.args.rates.now).waypoints (g.R.Rates.state c.dual_from.new.rates).waypoints c.in-Ok.ensures.reached.1.bases
-    (dual_reached c.args.sheet c.args.basis.now c.dual_from.new.basis (g.R.Rates.state c.args.rates.now).waypoints (g.R.Rates.state c.dual_from.new.rates).waypoints c.in-Ok.report
-    (g.R.Rates.state c.args.rates.now).matrix (g.R.Rates.state c.args.rates.now).basics c.requires.lawful c.requires.rates c.args.limit c.in-Ok.ensures.reached c.dual_from.ensures.waypoints)
+    c.print_verdict.ensures c.args.basis.now c.dual_from.new.basis (Some c.args.limit) (g.R.Rates.state c.args.rates.now).waypoints
+    (g.R.Rates.state c.dual_from.new.rates).waypoints c.in-Ok.ensures.reached.1.bases
+    (dual_reached c.args.sheet c.args.basis.now c.dual_from.new.basis (g.R.Rates.state c.args.rates.now).waypoints
+    (g.R.Rates.state c.dual_from.new.rates).waypoints c.in-Ok.report
+    (g.R.Rates.state c.args.rates.now).matrix
+    (g.R.Rates.state c.args.rates.now).basics c.requires.lawful c.requires.rates c.args.limit c.in-Ok.ensures.reached c.dual_from.ensures.waypoints)
 
 pub returns-in-Err-NotDualFeasible-clause-tells : goal.returns-in-Err-NotDualFeasible-clause-tells
 returns-in-Err-NotDualFeasible-clause-tells g c =
-    let t = subst (DualPathStops c.args.sheet c.args.basis.now c.dual_from.new.basis c.args.limit (g.R.Rates.state c.args.rates.now).waypoints (g.R.Rates.state c.dual_from.new.rates).waypoints) c.in-Err-NotDualFeasible.field-0-is c.in-Err-NotDualFeasible.ensures.stops in
+    let t =
+    subst (DualPathStops c.args.sheet c.args.basis.now c.dual_from.new.basis c.args.limit (g.R.Rates.state c.args.rates.now).waypoints
+    (g.R.Rates.state c.dual_from.new.rates).waypoints) c.in-Err-NotDualFeasible.field-0-is c.in-Err-NotDualFeasible.ensures.stops in
     tells_quietly
-    (PathFinds solvers.Dual (sheet_view c.args.sheet) c.args.basis.now c.dual_from.new.basis (Some c.args.limit) (g.R.Rates.state c.args.rates.now).waypoints (g.R.Rates.state c.dual_from.new.rates).waypoints) (g.P.Sink.taken c.args.print.now) (Ok (WrongPrices c.in-Err-NotDualFeasible.variable)) (wrong_prices t.0)
+    (PathFinds solvers.Dual (sheet_view c.args.sheet) c.args.basis.now c.dual_from.new.basis (Some c.args.limit) (g.R.Rates.state c.args.rates.now).waypoints
+    (g.R.Rates.state c.dual_from.new.rates).waypoints) (g.P.Sink.taken c.args.print.now) (Ok (WrongPrices c.in-Err-NotDualFeasible.variable))
+    (wrong_prices t.0)
 
 pub returns-in-Err-Limit-clause-tells : goal.returns-in-Err-Limit-clause-tells
 returns-in-Err-Limit-clause-tells g c =
-    let t = subst (DualPathStops c.args.sheet c.args.basis.now c.dual_from.new.basis c.args.limit (g.R.Rates.state c.args.rates.now).waypoints (g.R.Rates.state c.dual_from.new.rates).waypoints) c.in-Err-Limit.field-0-is c.in-Err-Limit.ensures.stops in
+    let t =
+    subst (DualPathStops c.args.sheet c.args.basis.now c.dual_from.new.basis c.args.limit (g.R.Rates.state c.args.rates.now).waypoints
+    (g.R.Rates.state c.dual_from.new.rates).waypoints) c.in-Err-Limit.field-0-is c.in-Err-Limit.ensures.stops in
     tells_quietly
-    (PathFinds solvers.Dual (sheet_view c.args.sheet) c.args.basis.now c.dual_from.new.basis (Some c.args.limit) (g.R.Rates.state c.args.rates.now).waypoints (g.R.Rates.state c.dual_from.new.rates).waypoints) (g.P.Sink.taken c.args.print.now) (Ok Limit) (at_limit (t.0, t.1.goes_on))
+    (PathFinds solvers.Dual (sheet_view c.args.sheet) c.args.basis.now c.dual_from.new.basis (Some c.args.limit) (g.R.Rates.state c.args.rates.now).waypoints
+    (g.R.Rates.state c.dual_from.new.rates).waypoints) (g.P.Sink.taken c.args.print.now) (Ok Limit) (at_limit (t.0, t.1.goes_on))
 
 pub returns-in-Err-Overflow-clause-tells : goal.returns-in-Err-Overflow-clause-tells
 returns-in-Err-Overflow-clause-tells g c =
-    let t = subst (DualPathStops c.args.sheet c.args.basis.now c.dual_from.new.basis c.args.limit (g.R.Rates.state c.args.rates.now).waypoints (g.R.Rates.state c.dual_from.new.rates).waypoints) c.in-Err-Overflow.field-0-is c.in-Err-Overflow.ensures.stops in
+    let t =
+    subst (DualPathStops c.args.sheet c.args.basis.now c.dual_from.new.basis c.args.limit (g.R.Rates.state c.args.rates.now).waypoints
+    (g.R.Rates.state c.dual_from.new.rates).waypoints) c.in-Err-Overflow.field-0-is c.in-Err-Overflow.ensures.stops in
     overflow_tells
-    (PathFinds solvers.Dual (sheet_view c.args.sheet) c.args.basis.now c.dual_from.new.basis (Some c.args.limit) (g.R.Rates.state c.args.rates.now).waypoints (g.R.Rates.state c.dual_from.new.rates).waypoints) (g.P.Sink.taken c.args.print.now)
+    (PathFinds solvers.Dual (sheet_view c.args.sheet) c.args.basis.now c.dual_from.new.basis (Some c.args.limit) (g.R.Rates.state c.args.rates.now).waypoints
+    (g.R.Rates.state c.dual_from.new.rates).waypoints) (g.P.Sink.taken c.args.print.now)
     c.dual_from.new.basis (g.R.Rates.state c.dual_from.new.rates).waypoints c.in-Err-Overflow.evidence c.overflow_at.result c.overflow_at.ensures
-    (path_overflows solvers.Dual dual_turn (Dual c.args.sheet.lp.now) c.args.sheet c.args.basis.now c.dual_from.new.basis (Some c.args.limit) (g.R.Rates.state c.args.rates.now).waypoints (g.R.Rates.state c.dual_from.new.rates).waypoints c.in-Err-Overflow.evidence (λ bases place o. o) t)
+    (path_overflows solvers.Dual dual_turn (Dual c.args.sheet.lp.now) c.args.sheet c.args.basis.now c.dual_from.new.basis (Some c.args.limit)
+    (g.R.Rates.state c.args.rates.now).waypoints (g.R.Rates.state c.dual_from.new.rates).waypoints c.in-Err-Overflow.evidence (λ bases place o. o) t)

@@ -7,15 +7,18 @@ use Rattle.solving_verbs.proofs.SolvingComes.{solving_no_setup, solving_found, s
 use Rattle.solving_verbs.proofs.solving.solve.Goals as goal
 
 pub returns-in_default-clause-acts : goal.returns-in_default-clause-acts
-returns-in_default-clause-acts g c = λ cards. rw c.act.ensures (solving_no_setup c.args.verb c.args.card cards c.args.machine.now (g.P.Sink.taken c.args.print.now) c.in_default.is)
+returns-in_default-clause-acts g c =
+    λ cards. rw c.act.ensures (solving_no_setup c.args.verb c.args.card cards c.args.machine.now (g.P.Sink.taken c.args.print.now) c.in_default.is)
 
 pub returns-in_err-finding-clause-acts : goal.returns-in_err-finding-clause-acts
 returns-in_err-finding-clause-acts g c = λ cards.
     let p = err_from_is_err_and c.from_residual.result c.from_residual.ensures.1 in
     let ready = ready_of c.args.machine.now.file c.args.machine.now.setup c.in-Some.setup c.in-Some.is c.requires.ready in
     rw (p.1, p.2)
-    (solving_cut c.args.verb c.args.card (g.P.Sink.taken c.args.print.now) (g.P.Sink.taken c.find.new.print) cards c.args.machine.now c.in-Some.setup c.find.new.setup c.in-Some.is ready c.requires.demands
-    (record (c.args.machine.now) { setup = Some c.find.new.setup; mark = None }) c.in_err-finding.field-0.0 (c.in_err-finding.ensures.tells ready.problem ready.on_file))
+    (solving_cut c.args.verb c.args.card (g.P.Sink.taken c.args.print.now)
+    (g.P.Sink.taken c.find.new.print) cards c.args.machine.now c.in-Some.setup c.find.new.setup c.in-Some.is ready c.requires.demands
+    (record (c.args.machine.now) { setup = Some c.find.new.setup; mark = None }) c.in_err-finding.field-0.0
+    (c.in_err-finding.ensures.tells ready.problem ready.on_file))
 
 pub returns-in_err-finding-clause-sound : goal.returns-in_err-finding-clause-sound
 returns-in_err-finding-clause-sound g c = λ cards sound.
@@ -24,8 +27,10 @@ returns-in_err-finding-clause-sound g c = λ cards sound.
 pub returns-clause-acts : goal.returns-clause-acts
 returns-clause-acts g c = λ cards.
     let ready = ready_of c.args.machine.now.file c.args.machine.now.setup c.in-Some.setup c.in-Some.is c.requires.ready in
-    solving_found c.args.verb c.args.card (g.P.Sink.taken c.args.print.now) (g.P.Sink.taken c.find.new.print) cards c.args.machine.now c.in-Some.setup c.find.new.setup c.in-Some.is ready c.requires.demands
-    c.in_ok-finding.finding c.mark_left-machine.result c.act_of.result c.mark_left-machine.ensures c.act_of.ensures (c.in_ok-finding.ensures.tells ready.problem ready.on_file)
+    solving_found c.args.verb c.args.card (g.P.Sink.taken c.args.print.now)
+    (g.P.Sink.taken c.find.new.print) cards c.args.machine.now c.in-Some.setup c.find.new.setup c.in-Some.is ready c.requires.demands
+    c.in_ok-finding.finding c.mark_left-machine.result c.act_of.result c.mark_left-machine.ensures c.act_of.ensures
+    (c.in_ok-finding.ensures.tells ready.problem ready.on_file)
 
 pub returns-clause-sound : goal.returns-clause-sound
 returns-clause-sound g c = λ cards sound.

@@ -9,13 +9,18 @@ use Rattle.lp_laws.proofs.WaypointLaws.{keeps_same}
 pub returns-in_err-point-clause-overflow : goal.returns-in_err-point-clause-overflow
 returns-in_err-point-clause-overflow g c =
     let p = err_from_is_err_and c.from_residual.result c.from_residual.ensures.1 in
-    rw (p.1, p.2) (point_stops c.args.sheet.lp.now c.requires.no_change (g.R.Rates.state c.args.rates.now).waypoints (g.R.Rates.state c.args.rates.now).waypoints c.args.basis.now (g.R.Rates.state c.point_at.new.rates).waypoints
-    (keeps_same c.args.sheet.lp.now.matrix (basics_of c.args.basis.now) (g.R.Rates.state c.args.rates.now).waypoints) c.in_err-point.field-0.0 c.in_err-point.ensures.overflow)
+    rw (p.1, p.2)
+    (point_stops c.args.sheet.lp.now c.requires.no_change (g.R.Rates.state c.args.rates.now).waypoints
+    (g.R.Rates.state c.args.rates.now).waypoints c.args.basis.now (g.R.Rates.state c.point_at.new.rates).waypoints
+    (keeps_same c.args.sheet.lp.now.matrix (basics_of c.args.basis.now)
+    (g.R.Rates.state c.args.rates.now).waypoints) c.in_err-point.field-0.0 c.in_err-point.ensures.overflow)
 
 pub returns-in_err-report-clause-overflow : goal.returns-in_err-report-clause-overflow
 returns-in_err-report-clause-overflow g c =
     let p = err_from_is_err_and c.from_residual-in_err-report.result c.from_residual-in_err-report.ensures.1 in
-    rw (p.1, p.2) (report_stops c.args.sheet.lp.now c.requires.no_change (g.R.Rates.state c.args.rates.now).waypoints (g.R.Rates.state c.point_at.new.rates).waypoints c.args.basis.now (g.R.Rates.state c.range.new.rates).waypoints
+    rw (p.1, p.2)
+    (report_stops c.args.sheet.lp.now c.requires.no_change (g.R.Rates.state c.args.rates.now).waypoints
+    (g.R.Rates.state c.point_at.new.rates).waypoints c.args.basis.now (g.R.Rates.state c.range.new.rates).waypoints
     c.point_at.ensures.rates.1 c.in_err-report.field-0.0 c.in_err-report.ensures.overflow)
 
 pub returns-in_err-report-clause-rates : goal.returns-in_err-report-clause-rates

@@ -9,8 +9,10 @@ use Rattle.verb_answers.proofs.right_hand_side.first_program.Goals as goal
 
 pub returns-clause-program : goal.returns-clause-program
 returns-clause-program c =
-    subst (λ (xs : List ℚ). IfOk c.program_at.result (λ first. first ≡ rhs_family c.args.lp.now xs c.args.run.now.from)) c.deref.ensures.value c.program_at.ensures.program
+    subst (λ (xs : List ℚ). IfOk c.program_at.result
+    (λ first. first ≡ rhs_family c.args.lp.now xs c.args.run.now.from)) c.deref.ensures.value c.program_at.ensures.program
 
 pub returns-clause-overflow : goal.returns-clause-overflow
 returns-clause-overflow c =
-    subst (λ (xs : List ℚ). IfErr c.program_at.result (λ stop. IfOverflow stop (ShiftHolds (Pararhs c.args.lp.now xs c.args.run.now.from) []))) c.deref.ensures.value c.program_at.ensures.overflow
+    subst (λ (xs : List ℚ). IfErr c.program_at.result
+    (λ stop. IfOverflow stop (ShiftHolds (Pararhs c.args.lp.now xs c.args.run.now.from) []))) c.deref.ensures.value c.program_at.ensures.overflow

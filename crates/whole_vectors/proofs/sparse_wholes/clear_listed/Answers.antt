@@ -18,7 +18,8 @@ loop-rank-preserved c =
     let inside : place < length c.loop-rank.numbers = omega (arith, within, c.loop-rank.auto.numbers) in
     let nought : Fits (pos 0) = omega arith in (
       All-set Fits c.loop-rank.numbers place (pos 0) nought c.loop-rank.invariant.0,
-      changed_next (λ x. zero_ℚ) c.args.listed.now c.loop-rank.rank place c.args.numbers.now c.loop-rank.numbers _ (pos 0) below refl inside (get_or_default c.loop-rank.numbers place (pos 0) _ inside) refl
+      changed_next (λ x. zero_ℚ) c.args.listed.now c.loop-rank.rank place c.args.numbers.now c.loop-rank.numbers _ (pos 0) below refl inside
+          (get_or_default c.loop-rank.numbers place (pos 0) _ inside) refl
           c.loop-rank.invariant.1,
     )
 

@@ -7,4 +7,7 @@ use Rattle.whole_vectors.proofs.sparse_wholes.multiply_listed.Given as goal
 
 -- the numbers so far are multiplied, those of other places stay, and all fit
 abbrev pub invariant-loop-rank : goal.invariant-loop-rank
-invariant-loop-rank l = All Fits l.numbers × (AreKept l.listed (wholes l.fn.numbers) (wholes l.numbers) × AreChangedTo (λ x. x *ℚ whole l.by) l.listed l.rank (wholes l.fn.numbers) (wholes l.numbers))
+invariant-loop-rank l =
+    All Fits l.numbers ×
+    (AreKept l.listed (wholes l.fn.numbers) (wholes l.numbers) × AreChangedTo (λ x. x *ℚ whole l.by) l.listed l.rank (wholes l.fn.numbers)
+    (wholes l.numbers))

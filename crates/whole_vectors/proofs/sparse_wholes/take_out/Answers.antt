@@ -10,7 +10,9 @@ use Rattle.whole_vectors.proofs.Listed.{none_changed, changed_next, changed_at_e
 use Rattle.whole_vectors.proofs.sparse_wholes.take_out.Goals as goal
 
 pub loop-rank-init : goal.loop-rank-init
-loop-rank-init c = rw (to_z-of_z w128 c.args.factor c.ranges.factor) (c.requires.fit, (λ n out. refl, none_changed (λ x. x /ℚ whole c.args.factor) c.args.listed.now (wholes c.args.numbers.now)))
+loop-rank-init c =
+    rw (to_z-of_z w128 c.args.factor c.ranges.factor)
+    (c.requires.fit, (λ n out. refl, none_changed (λ x. x /ℚ whole c.args.factor) c.args.listed.now (wholes c.args.numbers.now)))
 
 pub loop-rank-preserved : goal.loop-rank-preserved
 loop-rank-preserved c =
@@ -24,7 +26,8 @@ loop-rank-preserved c =
       All-set Fits c.loop-rank.numbers place made c.in_ok-made.ensures.fits so_far.0,
       (
         kept_next c.args.listed.now c.loop-rank.rank place c.args.numbers.now c.loop-rank.numbers made below refl so_far.1.0,
-        changed_next (λ x. x /ℚ whole c.args.factor) c.args.listed.now c.loop-rank.rank place c.args.numbers.now c.loop-rank.numbers _ made below refl (omega (arith, within, c.loop-rank.auto.numbers)) (search rules)
+        changed_next (λ x. x /ℚ whole c.args.factor) c.args.listed.now c.loop-rank.rank place c.args.numbers.now c.loop-rank.numbers _ made below refl
+            (omega (arith, within, c.loop-rank.auto.numbers)) (search rules)
             (whole_quotient_is _ c.args.factor made c.requires.at_least_one product) so_far.1.1,
       ),
     )
@@ -32,4 +35,5 @@ loop-rank-preserved c =
 pub returns-clause-quotients : goal.returns-clause-quotients
 returns-clause-quotients c =
     let all : c.loop-rank.rank ≡ length c.args.listed.now = omega (arith, c.loop-rank-test.false, c.loop-rank.auto.rank-end) in
-    changed_at_end (λ x. x /ℚ whole c.args.factor) c.args.listed.now c.loop-rank.rank (wholes c.args.numbers.now) (wholes c.loop-rank.numbers) all (rw (to_z-of_z w128 c.args.factor c.ranges.factor) at c.loop-rank.invariant.1.1)
+    changed_at_end (λ x. x /ℚ whole c.args.factor) c.args.listed.now c.loop-rank.rank (wholes c.args.numbers.now) (wholes c.loop-rank.numbers) all
+    (rw (to_z-of_z w128 c.args.factor c.ranges.factor) at c.loop-rank.invariant.1.1)

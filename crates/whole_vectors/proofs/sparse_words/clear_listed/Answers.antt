@@ -14,7 +14,8 @@ loop-rank-preserved c =
     let place = get_or c.args.listed.now c.loop-rank.rank 0 in
     let within = c.requires c.loop-rank.rank 0 below in
     let inside : place < length c.loop-rank.numbers = omega (arith, within, c.loop-rank.auto.numbers) in
-    changed_next (λ x. zero_ℚ) c.args.listed.now c.loop-rank.rank place c.args.numbers.now c.loop-rank.numbers _ (pos 0) below refl inside (get_or_default c.loop-rank.numbers place (pos 0) _ inside) refl
+    changed_next (λ x. zero_ℚ) c.args.listed.now c.loop-rank.rank place c.args.numbers.now c.loop-rank.numbers _ (pos 0) below refl inside
+    (get_or_default c.loop-rank.numbers place (pos 0) _ inside) refl
     c.loop-rank.invariant
 
 pub returns : goal.returns

@@ -18,7 +18,8 @@ loop-rank-preserved c =
     let within = c.requires c.loop-rank.rank 0 below in
     rw (to_z-of_z w64 c.in_ok-made.made (search rules)) (
       kept_next c.args.listed.now c.loop-rank.rank place c.args.numbers.now c.loop-rank.numbers c.in_ok-made.made below refl c.loop-rank.invariant.0,
-      changed_next (λ x. x *ℚ c.args.by) c.args.listed.now c.loop-rank.rank place c.args.numbers.now c.loop-rank.numbers _ c.in_ok-made.made below refl (omega (arith, within, c.loop-rank.auto.numbers)) (search rules)
+      changed_next (λ x. x *ℚ c.args.by) c.args.listed.now c.loop-rank.rank place c.args.numbers.now c.loop-rank.numbers _ c.in_ok-made.made below refl
+          (omega (arith, within, c.loop-rank.auto.numbers)) (search rules)
           (c.in_ok-made.ensures ∙ zero-add _) c.loop-rank.invariant.1,
     )
 

@@ -20,4 +20,5 @@ returns-clause-value c =
     let product : c.in_ok-product.product ≡ c.args.x *ℤ c.in_ok-y.y =
     c.in_ok-product.ensures.1 ∙ ap₂ (λ a b. a *ℤ b) (to_z-of_z w128 c.args.x c.ranges.x) (read_fitting c.in_ok-y.y c.in_ok-y.ensures.fits) in
     summed c.sum.result _ _ _ c.args.sum c.args.x c.in_ok-y.y c.args.y (read_fitting c.args.sum c.requires.fits)
-    (read_fitting c.in_ok-product.product (subst (λ z. Fits z) (sym c.in_ok-product.ensures.1) c.in_ok-product.ensures.0) ∙ product) c.in_ok-y.ensures.value c.sum.ensures
+    (read_fitting c.in_ok-product.product (subst (λ z. Fits z) (sym c.in_ok-product.ensures.1) c.in_ok-product.ensures.0)
+    ∙ product) c.in_ok-y.ensures.value c.sum.ensures

@@ -15,7 +15,8 @@ returns-then-n-eq0 c =
       | then-n-eq0-via-then-n-eq0 w ↦
           let none : c.args.n ≡ pos 0 = sym (to_z-of_z w64 c.args.n c.ranges.n) ∙ ap (to_z w64) w.if-n-eq0.true in
           left_nothing_over (whole c.args.n) c.args.by (ap whole none)
-      | then-n-eq0-via-else-n-eq0+then-eq w ↦ over_once (whole c.args.n) c.args.by (same_reported c.args.by one_ℚ w.whole.result w.eq.result w.eq.ensures w.if-eq.true w.whole.ensures)
+      | then-n-eq0-via-else-n-eq0+then-eq w ↦ over_once (whole c.args.n) c.args.by
+          (same_reported c.args.by one_ℚ w.whole.result w.eq.result w.eq.ensures w.if-eq.true w.whole.ensures)
     ]
 
 pub returns-in-Some : goal.returns-in-Some

@@ -13,11 +13,14 @@ invariant_of-result c =
       row_names = c.in_ok-rows.ensures ∙ ap (map (λ row. row.name)) c.rows.ensures.rows;
       column_names = c.in_ok-columns.ensures ∙ ap (map (λ column. column.name)) c.columns.ensures.columns;
       names = c.requires;
-      placed = ap length (c.into_statuses.ensures ∙ c.in_ok-opening.ensures) ∙ length-map (variables c.args.lp.now.matrix) _ ∙ length-numbers_from 1 (size c.args.lp.now.matrix);
+      placed =
+          ap length (c.into_statuses.ensures ∙ c.in_ok-opening.ensures) ∙ length-map (variables c.args.lp.now.matrix) _
+          ∙ length-numbers_from 1 (size c.args.lp.now.matrix);
       marked = ap length marks ∙ length-replicate (size c.args.lp.now.matrix) false;
     }
 
 pub returns : goal.returns
 returns c =
-    nothing_read c.args.problem.now c.args.lp.now None c.into_statuses.result.items c.in_ok-marks.marks.items refl (c.into_statuses.ensures ∙ c.in_ok-opening.ensures)
+    nothing_read c.args.problem.now c.args.lp.now None c.into_statuses.result.items c.in_ok-marks.marks.items refl
+    (c.into_statuses.ensures ∙ c.in_ok-opening.ensures)
     (c.in_ok-marks.ensures.items_if_clones_equal (λ y clone. clone) ∙ ap (λ n. replicate n false) c.number_of_variables-size.ensures.size)

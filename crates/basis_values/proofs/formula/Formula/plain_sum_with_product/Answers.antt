@@ -6,4 +6,5 @@ use Rattle.basis_values.proofs.formula.Formula.plain_sum_with_product.Goals as g
 
 pub returns-clause-needed : goal.returns-clause-needed
 returns-clause-needed c =
-    OnErr-map c.sum.result (λ some vanishes. some (c.in_ok-product.ensures.value ∙ ap (λ (x : ℚ). c.args.x *ℚ x) vanishes ∙ mul-zero c.args.x)) c.sum.ensures.right
+    OnErr-map c.sum.result
+    (λ some vanishes. some (c.in_ok-product.ensures.value ∙ ap (λ (x : ℚ). c.args.x *ℚ x) vanishes ∙ mul-zero c.args.x)) c.sum.ensures.right

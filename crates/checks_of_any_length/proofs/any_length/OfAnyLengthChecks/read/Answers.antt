@@ -10,4 +10,6 @@ returns-then-not-branch c =
     sym (other_is_none c.args.word.now (sym c.is_long.ensures ∙ c.if-is_long.false) (sym c.in_ok-is_number.ensures ∙ c.if-not-branch.true))
 
 pub returns : goal.returns
-returns c = ap Some c.new.ensures ∙ sym (text_is_read c.args.word.now (sym c.is_long.ensures ∙ c.if-is_long.false) (sym c.in_ok-is_number.ensures ∙ c.if-not-branch.false))
+returns c =
+    ap Some c.new.ensures
+    ∙ sym (text_is_read c.args.word.now (sym c.is_long.ensures ∙ c.if-is_long.false) (sym c.in_ok-is_number.ensures ∙ c.if-not-branch.false))

@@ -24,7 +24,9 @@ one_given {X} {Y} h x = by (h x)
 pub returns-in-Some : goal.returns-in-Some
 returns-in-Some c = λ cards after count.
     ap (option_map (fault_at c.args.number)) (sym (c.in-Some.ensures cards
-    (λ good. c.is_placed-is_twice.ensures ∙ ap (λ (label : Option (List ℕ)). option_map_or (λ (name : List ℕ). is_some (lookup (bytes_eq name) c.args.self.now.labels)) label false) (c.label_in-label.ensures.label ∙ ap label_text c.label.ensures.label)
+    (λ good. c.is_placed-is_twice.ensures
+    ∙ ap (λ (label : Option (List ℕ)). option_map_or (λ (name : List ℕ). is_some (lookup (bytes_eq name) c.args.self.now.labels)) label false)
+    (c.label_in-label.ensures.label ∙ ap label_text c.label.ensures.label)
     ∙ twice_reported c.args.self.now.labels cards c.args.card.now after.labels good)
     (omega (arith, count, c.len-position.ensures)))) ∙ ap Some (sym c.on_card.ensures)
 
@@ -32,16 +34,23 @@ pub returns : goal.returns
 returns c = λ cards after count.
     let is : c.label_in-label.result ≡ label_text (label_of c.args.card.now) = c.label_in-label.ensures.label ∙ ap label_text c.label.ensures.label in
     let none : control_card_fault cards c.args.card.now ≡ None = sym (c.in_default.ensures cards
-    (λ good. c.is_placed-is_twice.ensures ∙ ap (λ (label : Option (List ℕ)). option_map_or (λ (name : List ℕ). is_some (lookup (bytes_eq name) c.args.self.now.labels)) label false) is
+    (λ good. c.is_placed-is_twice.ensures
+    ∙ ap (λ (label : Option (List ℕ)). option_map_or (λ (name : List ℕ). is_some (lookup (bytes_eq name) c.args.self.now.labels)) label false) is
     ∙ twice_reported c.args.self.now.labels cards c.args.card.now after.labels good)
     (omega (arith, count, c.len-position.ensures))) in
     let tests = faultless cards c.args.card.now none in (
       none,
       c.is_pend.ensures,
       record {
-        labels = next_positions c.args.self.now.labels c.place_label.new.labels cards (record { number = c.args.number; bytes = c.args.card.now }) c.label_in-label.result (c.len-position.result + 1) is tests.label tests.once (omega (arith, count, c.len-position.ensures)) c.in_ok-place_label.ensures.ok after.labels;
-        statements = c.in_ok-push_statement.ensures.ok ∙ ap (λ front. front ++ option_to_list (statement_said (record { number = c.args.number; bytes = c.args.card.now }))) after.statements
-            ∙ sym (filter_map-append statement_said cards ((record { number = c.args.number; bytes = c.args.card.now }) ∷ []) ∙ ap (λ back. filter_map statement_said cards ++ back) (one_given statement_said (record { number = c.args.number; bytes = c.args.card.now })));
+        labels =
+            next_positions c.args.self.now.labels c.place_label.new.labels cards
+            (record { number = c.args.number; bytes = c.args.card.now }) c.label_in-label.result (c.len-position.result + 1) is tests.label tests.once
+            (omega (arith, count, c.len-position.ensures)) c.in_ok-place_label.ensures.ok after.labels;
+        statements =
+            c.in_ok-push_statement.ensures.ok
+            ∙ ap (λ front. front ++ option_to_list (statement_said (record { number = c.args.number; bytes = c.args.card.now }))) after.statements
+            ∙ sym (filter_map-append statement_said cards ((record { number = c.args.number; bytes = c.args.card.now }) ∷ [])
+            ∙ ap (λ back. filter_map statement_said cards ++ back) (one_given statement_said (record { number = c.args.number; bytes = c.args.card.now })));
         lawful = c.in_ok-push_statement.ensures.lawful after.lawful;
       },
     )

@@ -7,4 +7,5 @@ pub loop-number-init : goal.loop-number-init
 loop-number-init c = underway_first c.args.cards.now c.args.first c.args.draft c.requires
 
 pub returns : goal.returns
-returns c = read_to_the_end c.args.cards.now c.loop-number.number c.loop-number.draft (rw (sym c.count.ensures.count) c.loop-number-test.false) c.loop-number.invariant
+returns c =
+    read_to_the_end c.args.cards.now c.loop-number.number c.loop-number.draft (rw (sym c.count.ensures.count) c.loop-number-test.false) c.loop-number.invariant

@@ -19,13 +19,15 @@ pub take_out-requires-clause-within : goal.take_out-requires-clause-within
 take_out-requires-clause-within c =
     let b = c.self.inside.marks.items in
     rw c.self.invariant
-    (leaver_listed b c.args.p c.args.q c.requires.p_low (rw (← c.self.view_is) at c.requires.p_high) c.requires.q_low (rw (← c.self.view_is) at c.requires.q_high)
+    (leaver_listed b c.args.p c.args.q c.requires.p_low (rw (← c.self.view_is) at c.requires.p_high) c.requires.q_low
+    (rw (← c.self.view_is) at c.requires.q_high)
     (rw (← c.self.view_is) at c.requires.leaves) (rw (← c.self.view_is) at c.requires.enters))
 
 pub invariant_of-self : goal.invariant_of-self
 invariant_of-self c =
     let b = c.self.inside.marks.items in
     c.put_in.ensures
-    ∙ exchanged_listed b c.args.p c.args.q c.requires.p_low (rw (← c.self.view_is) at c.requires.p_high) c.requires.q_low (rw (← c.self.view_is) at c.requires.q_high)
+    ∙ exchanged_listed b c.args.p c.args.q c.requires.p_low (rw (← c.self.view_is) at c.requires.p_high) c.requires.q_low
+    (rw (← c.self.view_is) at c.requires.q_high)
     (rw (← c.self.view_is) at c.requires.leaves) (rw (← c.self.view_is) at c.requires.enters) c.take_out.new.listed.items
     (c.take_out.ensures.items ∙ ap (λ ks. remove ks (place_in ks c.args.p)) c.self.invariant)

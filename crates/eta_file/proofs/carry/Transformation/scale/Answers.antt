@@ -12,7 +12,8 @@ loop-entry-init g c = record { each = λ k low high other. c.requires.zero k low
 
 pub returns-in_err-out-clause-cost : goal.returns-in_err-out-clause-cost
 returns-in_err-out-clause-cost g c =
-    let workspace = others_room c.args.entries.now c.loop-entry.entry-index c.entry-item.result c.loop-entry-test.true c.entry-item.is c.args.self.p c.if-entry-self.true in
+    let workspace =
+    others_room c.args.entries.now c.loop-entry.entry-index c.entry-item.result c.loop-entry-test.true c.entry-item.is c.args.self.p c.if-entry-self.true in
     omega (arith, workspace, c.in_err-out.ensures.cost, c.loop-entry.invariant.cost)
 
 pub returns-in_err-out-clause-refused : goal.returns-in_err-out-clause-refused
@@ -30,7 +31,8 @@ returns-in_err-out-clause-refused g c =
 pub loop-entry-preserved : goal.loop-entry-preserved
 loop-entry-preserved g c =
     let within : IsEntryWithin (length c.args.out.now) c.entry-item.result =
-    subst (λ (x : EtaEntry). IsEntryWithin (length c.args.out.now) x) (sym c.entry-item.is) (c.requires.within c.loop-entry.entry-index c.entry-item.result c.loop-entry-test.true) in
+    subst (λ (x : EtaEntry). IsEntryWithin (length c.args.out.now) x) (sym c.entry-item.is)
+    (c.requires.within c.loop-entry.entry-index c.entry-item.result c.loop-entry-test.true) in
     let inside : IsEntryWithin (length c.loop-entry.out) c.entry-item.result = (within.0, omega (arith, within.1, c.loop-entry.auto.out)) in
     elim c.if-entry-self.branch [
       | then-entry-self+in_ok-out w ↦ rw (w.out-is, w.steps-is) (record {
@@ -39,16 +41,19 @@ loop-entry-preserved g c =
             c.args.reciprocal w.in_ok-out.field-0 k low w.in_ok-out.ensures.value c.requires.apart
             (c.loop-entry.invariant.each k low high other);
         cost =
-            let more = others_next_other c.args.entries.now c.loop-entry.entry-index c.entry-item.result c.loop-entry-test.true c.entry-item.is c.args.self.p w.if-entry-self.true in
+            let more =
+            others_next_other c.args.entries.now c.loop-entry.entry-index c.entry-item.result c.loop-entry-test.true c.entry-item.is c.args.self.p w.if-entry-self.true in
             omega (arith, more, w.in_ok-out.ensures.cost, c.loop-entry.invariant.cost);
       })
       | else-entry-self w ↦ rw (w.out-is, w.steps-is) (record {
         each = λ k low high other.
             let apart : c.entry-item.result.i ≢ k = λ e. other (sym e ∙ w.if-entry-self.false) in
             c.loop-entry.invariant.each k low high other
-            ∙ ap (λ s. c.args.reciprocal *ℚ s) (sym (sum_next_other c.args.entries.now c.loop-entry.entry-index c.entry-item.result c.loop-entry-test.true c.entry-item.is k apart));
+            ∙ ap (λ s. c.args.reciprocal *ℚ s)
+            (sym (sum_next_other c.args.entries.now c.loop-entry.entry-index c.entry-item.result c.loop-entry-test.true c.entry-item.is k apart));
         cost =
-            let same = others_next_same c.args.entries.now c.loop-entry.entry-index c.entry-item.result c.loop-entry-test.true c.entry-item.is c.args.self.p w.if-entry-self.false in
+            let same =
+            others_next_same c.args.entries.now c.loop-entry.entry-index c.entry-item.result c.loop-entry-test.true c.entry-item.is c.args.self.p w.if-entry-self.false in
             omega (arith, same, c.loop-entry.invariant.cost);
       })
     ]

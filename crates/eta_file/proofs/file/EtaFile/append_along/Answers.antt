@@ -9,7 +9,8 @@ use Rattle.eta_file.proofs.file.EtaFile.append_along.Goals as goal
 
 pub entries_but-requires : goal.entries_but-requires
 entries_but-requires c =
-    subst (λ xs. All (λ (k : ℕ). (1 ≤ k) × (k ≤ length xs)) c.nonzero.result.now) (sym c.values-values.ensures) (nonzero_within c.args.direction.now c.nonzero.result.now c.nonzero.ensures)
+    subst (λ xs. All (λ (k : ℕ). (1 ≤ k) × (k ≤ length xs)) c.nonzero.result.now) (sym c.values-values.ensures)
+    (nonzero_within c.args.direction.now c.nonzero.result.now c.nonzero.ensures)
 
 pub append_entries-requires : goal.append_entries-requires
 append_entries-requires c =
@@ -26,7 +27,8 @@ append_entries-requires c =
       is_direction = direction;
       apart = c.requires.pivot;
       is_pivot =
-          value_at_place c.values-values.result.now c.args.p c.index-values-p.result leaves.0.0 (omega (arith, leaves.0.1, places, ap length c.values-values.ensures)) c.index-values-p.is
+          value_at_place c.values-values.result.now c.args.p c.index-values-p.result leaves.0.0
+          (omega (arith, leaves.0.1, places, ap length c.values-values.ensures)) c.index-values-p.is
           ∙ ap (λ xs. value_at xs c.args.p) c.values-values.ensures;
       are_entries =
           entries_along f.matrix f.basics counted c.args.q enters c.args.direction.now places direction c.nonzero.result.now c.nonzero.ensures c.values-values.result.now c.values-values.ensures

@@ -12,16 +12,19 @@ pub transform_at-requires-clause-before : goal.transform_at-requires-clause-befo
 transform_at-requires-clause-before g c =
     let f = inverse_of c.self.inside in
     rw (← c.self.view_is)
-    (nonbasic_from f.matrix f.etas f.basics c.self.invariant.0 c.args.j c.last_left-first.result (rw c.deref.ensures.value at c.last_left-first.ensures.none_later) (rw (← c.self.view_is) at c.requires.nonbasic)
+    (nonbasic_from f.matrix f.etas f.basics c.self.invariant.0 c.args.j c.last_left-first.result
+    (rw c.deref.ensures.value at c.last_left-first.ensures.none_later) (rw (← c.self.view_is) at c.requires.nonbasic)
     c.loop-place.place (omega arith))
 
 pub transform_at-requires-clause-then : goal.transform_at-requires-clause-then
 transform_at-requires-clause-then g c =
     let f = inverse_of c.self.inside in
     rw (← c.self.view_is)
-    (nonbasic_from f.matrix f.etas f.basics c.self.invariant.0 c.args.j c.last_left-first.result (rw c.deref.ensures.value at c.last_left-first.ensures.none_later) (rw (← c.self.view_is) at c.requires.nonbasic)
+    (nonbasic_from f.matrix f.etas f.basics c.self.invariant.0 c.args.j c.last_left-first.result
+    (rw c.deref.ensures.value at c.last_left-first.ensures.none_later) (rw (← c.self.view_is) at c.requires.nonbasic)
     (c.loop-place.place + 1) (omega arith))
 
 pub returns-in_err-transform_at-clause-cost : goal.returns-in_err-transform_at-clause-cost
 returns-in_err-transform_at-clause-cost g c =
-    let few = entry_count-take_le c.args.self.now.etas (c.loop-place.place + 1) in omega (arith, few, c.in_err-transform_at.ensures.cost, c.loop-place.invariant.cost)
+    let few = entry_count-take_le c.args.self.now.etas (c.loop-place.place + 1) in
+    omega (arith, few, c.in_err-transform_at.ensures.cost, c.loop-place.invariant.cost)

@@ -7,14 +7,16 @@ pub transform_whole_at-requires-clause-before : goal.transform_whole_at-requires
 transform_whole_at-requires-clause-before c =
     let f = inverse_of c.self.inside in
     rw (← c.self.view_is)
-    (nonbasic_from f.matrix f.etas f.basics c.self.invariant.0 c.args.j c.last_left-first.result (rw c.deref.ensures.value at c.last_left-first.ensures.none_later) (rw (← c.self.view_is) at c.requires.nonbasic)
+    (nonbasic_from f.matrix f.etas f.basics c.self.invariant.0 c.args.j c.last_left-first.result
+    (rw c.deref.ensures.value at c.last_left-first.ensures.none_later) (rw (← c.self.view_is) at c.requires.nonbasic)
     c.loop-place.place (omega arith))
 
 pub transform_whole_at-requires-clause-then : goal.transform_whole_at-requires-clause-then
 transform_whole_at-requires-clause-then c =
     let f = inverse_of c.self.inside in
     rw (← c.self.view_is)
-    (nonbasic_from f.matrix f.etas f.basics c.self.invariant.0 c.args.j c.last_left-first.result (rw c.deref.ensures.value at c.last_left-first.ensures.none_later) (rw (← c.self.view_is) at c.requires.nonbasic)
+    (nonbasic_from f.matrix f.etas f.basics c.self.invariant.0 c.args.j c.last_left-first.result
+    (rw c.deref.ensures.value at c.last_left-first.ensures.none_later) (rw (← c.self.view_is) at c.requires.nonbasic)
     (c.loop-place.place + 1) (omega arith))
 
 pub returns-clause-direction : goal.returns-clause-direction
@@ -26,4 +28,5 @@ returns-clause-direction c =
     let last = c.loop-place.auto.place-end first in
     let all : c.loop-place.place ≡ length f.etas = omega (arith, counted, last, c.loop-place-test.false) in
     rw (← c.self.view_is)
-    (at_end f.matrix f.etas f.basics c.self.invariant.0 c.args.j c.loop-place.place c.loop-place.denominator c.loop-place.wholes all (rw (← c.self.view_is) at c.loop-place.invariant.direction))
+    (at_end f.matrix f.etas f.basics c.self.invariant.0 c.args.j c.loop-place.place c.loop-place.denominator c.loop-place.wholes all
+    (rw (← c.self.view_is) at c.loop-place.invariant.direction))

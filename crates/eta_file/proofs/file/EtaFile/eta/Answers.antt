@@ -15,4 +15,5 @@ returns-clause-few c =
     let f = inverse_of c.self.inside in
     let high : c.args.k ≤ length f.etas = rw (← c.self.view_is) at c.requires.high in
     rw (← c.self.view_is, c.deref.ensures.value)
-    (entries_at_most_rows f.matrix f.etas f.basics c.self.invariant.0 (c.args.k - 1) c.index-eta.result.now (omega (arith, high, c.requires.low)) c.index-eta.ensures)
+    (entries_at_most_rows f.matrix f.etas f.basics c.self.invariant.0 (c.args.k - 1) c.index-eta.result.now
+    (omega (arith, high, c.requires.low)) c.index-eta.ensures)

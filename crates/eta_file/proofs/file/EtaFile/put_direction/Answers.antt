@@ -12,8 +12,10 @@ place_of-requires c = subst (λ ks. IsNonDecreasing ks) (sym c.listed-listed.ens
 pub put_around-requires-clause-covered : goal.put_around-requires-clause-covered
 put_around-requires-clause-covered c =
     let f = inverse_of c.self.inside in
-    let place : c.place_of.result ≡ place_in (listed_of f.basics) c.args.j = c.place_of.ensures.place ∙ ap (λ ks. place_in ks c.args.j) c.listed-listed.ensures in
+    let place : c.place_of.result ≡ place_in (listed_of f.basics) c.args.j =
+    c.place_of.ensures.place ∙ ap (λ ks. place_in ks c.args.j) c.listed-listed.ensures in
     direction_covered f.matrix f.basics (marks_counted f.matrix f.etas f.basics c.self.invariant.0) c.args.j (rw (← c.self.view_is) at c.requires.nonbasic)
-    c.args.values.items (rw (← c.self.view_is) at c.requires.places) (rw (← c.self.view_is) at c.requires.direction) c.split_at.result.0.now c.split_at.result.1.now
+    c.args.values.items (rw (← c.self.view_is) at c.requires.places)
+    (rw (← c.self.view_is) at c.requires.direction) c.split_at.result.0.now c.split_at.result.1.now
     (c.split_at.ensures.front ∙ ap (λ n. take n c.listed-listed.result.now) place ∙ ap (take (place_in (listed_of f.basics) c.args.j)) c.listed-listed.ensures)
     (c.split_at.ensures.back ∙ ap (λ n. drop n c.listed-listed.result.now) place ∙ ap (drop (place_in (listed_of f.basics) c.args.j)) c.listed-listed.ensures)

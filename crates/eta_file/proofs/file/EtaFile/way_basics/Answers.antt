@@ -33,7 +33,8 @@ bounds-out-eta c =
     let low = way_below f.matrix f.etas f.basics c.self.invariant.0 c.args.way (rw (← c.self.view_is) at c.requires.is_way) in
     let below : c.loop-place.place < length f.etas = omega (arith, low) in
     let places : length c.args.out.now ≡ size f.matrix = rw (← c.self.view_is) at c.requires.places in
-    let within = within_places f.matrix f.etas f.basics c.self.invariant.0 c.loop-place.place c.index-eta.result.now below c.index-eta.ensures (size f.matrix) refl in
+    let within =
+    within_places f.matrix f.etas f.basics c.self.invariant.0 c.loop-place.place c.index-eta.result.now below c.index-eta.ensures (size f.matrix) refl in
     omega (arith, within.q_low, within.q_high, places, c.loop-place.auto.out, c.mark_rows.auto.out)
 
 pub overflow_sub-out-in-loop-place : goal.overflow_sub-out-in-loop-place
@@ -49,7 +50,8 @@ bounds-out-eta-in-loop-place c =
     let low = way_below f.matrix f.etas f.basics c.self.invariant.0 c.args.way (rw (← c.self.view_is) at c.requires.is_way) in
     let below : c.loop-place.place < length f.etas = omega (arith, low) in
     let places : length c.args.out.now ≡ size f.matrix = rw (← c.self.view_is) at c.requires.places in
-    let within = within_places f.matrix f.etas f.basics c.self.invariant.0 c.loop-place.place c.index-eta.result.now below c.index-eta.ensures (size f.matrix) refl in
+    let within =
+    within_places f.matrix f.etas f.basics c.self.invariant.0 c.loop-place.place c.index-eta.result.now below c.index-eta.ensures (size f.matrix) refl in
     rw length-set (omega (arith, within.p_low, within.p_high, places, c.loop-place.auto.out, c.mark_rows.auto.out))
 
 pub loop-place-preserved : goal.loop-place-preserved
@@ -60,7 +62,8 @@ loop-place-preserved c =
     let so_far : c.loop-place.out ≡ after (row_basics f.matrix) (take c.loop-place.place f.etas) = rw (← c.self.view_is) at c.loop-place.invariant in
     rw (← c.self.view_is)
     (ap (λ w. exchanged w c.index-eta.result.now.p c.index-eta.result.now.q) so_far
-    ∙ sym (set_then f.matrix f.etas f.basics c.self.invariant.0 c.loop-place.place c.index-eta.result.now below c.index-eta.ensures (c.loop-place.place + 1) refl))
+    ∙ sym (set_then f.matrix f.etas f.basics c.self.invariant.0 c.loop-place.place c.index-eta.result.now below c.index-eta.ensures
+    (c.loop-place.place + 1) refl))
 
 pub returns : goal.returns
 returns c =

@@ -12,4 +12,5 @@ returns c =
     let is_whole : IsWholeOf eta.pivot eta.entries.items c.in-Some.whole =
     subst (λ o. IfSome o (IsWholeOf eta.pivot eta.entries.items)) c.in-Some.is
     (whole_is f.matrix f.etas f.basics c.self.invariant.0 (c.args.k - 1) eta (omega (arith, high, c.requires.low)) c.index-eta.ensures) in
-    rw (← c.self.view_is, c.deref.ensures.value) (lent_scaled f.etas (c.args.k - 1) eta c.in-Some.whole (omega (arith, high, c.requires.low)) c.index-eta.ensures is_whole)
+    rw (← c.self.view_is, c.deref.ensures.value)
+    (lent_scaled f.etas (c.args.k - 1) eta c.in-Some.whole (omega (arith, high, c.requires.low)) c.index-eta.ensures is_whole)

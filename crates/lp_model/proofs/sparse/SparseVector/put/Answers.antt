@@ -7,7 +7,10 @@ use Rattle.lp_model.proofs.NonzeroLists.{candidates_within, kept_nonzero}
 use Rattle.lp_model.proofs.sparse.SparseVector.put.Goals as goal
 
 pub keep_nonzero-requires : goal.keep_nonzero-requires
-keep_nonzero-requires c = subst (λ (xs : List _). (k : ℕ) → (d : ℕ) → k < length c.args.candidates.now → (1 ≤ slice_index_or c.args.candidates.now k d) × (slice_index_or c.args.candidates.now k d ≤ length xs)) (sym c.deref.ensures.value) (candidates_within c.args.values.items 1 c.args.candidates.now (omega arith) c.requires.covered)
+keep_nonzero-requires c =
+    subst (λ (xs : List _). (k : ℕ) → (d : ℕ) → k < length c.args.candidates.now →
+    (1 ≤ slice_index_or c.args.candidates.now k d) × (slice_index_or c.args.candidates.now k d ≤ length xs)) (sym c.deref.ensures.value)
+    (candidates_within c.args.values.items 1 c.args.candidates.now (omega arith) c.requires.covered)
 
 pub invariant_of-self : goal.invariant_of-self
 invariant_of-self c =

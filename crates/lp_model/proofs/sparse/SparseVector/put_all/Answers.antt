@@ -8,5 +8,6 @@ use Rattle.lp_model.proofs.sparse.SparseVector.put_all.Goals as goal
 
 pub invariant_of-self : goal.invariant_of-self
 invariant_of-self c =
-    let items : c.keep_all_nonzero.new.kept.items ≡ filter (λ k. not (eq_ℚ (value_at c.args.values.items k) zero_ℚ)) (numbers_from 1 (length c.args.values.items)) = search rules in
+    let items : c.keep_all_nonzero.new.kept.items ≡ filter (λ k. not (eq_ℚ (value_at c.args.values.items k) zero_ℚ))
+    (numbers_from 1 (length c.args.values.items)) = search rules in
     subst (AreNonzeroFrom c.args.values.items 1) (sym items) (all_nonzero c.args.values.items)

@@ -15,5 +15,6 @@ keep_around-requires c =
 pub invariant_of-self : goal.invariant_of-self
 invariant_of-self c =
     let ks : List ℕ = c.args.before.now ++ c.args.k ∷ c.args.after.now in
-    let items : c.keep_around.new.kept.items ≡ filter (λ k. not (eq_ℚ (value_at c.args.values.items k) zero_ℚ)) (c.args.before.now ++ c.args.k ∷ c.args.after.now) = search rules in
+    let items : c.keep_around.new.kept.items ≡ filter (λ k. not (eq_ℚ (value_at c.args.values.items k) zero_ℚ))
+    (c.args.before.now ++ c.args.k ∷ c.args.after.now) = search rules in
     subst (AreNonzeroFrom c.args.values.items 1) (sym items) (kept_nonzero c.args.values.items 1 ks c.requires.covered)

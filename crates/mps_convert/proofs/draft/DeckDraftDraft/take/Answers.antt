@@ -7,7 +7,8 @@ use Rattle.mps_convert.proofs.draft.DeckDraftDraft.take.Goals as goal
 
 pub returns-clause-no_fault : goal.returns-clause-no_fault
 returns-clause-no_fault c start seen is =
-    no_fault card_fault state_of fault_at state_with fault-state state-step c.take_card.result (state_view c.args.self.now) seen c.args.card.bytes.now is c.take_card.ensures.no_fault
+    no_fault card_fault state_of fault_at state_with fault-state state-step c.take_card.result
+    (state_view c.args.self.now) seen c.args.card.bytes.now is c.take_card.ensures.no_fault
 
 pub returns-clause-made : goal.returns-clause-made
 returns-clause-made c start seen number is =
@@ -16,4 +17,5 @@ returns-clause-made c start seen number is =
 
 pub returns-clause-stop : goal.returns-clause-stop
 returns-clause-stop c start seen is =
-    stop card_fault state_of fault_at state_with fault-state state-step c.take_card.result (state_view c.args.self.now) seen c.args.card.bytes.now is c.take_card.ensures.stop
+    stop card_fault state_of fault_at state_with fault-state state-step c.take_card.result
+    (state_view c.args.self.now) seen c.args.card.bytes.now is c.take_card.ensures.stop

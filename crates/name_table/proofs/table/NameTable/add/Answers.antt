@@ -12,4 +12,5 @@ returns-clause-added c =
 pub returns-clause-taken : goal.returns-clause-taken
 returns-clause-taken c =
     rw (← c.self.view_is)
-    (ap (option_map (λ place. place + 1)) (new_has_no_place (bytes_eq c.args.name) c.self.inside.names.keys c.in_ok-index.is_new c.in_ok-index.ensures.added c.if-not-is_new.false))
+    (ap (option_map (λ place. place + 1))
+    (new_has_no_place (bytes_eq c.args.name) c.self.inside.names.keys c.in_ok-index.is_new c.in_ok-index.ensures.added c.if-not-is_new.false))

@@ -13,7 +13,8 @@ returns c =
     let e : Name × List (Bound Name) = (c.args.name, c.args.bounds) in
     rw (← c.self.view_is)
     (on_ok_weaker c.insert_new.result
-    (λ placed. ap (map group_at) (placed ∙ ap (λ place. insert c.self.inside.sets.entries place e) c.len-last.ensures.len ∙ at_end e c.self.inside.sets.entries) ∙ map-append group_at c.self.inside.sets.entries (e ∷ []))
+    (λ placed. ap (map group_at) (placed ∙ ap (λ place. insert c.self.inside.sets.entries place e) c.len-last.ensures.len ∙ at_end e c.self.inside.sets.entries)
+    ∙ map-append group_at c.self.inside.sets.entries (e ∷ []))
     c.insert_new.ensures.placed)
 
 pub insert_new-requires : goal.insert_new-requires

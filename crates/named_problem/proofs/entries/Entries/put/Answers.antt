@@ -4,4 +4,5 @@ use Rattle.named_problem.proofs.NamedValues.{entry_put}
 use Rattle.named_problem.proofs.entries.Entries.put.Goals as goal
 
 pub returns : goal.returns
-returns c = rw (← c.self.view_is) (ap (map entry_at) c.in_ok-insert.ensures.entries ∙ entry_put c.args.row c.args.number c.self.inside.values.entries c.self.invariant)
+returns c =
+    rw (← c.self.view_is) (ap (map entry_at) c.in_ok-insert.ensures.entries ∙ entry_put c.args.row c.args.number c.self.inside.values.entries c.self.invariant)

@@ -8,4 +8,5 @@ use Rattle.named_problem.proofs.groups.Groups.add.Goals as goal
 pub returns : goal.returns
 returns c =
     let group : Group (Entry Name) = record { name = c.args.name; items = c.args.items } in
-    on_ok_weaker c.insert.result (λ placed. placed ∙ ap (λ place. insert c.args.self.now place group) c.len-last.ensures.count ∙ at_end group c.args.self.now) c.insert.ensures
+    on_ok_weaker c.insert.result
+    (λ placed. placed ∙ ap (λ place. insert c.args.self.now place group) c.len-last.ensures.count ∙ at_end group c.args.self.now) c.insert.ensures

@@ -5,4 +5,5 @@ use Rattle.named_problem.proofs.NamedValues.{unchanged_group}
 use Rattle.named_problem.proofs.groups.Groups.change.Goals as goal
 
 pub returns-then-not-has : goal.returns-then-not-has
-returns-then-not-has c = sym (unchanged_group c.args.card.now.name1 (entries_changed c.args.change (viewed c.args.card.now)) c.args.self.now (sym c.has.ensures ∙ c.if-not-has.true))
+returns-then-not-has c =
+    sym (unchanged_group c.args.card.now.name1 (entries_changed c.args.change (viewed c.args.card.now)) c.args.self.now (sym c.has.ensures ∙ c.if-not-has.true))

@@ -29,5 +29,6 @@ invariant_of-self c = (c.settle.ensures.distinct, c.settle.ensures.count, c.sett
 
 pub returns : goal.returns
 returns c = rw (← c.self.view_is) (with_ok_settled _ _ _ c.change_under-changed.result c.settle.result c.settle.ensures.same
-    (λ lengths put kept. ap (map group_at) (kept ∙ put.0) ∙ put_in_set c.args.card.now.name1 (entries_changed c.args.change (viewed c.args.card.now)) c.self.inside.groups.entries c.self.invariant.0)
+    (λ lengths put kept. ap (map group_at) (kept ∙ put.0)
+    ∙ put_in_set c.args.card.now.name1 (entries_changed c.args.change (viewed c.args.card.now)) c.self.inside.groups.entries c.self.invariant.0)
     c.change_under-changed.ensures c.settle.ensures.kept)

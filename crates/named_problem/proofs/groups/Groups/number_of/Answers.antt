@@ -6,7 +6,8 @@ use Rattle.named_problem.proofs.Fronts.{names-groups}
 use Rattle.named_problem.proofs.groups.Groups.number_of.Goals as goal
 
 pub returns-clause-number : goal.returns-clause-number
-returns-clause-number c = rw (← c.self.view_is) (c.number_among.ensures.number ∙ ap (λ names. number_in names c.args.name.now) (sym (names-groups c.self.inside.groups.entries)))
+returns-clause-number c =
+    rw (← c.self.view_is) (c.number_among.ensures.number ∙ ap (λ names. number_in names c.args.name.now) (sym (names-groups c.self.inside.groups.entries)))
 
 pub returns-clause-within : goal.returns-clause-within
 returns-clause-within c = rw (← c.self.view_is) (omega (arith, c.number_among.ensures.within, length-map c.self.inside.groups.entries group_at))

@@ -14,4 +14,7 @@ invariant_of-self c = (
 )
 
 pub returns : goal.returns
-returns c = rw (← c.self.view_is) (ap (map group_at) c.shift_remove.ensures.entries ∙ removed group_at (λ group. group.name) (λ e. refl) c.args.name.now c.self.inside.groups.entries c.self.invariant.0)
+returns c =
+    rw (← c.self.view_is)
+    (ap (map group_at) c.shift_remove.ensures.entries
+    ∙ removed group_at (λ group. group.name) (λ e. refl) c.args.name.now c.self.inside.groups.entries c.self.invariant.0)

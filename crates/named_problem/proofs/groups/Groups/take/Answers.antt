@@ -26,7 +26,8 @@ returns-clause-no_fault c = on_ok_settled _ c.take_into-taken.result c.settle.re
 
 pub returns-clause-step : goal.returns-clause-step
 returns-clause-step c = rw (← c.self.view_is) (with_ok_settled _ _ _ c.take_into-taken.result c.settle.result c.settle.ensures.same
-    (λ lengths put kept. ap (map group_at) (kept ∙ put.0) ∙ put_in_set c.args.card.now.name1 (λ items. items ++ entries_of (viewed c.args.card.now)) c.self.inside.groups.entries c.self.invariant.0)
+    (λ lengths put kept. ap (map group_at) (kept ∙ put.0)
+    ∙ put_in_set c.args.card.now.name1 (λ items. items ++ entries_of (viewed c.args.card.now)) c.self.inside.groups.entries c.self.invariant.0)
     c.take_into-taken.ensures.put c.settle.ensures.kept)
 
 pub returns-clause-stop : goal.returns-clause-stop

@@ -8,4 +8,5 @@ use Rattle.named_problem.proofs.rows.Rows.add.Goals as goal
 pub returns : goal.returns
 returns c =
     let row : Row Name = record { kind = c.args.kind; name = c.args.name; parts = c.args.parts } in
-    on_ok_weaker c.insert.result (λ placed. placed ∙ ap (λ place. insert c.args.self.now place row) c.len-last.ensures ∙ at_end row c.args.self.now) c.insert.ensures
+    on_ok_weaker c.insert.result
+    (λ placed. placed ∙ ap (λ place. insert c.args.self.now place row) c.len-last.ensures ∙ at_end row c.args.self.now) c.insert.ensures

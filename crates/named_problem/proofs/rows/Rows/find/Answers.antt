@@ -9,11 +9,15 @@ returns-in-Some-clause-found c = rw (← c.self.view_is) (ap is_some c.in-Some.e
 
 pub returns-in-Some-clause-free : goal.returns-in-Some-clause-free
 returns-in-Some-clause-free c =
-    rw (← c.self.view_is) (free_by_name c.args.name.now c.self.inside.rows.entries c.self.invariant ∙ sym (ap (λ o. option_map_or (λ body. is_free_kind body.kind) o false) c.in-Some.ensures.value))
+    rw (← c.self.view_is)
+    (free_by_name c.args.name.now c.self.inside.rows.entries c.self.invariant
+    ∙ sym (ap (λ o. option_map_or (λ body. is_free_kind body.kind) o false) c.in-Some.ensures.value))
 
 pub returns-in-None-clause-found : goal.returns-in-None-clause-found
 returns-in-None-clause-found c = rw (← c.self.view_is) (ap is_some c.in-None.ensures.value ∙ row_is_there c.args.name.now c.self.inside.rows.entries)
 
 pub returns-in-Some-clause-combination : goal.returns-in-Some-clause-combination
 returns-in-Some-clause-combination c =
-    rw (← c.self.view_is) (combination_by_name c.args.name.now c.self.inside.rows.entries c.self.invariant ∙ sym (ap (λ o. option_map_or (λ body. is_some body.parts) o false) c.in-Some.ensures.value) ∙ sym c.is_some.ensures)
+    rw (← c.self.view_is)
+    (combination_by_name c.args.name.now c.self.inside.rows.entries c.self.invariant
+    ∙ sym (ap (λ o. option_map_or (λ body. is_some body.parts) o false) c.in-Some.ensures.value) ∙ sym c.is_some.ensures)

@@ -9,7 +9,10 @@ use Rattle.named_problem.proofs.rows.Rows.insert.Goals as goal
 pub returns : goal.returns
 returns c =
     rw (← c.self.view_is)
-    (on_ok_weaker c.insert_new.result (λ placed. ap (map row_at) placed ∙ map-insert row_at c.self.inside.rows.entries c.args.place (c.args.name, record { kind = c.args.kind; parts = c.args.parts })) c.insert_new.ensures.placed)
+    (on_ok_weaker c.insert_new.result
+    (λ placed. ap (map row_at) placed
+    ∙ map-insert row_at c.self.inside.rows.entries c.args.place
+    (c.args.name, record { kind = c.args.kind; parts = c.args.parts })) c.insert_new.ensures.placed)
 
 pub insert_new-requires : goal.insert_new-requires
 insert_new-requires c = row_is_there c.args.name c.self.inside.rows.entries ∙ ap (λ rows. has_row rows c.args.name) c.self.view_is ∙ c.requires

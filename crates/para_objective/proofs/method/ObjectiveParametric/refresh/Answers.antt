@@ -13,7 +13,8 @@ returns-in_err-fill_prices-clause-overflow g c =
     let p = err_from_is_err_and c.from_residual.result c.from_residual.ensures.1 in
     rw (p.1, p.2)
     (IfOverflow-map c.in_err-fill_prices.field-0.0
-    (λ e x from breakpoint left. of_point c.args.self.now.lp.now c.args.self.now.row from c.requires.fits.no_change c.args.basis.now left (g.R.Rates.state c.args.rates.now).waypoints (g.R.Rates.state c.fill_prices.new.rates).waypoints e breakpoint x)
+    (λ e x from breakpoint left. of_point c.args.self.now.lp.now c.args.self.now.row from c.requires.fits.no_change c.args.basis.now left
+    (g.R.Rates.state c.args.rates.now).waypoints (g.R.Rates.state c.fill_prices.new.rates).waypoints e breakpoint x)
     c.in_err-fill_prices.ensures.overflow)
 
 pub returns-in_err-read_row-clause-rates : goal.returns-in_err-read_row-clause-rates
@@ -24,8 +25,10 @@ returns-in_err-read_row-clause-overflow g c =
     let p = err_from_is_err_and c.from_residual-in_err-read_row.result c.from_residual-in_err-read_row.ensures.1 in
     rw (p.1, p.2)
     (IfOverflow-map c.in_err-read_row.field-0.0
-    (λ e x from breakpoint left. of_point c.args.self.now.lp.now c.args.self.now.row from c.requires.fits.no_change c.args.basis.now left (g.R.Rates.state c.args.rates.now).waypoints (g.R.Rates.state c.read_row.new.rates).waypoints e breakpoint
-    (point_refused_later c.args.self.now.lp.now (g.R.Rates.state c.args.rates.now).waypoints (g.R.Rates.state c.fill_prices.new.rates).waypoints (g.R.Rates.state c.read_row.new.rates).waypoints c.args.basis.now e c.in_ok-fill_prices.ensures.rates.1 x))
+    (λ e x from breakpoint left. of_point c.args.self.now.lp.now c.args.self.now.row from c.requires.fits.no_change c.args.basis.now left
+    (g.R.Rates.state c.args.rates.now).waypoints (g.R.Rates.state c.read_row.new.rates).waypoints e breakpoint
+    (point_refused_later c.args.self.now.lp.now (g.R.Rates.state c.args.rates.now).waypoints (g.R.Rates.state c.fill_prices.new.rates).waypoints
+    (g.R.Rates.state c.read_row.new.rates).waypoints c.args.basis.now e c.in_ok-fill_prices.ensures.rates.1 x))
     c.in_err-read_row.ensures.overflow)
 
 pub returns-clause-rates : goal.returns-clause-rates
@@ -40,7 +43,15 @@ returns-clause-workspace g c =
     let change = with_items_is c.args.workspace.now.change c.read_row.new.out change_places in
     let row = with_items_is c.args.workspace.now.row c.fill_prices.new.change row_places in
     record {
-      sized = record { point = c.requires.sized.point; prices = search rules; change = search rules; row = ap (λ (xs : List ℚ). length xs) row ∙ row_places ∙ c.args.workspace.now.row.ok.0 ∙ c.requires.sized.row; direction = c.requires.sized.direction };
+      sized =
+          record {
+            point = c.requires.sized.point;
+            prices = search rules;
+            change = search rules;
+            row = ap (λ (xs : List ℚ). length xs) row ∙ row_places
+                ∙ c.args.workspace.now.row.ok.0 ∙ c.requires.sized.row;
+            direction = c.requires.sized.direction;
+          };
       point = c.requires.point;
       prices = rw prices c.in_ok-fill_prices.ensures.prices;
       change = rw change c.in_ok-read_row.ensures.row;

@@ -7,6 +7,7 @@ use Rattle.price_row.proofs.whole.SparseWholesNumbers.plus.Goals as goal
 
 pub returns-clause-value : goal.returns-clause-value
 returns-clause-value c =
-    some_map c.whole_sum.result (λ v. whole v ≡ whole (to_z w128 (of_z w128 c.args.sum)) +ℚ whole (to_z w128 (of_z w128 c.args.x)) *ℚ c.args.y) (λ v. whole v ≡ whole c.args.sum +ℚ whole c.args.x *ℚ c.args.y)
+    some_map c.whole_sum.result (λ v. whole v ≡ whole (to_z w128 (of_z w128 c.args.sum)) +ℚ whole (to_z w128 (of_z w128 c.args.x)) *ℚ c.args.y)
+    (λ v. whole v ≡ whole c.args.sum +ℚ whole c.args.x *ℚ c.args.y)
     (λ v is_v. is_v ∙ ap₂ (λ s x. whole s +ℚ whole x *ℚ c.args.y) (to_z-of_z w128 c.args.sum (search rules)) (to_z-of_z w128 c.args.x (search rules)))
     c.whole_sum.ensures.value

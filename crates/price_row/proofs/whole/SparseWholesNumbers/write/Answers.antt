@@ -8,6 +8,7 @@ use Rattle.price_row.proofs.whole.SparseWholesNumbers.write.Goals as goal
 pub returns-clause-number : goal.returns-clause-number
 returns-clause-number c =
     let old = c.args.self.now in
-    some_map c.put.result (λ _. c.put.new.self ≡ set old (c.args.k - 1) (whole (to_z w128 (of_z w128 c.args.n)))) (λ _. c.put.new.self ≡ set old (c.args.k - 1) (whole c.args.n))
+    some_map c.put.result (λ _. c.put.new.self ≡ set old (c.args.k - 1) (whole (to_z w128 (of_z w128 c.args.n))))
+    (λ _. c.put.new.self ≡ set old (c.args.k - 1) (whole c.args.n))
     (λ u is. is ∙ ap (λ x. set old (c.args.k - 1) (whole x)) (to_z-of_z w128 c.args.n (search rules)))
     c.put.ensures.number

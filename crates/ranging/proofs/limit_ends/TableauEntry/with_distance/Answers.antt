@@ -15,6 +15,9 @@ returns-in-Err-clause-refused c =
     record {
       distance = c.in-Some.number;
       is_distance = is;
-      refused = refused_quotient (record { at_most = c.args.at_most; slope = c.args.self.now.rate; number = c.in-Some.number; by = c.args.self.now.basic; which = c.args.which }) c.in-Err.refused c.evidence.result (reach_formula 7 c.args.self.now.nonbasic c.args.self.now.basic c.args.which)
-          (rw c.length_formula.ensures at c.evidence.ensures.names) c.evidence.ensures.no_way (c.evidence.ensures.theta ∙ ap (λ (f : Formula). f.theta) c.length_formula.ensures) c.evidence.ensures.refused c.in-Err.ensures.refused;
+      refused =
+          refused_quotient
+          (record { at_most = c.args.at_most; slope = c.args.self.now.rate; number = c.in-Some.number; by = c.args.self.now.basic; which = c.args.which }) c.in-Err.refused c.evidence.result (reach_formula 7 c.args.self.now.nonbasic c.args.self.now.basic c.args.which)
+          (rw c.length_formula.ensures at c.evidence.ensures.names) c.evidence.ensures.no_way
+          (c.evidence.ensures.theta ∙ ap (λ (f : Formula). f.theta) c.length_formula.ensures) c.evidence.ensures.refused c.in-Err.ensures.refused;
     }

@@ -13,4 +13,5 @@ returns-in_err-both-clause-refused c =
     rw is_err (high_refused c.args.far.now c.args.self.now.rate c.requires c.args.self.now.basic c.args.self.now.nonbasic c.in_err-both.field-0.0 c.in_err-both.ensures.refused)
 
 pub returns-clause-ends : goal.returns-clause-ends
-returns-clause-ends c = both_limits c.args.far.now c.args.self.now.rate c.requires c.args.self.now.basic c.args.ends c.in_ok-above.above c.in_ok-both.both c.in_ok-above.ensures.ends c.in_ok-both.ensures.ends
+returns-clause-ends c =
+    both_limits c.args.far.now c.args.self.now.rate c.requires c.args.self.now.basic c.args.ends c.in_ok-above.above c.in_ok-both.both c.in_ok-above.ensures.ends c.in_ok-both.ensures.ends

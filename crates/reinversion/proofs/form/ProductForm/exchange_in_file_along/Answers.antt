@@ -9,4 +9,5 @@ returns-in_err-append_along-clause-waypoints c =
 
 pub returns-clause-waypoints : goal.returns-clause-waypoints
 returns-clause-waypoints c =
-    rw (← c.self.view_is) (keeps_appended c.self.inside.file c.args.p c.args.q c.append_along.new.self c.size-size.ensures.basics c.in_ok-append_along.ensures.ok)
+    rw (← c.self.view_is)
+    (keeps_appended c.self.inside.file c.args.p c.args.q c.append_along.new.self c.size-size.ensures.basics c.in_ok-append_along.ensures.ok)

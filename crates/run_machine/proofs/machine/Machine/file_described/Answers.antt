@@ -17,7 +17,8 @@ returns-in_err-text_of-in-Filed-clause-acts g c =
     let p = err_from_is_err_and c.from_residual-in_err-text_of-in-Filed.result c.from_residual-in_err-text_of-in-Filed.ensures.1 in
     rw (p.1, p.2)
     (filed_cut g.S.Kept.shows c.args.verb c.args.card c.args.cards.now c.args.self.now c.in-Filed.problem c.in-Filed.next c.put.new.self d
-    c.in_ok-put-in-Filed.ensures.filed c.in_ok-put-in-Filed.ensures.last c.args.self.now _ (rw c.filed_report-report.ensures.text at c.in_err-text_of-in-Filed.ensures))
+    c.in_ok-put-in-Filed.ensures.filed c.in_ok-put-in-Filed.ensures.last c.args.self.now _
+    (rw c.filed_report-report.ensures.text at c.in_err-text_of-in-Filed.ensures))
 
 pub returns-in_ok-text_of-in-Filed-clause-acts : goal.returns-in_ok-text_of-in-Filed-clause-acts
 returns-in_ok-text_of-in-Filed-clause-acts g c =

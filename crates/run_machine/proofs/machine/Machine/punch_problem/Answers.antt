@@ -6,11 +6,13 @@ use Rattle.run_machine.proofs.machine.Machine.punch_problem.Goals as goal
 
 pub returns-in_default : goal.returns-in_default
 returns-in_default g c = λ cards.
-    no_problem_punched g.S.Kept.shows c.args.card cards c.args.self.now (g.P.Sink.taken c.args.print.now) (g.U.Sink.taken c.args.punch.now) (sym c.in_default.ensures)
+    no_problem_punched g.S.Kept.shows c.args.card cards c.args.self.now (g.P.Sink.taken c.args.print.now) (g.U.Sink.taken c.args.punch.now)
+    (sym c.in_default.ensures)
 
 pub returns-in-Err : goal.returns-in-Err
 returns-in-Err g c = λ cards.
-    deck_cut g.S.Kept.shows c.args.card cards c.args.self.now c.in-Some.problem.now (sym c.in-Some.ensures) (g.P.Sink.taken c.args.print.now) c.in-Err.stop c.in-Err.ensures.text
+    deck_cut g.S.Kept.shows c.args.card cards c.args.self.now c.in-Some.problem.now (sym c.in-Some.ensures)
+    (g.P.Sink.taken c.args.print.now) c.in-Err.stop c.in-Err.ensures.text
 
 pub returns-in_err-text_of : goal.returns-in_err-text_of
 returns-in_err-text_of g c = λ cards.

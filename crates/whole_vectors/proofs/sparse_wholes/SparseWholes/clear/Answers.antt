@@ -13,7 +13,9 @@ invariant_of-self c =
     let numbers_are = with_items_is a.numbers c.clear_listed.new.numbers (search rules) in
     let cleared = rw (c.deref.ensures.value, c.deref_mut.ensures.value, ← numbers_are) at c.clear_listed.ensures.zero in
     record {
-      listed = none_listed a.numbers.items _ a.listed.items a.ranks.items c.clear.new.self.items (search rules) c.clear.ensures.items cleared c.self.invariant.listed;
+      listed =
+          none_listed a.numbers.items _ a.listed.items a.ranks.items c.clear.new.self.items
+          (search rules) c.clear.ensures.items cleared c.self.invariant.listed;
       fit = subst (λ ns. All Fits ns) (sym numbers_are) c.clear_listed.ensures.fit;
     }
 

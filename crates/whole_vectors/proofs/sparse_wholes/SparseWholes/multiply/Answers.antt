@@ -44,6 +44,7 @@ returns-clause-products c =
     let read = whole (to_z w128 (of_z w128 factor)) in
     let is : read ≡ c.args.by = ap whole (read_fitting factor c.in_ok-factor.ensures.fits) ∙ c.in_ok-factor.ensures.value in
     rw (← c.self.view_is, numbers_are)
-    (unit_map c.multiply_listed.result (AreChanged (λ x. x *ℚ read) a.listed.items (wholes a.numbers.items) new) (AreProducts c.args.by (wholes a.numbers.items) new)
+    (unit_map c.multiply_listed.result (AreChanged (λ x. x *ℚ read) a.listed.items (wholes a.numbers.items) new)
+    (AreProducts c.args.by (wholes a.numbers.items) new)
     (changed_products c.args.by read a.numbers.items a.listed.items a.ranks.items new is c.self.invariant.listed)
     (rw (c.deref.ensures.value, c.deref_mut.ensures.value) at c.multiply_listed.ensures.products))

@@ -18,15 +18,20 @@ invariant_of-self c =
     let counted = length-map a.numbers.items whole in
     let inside : c.args.k - 1 < length a.numbers.items = omega (arith, high, counted, c.requires.low) in
     record {
-      listed = put_over a.numbers.items (c.args.k - 1) n c.index-held.result.now a.listed.items a.ranks.items inside c.index-held.ensures (λ e. c.if-held-ne0.true (ap (of_z w128) e)) c.self.invariant.listed;
-      fit = All-set Fits a.numbers.items (c.args.k - 1) n (subst (λ (z : ℤ). Fits z) (sym (to_z-of_z w128 c.args.n c.ranges.n)) c.requires.fits) c.self.invariant.fit;
+      listed =
+          put_over a.numbers.items (c.args.k - 1) n c.index-held.result.now a.listed.items a.ranks.items inside c.index-held.ensures
+          (λ e. c.if-held-ne0.true (ap (of_z w128) e)) c.self.invariant.listed;
+      fit =
+          All-set Fits a.numbers.items (c.args.k - 1) n
+          (subst (λ (z : ℤ). Fits z) (sym (to_z-of_z w128 c.args.n c.ranges.n)) c.requires.fits) c.self.invariant.fit;
     }
 
 pub invariant_of-self-in_err-enlist : goal.invariant_of-self-in_err-enlist
 invariant_of-self-in_err-enlist c =
     let a = c.self.inside in
     record {
-      listed = more_listed a.numbers.items a.listed.items a.ranks.items c.deref_mut.result.now c.enlist.new.listed.items c.enlist.new.ranks _ c.deref_mut.ensures.value (with_items_is a.ranks c.enlist.new.ranks (search rules))
+      listed =
+          more_listed a.numbers.items a.listed.items a.ranks.items c.deref_mut.result.now c.enlist.new.listed.items c.enlist.new.ranks _ c.deref_mut.ensures.value (with_items_is a.ranks c.enlist.new.ranks (search rules))
           c.enlist.auto.ranks c.enlist.ensures.ranked c.enlist.ensures.others c.self.invariant.listed;
       fit = c.self.invariant.fit;
     }
@@ -36,17 +41,22 @@ invariant_of-self-2 c =
     let a = c.self.inside in
     let ranks_are = with_items_is a.ranks c.enlist.new.ranks (search rules) in
     record {
-      listed = put_listed a.numbers.items (c.args.k - 1) (to_z w128 (of_z w128 c.args.n)) c.enlist.new.listed.items c.enlist.new.ranks _ ranks_are c.in_ok-enlist.ensures.own
+      listed =
+          put_listed a.numbers.items (c.args.k - 1)
+          (to_z w128 (of_z w128 c.args.n)) c.enlist.new.listed.items c.enlist.new.ranks _ ranks_are c.in_ok-enlist.ensures.own
           (more_listed a.numbers.items a.listed.items a.ranks.items c.deref_mut.result.now c.enlist.new.listed.items c.enlist.new.ranks _ c.deref_mut.ensures.value ranks_are
           c.enlist.auto.ranks c.enlist.ensures.ranked c.enlist.ensures.others c.self.invariant.listed);
-      fit = All-set Fits a.numbers.items (c.args.k - 1) (to_z w128 (of_z w128 c.args.n)) (subst (λ (z : ℤ). Fits z) (sym (to_z-of_z w128 c.args.n c.ranges.n)) c.requires.fits) c.self.invariant.fit;
+      fit =
+          All-set Fits a.numbers.items (c.args.k - 1) (to_z w128 (of_z w128 c.args.n))
+          (subst (λ (z : ℤ). Fits z) (sym (to_z-of_z w128 c.args.n c.ranges.n)) c.requires.fits) c.self.invariant.fit;
     }
 
 pub returns-clause-number : goal.returns-clause-number
 returns-clause-number c = rw (← c.self.view_is, to_z-of_z w128 c.args.n c.ranges.n) (map-set whole c.self.inside.numbers.items (c.args.k - 1) c.args.n)
 
 pub returns-then-held-ne0-clause-number : goal.returns-then-held-ne0-clause-number
-returns-then-held-ne0-clause-number c = rw (← c.self.view_is, to_z-of_z w128 c.args.n c.ranges.n) (map-set whole c.self.inside.numbers.items (c.args.k - 1) c.args.n)
+returns-then-held-ne0-clause-number c =
+    rw (← c.self.view_is, to_z-of_z w128 c.args.n c.ranges.n) (map-set whole c.self.inside.numbers.items (c.args.k - 1) c.args.n)
 
 pub returns-then-index-n-clause-number : goal.returns-then-index-n-clause-number
 returns-then-index-n-clause-number c =

@@ -45,7 +45,9 @@ returns-clause-same c =
     let some : pos 1 ≤ℤ read = search rules in
     let apart : c.whole.result ≢ zero_ℚ = (λ none. whole_apart read some (sym c.whole.ensures ∙ none)) in
     let changed = rw (c.deref-3.ensures.value, c.deref_mut.ensures.value) at c.in_ok-take_out.ensures.quotients in
-    let divided = changed_quotients c.whole.result (whole read) a.numbers.items a.listed.items a.ranks.items new (sym c.whole.ensures) c.self.invariant.listed changed in
+    let divided =
+    changed_quotients c.whole.result (whole read) a.numbers.items a.listed.items a.ranks.items new (sym c.whole.ensures) c.self.invariant.listed changed in
     rw (← c.self.view_is, numbers_are)
-    (some_ok c.ok-2.result c.div.result (λ v. v ≡ c.args.denominator /ℚ c.whole.result) (λ v. IsSameOver c.args.denominator (wholes a.numbers.items) v new) c.ok-2.ensures.value
+    (some_ok c.ok-2.result c.div.result (λ v. v ≡ c.args.denominator /ℚ c.whole.result)
+    (λ v. IsSameOver c.args.denominator (wholes a.numbers.items) v new) c.ok-2.ensures.value
     (λ v is. reduced c.args.denominator v c.whole.result (wholes a.numbers.items) new c.requires.apart apart is divided) c.div.ensures.value)

@@ -17,4 +17,5 @@ returns-clause-zero c k =
     let a = c.self.inside in
     let numbers_are = with_items_is a.numbers c.clear_listed.new.numbers (search rules) in
     let cleared = rw (c.deref.ensures.value, c.deref_mut.ensures.value) at c.clear_listed.ensures in
-    ap (λ ns. get_or (wholes ns) (k - 1) zero_ℚ) numbers_are ∙ all_changed (λ x. zero_ℚ) a.numbers.items a.listed.items a.ranks.items (wholes c.clear_listed.new.numbers) refl c.self.invariant cleared (k - 1)
+    ap (λ ns. get_or (wholes ns) (k - 1) zero_ℚ) numbers_are
+    ∙ all_changed (λ x. zero_ℚ) a.numbers.items a.listed.items a.ranks.items (wholes c.clear_listed.new.numbers) refl c.self.invariant cleared (k - 1)

@@ -11,7 +11,8 @@ use Rattle.whole_vectors.proofs.Listed.{still_listed, changed_products}
 use Rattle.whole_vectors.proofs.sparse_words.SparseWords.multiply.Goals as goal
 
 pub returns-then-eq-clause-products : goal.returns-then-eq-clause-products
-returns-then-eq-clause-products c = record { each = λ k. right_once _ c.args.by (same_reported c.args.by one_ℚ c.whole.result c.eq.result c.eq.ensures c.if-eq.true c.whole.ensures) }
+returns-then-eq-clause-products c =
+    record { each = λ k. right_once _ c.args.by (same_reported c.args.by one_ℚ c.whole.result c.eq.result c.eq.ensures c.if-eq.true c.whole.ensures) }
 
 pub invariant_of-self : goal.invariant_of-self
 invariant_of-self c =
@@ -26,6 +27,7 @@ returns-clause-products c =
     let new = wholes c.multiply_listed.new.numbers in
     let numbers_are = with_items_is a.numbers c.multiply_listed.new.numbers (search rules) in
     rw (← c.self.view_is, numbers_are)
-    (unit_map c.multiply_listed.result (AreChanged (λ x. x *ℚ c.args.by) a.listed.items (wholes a.numbers.items) new) (AreProducts c.args.by (wholes a.numbers.items) new)
+    (unit_map c.multiply_listed.result (AreChanged (λ x. x *ℚ c.args.by) a.listed.items (wholes a.numbers.items) new)
+    (AreProducts c.args.by (wholes a.numbers.items) new)
     (changed_products c.args.by c.args.by a.numbers.items a.listed.items a.ranks.items new refl c.self.invariant)
     (rw (c.deref.ensures.value, c.deref_mut.ensures.value) at c.multiply_listed.ensures.products))

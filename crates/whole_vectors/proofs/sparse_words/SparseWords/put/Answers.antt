@@ -10,7 +10,8 @@ use Rattle.whole_vectors.proofs.sparse_words.SparseWords.put.Goals as goal
 pub invariant_of-self : goal.invariant_of-self
 invariant_of-self c =
     let a = c.self.inside in
-    more_listed a.numbers.items a.listed.items a.ranks.items c.deref_mut.result.now c.enlist.new.listed.items c.enlist.new.ranks _ c.deref_mut.ensures.value (with_items_is a.ranks c.enlist.new.ranks (search rules))
+    more_listed a.numbers.items a.listed.items a.ranks.items c.deref_mut.result.now c.enlist.new.listed.items c.enlist.new.ranks _ c.deref_mut.ensures.value
+    (with_items_is a.ranks c.enlist.new.ranks (search rules))
     c.enlist.auto.ranks c.enlist.ensures.ranked c.enlist.ensures.others c.self.invariant
 
 pub invariant_of-self-2 : goal.invariant_of-self-2
