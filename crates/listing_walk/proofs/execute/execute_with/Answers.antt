@@ -16,13 +16,13 @@ returns-in-Reads-clause-walks g c =
     (run_verb (viewed c.args.verb.now) c.in-Reads.asked (sym c.use_of.ensures ∙ c.in-Reads.is)) (c.parametric_run.ensures.walks c.args.cards.now)
 
 pub execute-requires-clause-no_run : goal.execute-requires-clause-no_run
-execute-requires-clause-no_run g c = subst IsNoRun (sym (sym c.use_of.ensures ∙ c.in-Neither.is)) tt
+execute-requires-clause-no_run g c = subst IsNoRun (sym (sym c.use_of.ensures ∙ c.in-Sets.is)) tt
 
-pub execute-in-Sets-requires-clause-no_run : goal.execute-in-Sets-requires-clause-no_run
-execute-in-Sets-requires-clause-no_run g c = subst IsNoRun (sym (sym c.use_of.ensures ∙ c.in-Sets.is)) tt
+pub execute-requires-in-None-clause-no_run : goal.execute-requires-in-None-clause-no_run
+execute-requires-in-None-clause-no_run g c = subst IsNoRun (sym (sym c.use_of.ensures ∙ c.in-Neither.is)) tt
 
 pub returns-in-Sets-clause-walks : goal.returns-in-Sets-clause-walks
 returns-in-Sets-clause-walks g c =
     walks_set g.T.Checks.checker
-    (viewed c.args.verb.now) c.args.card c.args.cards.now c.args.machine.now c.execute-in-Sets.new.machine c.args.place.now c.execute-in-Sets.new.place c.args.last.now (sym c.use_of.ensures ∙ c.in-Sets.is)
-    c.execute-in-Sets.result c.execute-in-Sets.ensures.walks
+    (viewed c.args.verb.now) c.args.card c.args.cards.now c.args.machine.now c.execute.new.machine c.args.place.now c.execute.new.place c.args.last.now (sym c.use_of.ensures ∙ c.in-Sets.is)
+    c.execute.result c.execute.ensures.walks
