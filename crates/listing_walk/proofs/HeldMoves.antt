@@ -3,7 +3,6 @@ use Rattle.std.proofs.Common.{◌≡◌, ℕ, Bool, true, false, not, ◌||◌, 
 use Rattle.std.specs.Option.{option_or}
 use Rattle.exact_values.specs.Rational.{ℚ}
 use Rattle.lp_definitions.specs.LinearProgram.{LinearProgram}
-use Rattle.problem_definitions.specs.Names.{Name}
 use Rattle.problem_definitions.specs.Problem.{Problem}
 use Rattle.deck_definitions.specs.declared.DeckFault.{DeckFault}
 use Rattle.deck_definitions.specs.Conversion.{conversion}
@@ -28,10 +27,9 @@ use Rattle.listing_definitions.specs.declared.VerbFault.{VerbFault}
 use Rattle.listing_definitions.specs.declared.VerbFault.TheVariants.{DeckNotFound, NoProblem, NoSetup, NotSolved, NotOptimal}
 use Rattle.listing_definitions.specs.Report as reports
 use Rattle.listing_definitions.specs.Report.{Report}
-use Rattle.listing_definitions.specs.Ending.{Ending}
 use Rattle.question_definitions.specs.Answers.{Basis, Sheet, Question, AnswerTo, OfPath, OfSolution, OfRanges, OfParametricRun, OfPunch, OfInstall, PathEnd, Reached, PathLimit, PricesWrong, InstallEnd, Installed, DependsBy}
 use Rattle.run_definitions.specs.State.{Present, State, problem_of, choice_of}
-use Rattle.run_definitions.specs.Moves.{Gain, Nothing, Prints, Punches, printed_by, gain_text, next, StatementOutcome, Goes, Ends, InSelection, InAnswer, StatementMove, Does, MayStop, Asks, or_fault}
+use Rattle.run_definitions.specs.Moves.{Nothing, Prints, Punches, printed_by, gain_text, next, StatementOutcome, Goes, Ends, InSelection, InAnswer, StatementMove, Does, MayStop, Asks, or_fault}
 use Rattle.run_definitions.specs.Verbs.{or_deck_fault, or_selection_fault, selects, shows_present, demanded, by_verdict, mark_of, after_path, after_install, if_optimal, solves, asks, verb_move}
 use Rattle.walk_definitions.specs.Checkers.{Checker}
 use Rattle.walk_definitions.specs.Reading.{Judged, Right, Fails, Refuses, judged}

@@ -22,7 +22,7 @@ use Rattle.listing_walk.specs.declared.place.ListingPlace.{ListingPlace}
 use Rattle.listing_walk.specs.declared.walk_step.WalkStep.{WalkStep}
 use Rattle.listing_walk.specs.declared.walk_step.WalkStep.TheVariants as walk_step
 use Rattle.listing_walk.specs.Parameter.{use_of, as_next}
-use Rattle.listing_walk.specs.Standing.{IsView, Faces, holding, Represents}
+use Rattle.listing_walk.specs.Standing.{IsView, holding, Represents}
 use Rattle.listing_walk.specs.Walking.{TurnsTo, Walks}
 use Rattle.listing_walk.proofs.HeldMoves.{state_with, turn_with, verb_with, set_alike, walk_with}
 

@@ -1,5 +1,5 @@
 -- By what a run left, and by what the statement does with it.
-use Rattle.std.proofs.Common.{◌∙◌, sym, subst, List, ℕ, IfOk}
+use Rattle.std.proofs.Common.{◌∙◌, sym, subst, ℕ, IfOk}
 use Rattle.control_verbs.specs.Views.{viewed}
 use Rattle.control_definitions.specs.Program.{Verb}
 use Rattle.listing_walk.specs.Parameter.{IsNoRun}
