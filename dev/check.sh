@@ -1,5 +1,5 @@
 #!/usr/bin/env bash
-# Small checks of the repository, which run after the gate, in three minutes or so on four processors. A check whose tool is missing is skipped, and so is,
+# Small checks of the repository, which run after the gate, in four or five minutes on four processors. A check whose tool is missing is skipped, and so is,
 # saying so, what needs the proved program where it isn't fresh. With CHECK_WHOLE=1 a tool that is missing (pytest, mypy, pylint) is a fault too.
 # usage: check.sh      ends with 1 where a check fails, 64 for wrong use
 set -u
