@@ -1,11 +1,12 @@
--- The numbers that a run prints fit what the listing checker of 128 bits reads: the terms of each fraction have 128 bits, and each count
--- has 32.
+-- That the fractions which the listing checker of 128 bits reads by their value have 128 bits: those of verdicts, of SOLUTION, of the ends
+-- and the lines of intervals and of how a parametric run closes, and those of an overflow's evidence, whose printed counts have 32. An
+-- interval begins at XPARAM, or where the one before it ended; counts of steps are bounded elsewhere.
 --     LinesFit lines               the fractions of table lines
 --     VerdictFits verdict          those of a verdict, and CheckFits check those of its check
 --     ReportFits report            those of a report that the checker reads
 --     GainFits gain                those of a report that is added to the print
---     EvidenceFits e               those of an evidence, with its counts
---     AnswerFits question answer   those that an answer to a question prints
+--     EvidenceFits e               those of an evidence, with the counts that are printed of it
+--     AnswerFits question answer   those of an answer to a question
 use Rattle.std.specs.Prelude.{ℕ, ◌≤◌, List, [], ◌∷◌}
 use Rattle.frac128.specs.Operations.{TermsFit}
 use Rattle.lp_definitions.specs.declared.Evidence.{Evidence}

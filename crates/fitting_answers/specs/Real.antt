@@ -1,5 +1,5 @@
--- What a run knows of linear programming, where each number that it prints in a verdict, in SOLUTION, in a parametric run or in the
--- evidence of an overflow has 128 bits.
+-- What a run knows of linear programming, where each fraction that comes of a verdict, of SOLUTION, of a parametric run or of the
+-- evidence of an overflow has 128 bits. The fractions of RANGE, and those of INSERT's dependency lines, have any length.
 use Rattle.question_definitions.specs.Solving.{Solving}
 use Rattle.answer_definitions.specs.Verdicts.{IsSolvedBy}
 use Rattle.answer_definitions.specs.Sections.{IsSolutionOf, IsRanged}

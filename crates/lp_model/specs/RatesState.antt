@@ -1,7 +1,8 @@
--- How rates stand, and what a call leaves of it.
+-- The state of an inverse, and what a call leaves of it.
 --     RatesState                   the matrix, the present basics and the waypoints
---     LeavesWaypoints before after    each waypoint was there before, or lies within the basics before or after the call
---     KeepsBasics before after     the call kept the matrix and the basics, and each waypoint was there before or lies within the basics
+--     LeavesWaypoints before after    each waypoint was there before, or has its basic columns among the basics before or after the call
+--     KeepsBasics before after     the call kept the matrix and the basics, and each waypoint was there before or has its basic columns
+--                                  among them
 use Rattle.std.specs.Prelude.{◌≡◌, List}
 use Rattle.lp_definitions.specs.LinearProgram.{Matrix}
 use Rattle.lp_definitions.specs.Basis.{Basics}

@@ -161,9 +161,9 @@ pub fn run_job<S: Source, P: Sink, U: Sink>(
         IsAnsweredOnce linear_programming asked (failures before after) (code_of result)
         (PrintGains before after) (PunchGains before after) }
 
-    // The sizes of numbers. So the job is answered by a run whose answers fit: each fraction in a verdict, in SOLUTION, in a
-    // parametric run and in the evidence of an overflow of linear programming has 128 bits, and each count of such evidence has 32.
-    // By the law `never_wrong` of own_listing_laws mps360check never finds the listing of such a run wrong, where it ends by itself.
+    // The sizes of numbers. So the job is answered by a run whose answers fit: each fraction that comes of a verdict, of SOLUTION, of a
+    // parametric run or of the evidence of an overflow of linear programming has 128 bits, and each count of such evidence that is
+    // printed has 32. By the law `never_wrong` of own_listing_laws mps360check never finds the whole listing of such a run wrong.
     ensures sizes { (asked : Job) →
         IsAsked (requests.asked (map string_bytes words.now)) (S.given job.old).left asked →
         let before = devices (S.given job.old) (P.taken print.old) (U.taken punch.old) in
