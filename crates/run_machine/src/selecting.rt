@@ -3,7 +3,6 @@ ghost use Rattle.std.specs.Prelude.{◌≡◌, true, Ok, IfOk, IfErr};
 ghost use Rattle.selection_definitions.specs.Selection.{selected};
 ghost use Rattle.selection_definitions.specs.Making.{is_made};
 ghost use Rattle.lp_setup.specs.Stops.{fault_of, IsOverflowOf};
-ghost use Rattle.control_verbs.specs.Views.{options_view};
 ghost use Rattle.run_definitions.specs.State.{choice_of};
 ghost use Rattle.run_machine.specs.Choosing.{refusal_of, IsUnselected};
 
@@ -13,7 +12,7 @@ use control_verbs::SetupOptions;
 use listing_definitions::VerbFault;
 use lp_definitions::Evidence;
 use lp_model::Lp;
-use lp_setup::{Choice, SelectStop, SetupChoice, select};
+use lp_setup::{Choice, SelectStop, select};
 use problem_file::Problem;
 use run_cells::{Cells, NameCell};
 use std::alloc::Global;
@@ -68,19 +67,8 @@ fn refusal_of(stop: SelectStop) -> Refusal
     }
 }
 
-/// The options that stand on a card.
-pub fn setup_choice(options: &SetupOptions) -> SetupChoice
-    ensures { result ≡ options_view options.now }
-{
-    SetupChoice {
-        bound: options.bound,
-        range: options.range,
-        sense: options.sense,
-    }
-}
-
 /// What the present cells choose with these options.
-pub fn present_choice(cells: &Cells, options: SetupChoice) -> Choice
+pub fn present_choice(cells: &Cells, options: SetupOptions) -> Choice
     ensures { result ≡ choice_of cells.now options }
 {
     Choice {
@@ -95,7 +83,7 @@ pub fn select_present(
     alloc: Global,
     problem: &Problem,
     cells: &Cells,
-    options: SetupChoice,
+    options: SetupOptions,
 ) -> Result<Lp, Refusal>
     ensures selected { IfOk result
         (λ lp. selected problem.now (choice_of cells.now options) ≡ Ok lp) }
