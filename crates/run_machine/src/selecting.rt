@@ -4,6 +4,7 @@ ghost use Rattle.selection_definitions.specs.Selection.{selected};
 ghost use Rattle.selection_definitions.specs.Making.{is_made};
 ghost use Rattle.lp_setup.specs.Stops.{fault_of, IsOverflowOf};
 ghost use Rattle.run_definitions.specs.State.{choice_of};
+ghost use Rattle.run_definitions.specs.Verbs.{selection_verb_fault};
 ghost use Rattle.run_machine.specs.Choosing.{refusal_of, IsUnselected};
 
 use crate::act::{Act, Halt};
@@ -15,6 +16,7 @@ use lp_model::Lp;
 use lp_setup::{Choice, SelectStop, select};
 use problem_file::Problem;
 use run_cells::{Cells, NameCell};
+use selection_definitions::SelectionFault;
 use std::alloc::Global;
 use thiserror::Error;
 
@@ -52,16 +54,25 @@ impl Refusal {
     }
 }
 
+// The verb fault of a fault of the choice.
+fn verb_fault_of(fault: SelectionFault) -> VerbFault
+    ensures { result ≡ selection_verb_fault fault }
+{
+    match fault {
+        SelectionFault::NoObjective => VerbFault::NoObjective,
+        SelectionFault::ObjectiveNotFree => VerbFault::ObjectiveNotFree,
+        SelectionFault::NoRhsSet => VerbFault::NoRhsSet,
+        SelectionFault::NoRangeSet => VerbFault::NoRangeSet,
+        SelectionFault::NoBoundSet => VerbFault::NoBoundSet,
+    }
+}
+
 // Why nothing is selected.
 fn refusal_of(stop: SelectStop) -> Refusal
     ensures { result ≡ refusal_of stop }
 {
     match stop {
-        SelectStop::NoObjective => Refusal::Fault(VerbFault::NoObjective),
-        SelectStop::ObjectiveNotFree => Refusal::Fault(VerbFault::ObjectiveNotFree),
-        SelectStop::NoRhsSet => Refusal::Fault(VerbFault::NoRhsSet),
-        SelectStop::NoRangeSet => Refusal::Fault(VerbFault::NoRangeSet),
-        SelectStop::NoBoundSet => Refusal::Fault(VerbFault::NoBoundSet),
+        SelectStop::Fault(fault) => Refusal::Fault(verb_fault_of(fault)),
         SelectStop::Overflow(evidence) => Refusal::Overflow(evidence),
         SelectStop::NoMemory => Refusal::NoMemory,
     }
