@@ -6,7 +6,7 @@ use Rattle.lp_definitions.specs.declared.Evidence.{Evidence}
 use Rattle.lp_definitions.specs.LinearProgram.{LinearProgram}
 use Rattle.problem_definitions.specs.Problem.{Problem}
 use Rattle.selection_definitions.specs.declared.SelectionFault.{SelectionFault}
-use Rattle.selection_definitions.specs.Choice.{Choice}
+use Rattle.selection_definitions.specs.Choice.{Choice, selection_fault}
 use Rattle.selection_definitions.specs.Selection.{program_of_choice, selected}
 use Rattle.selection_definitions.specs.Making.{is_made}
 use Rattle.selection_definitions.specs.Refusals.{IsSelectionRefusal}
