@@ -6,19 +6,7 @@ ghost use Rattle.job_devices.specs.Causes.{HasReadCause, HasWriteCause, KeepsSto
 ghost use Rattle.job_devices.specs.Text.{Writes, text_of_pieces};
 ghost use Rattle.job_devices.specs.States.{SourceState, SinkState};
 
-use std::alloc::AllocError;
 use thiserror::Error;
-
-/// Memory ran out.
-#[derive(Clone, Copy, Debug, PartialEq, Eq, Error)]
-#[error("out of memory")]
-pub struct NoMemory;
-
-impl From<AllocError> for NoMemory {
-    fn from(_: AllocError) -> Self {
-        NoMemory
-    }
-}
 
 /// A read failed. The device has counted it, and gives the same bytes at the next read.
 #[derive(Clone, Copy, Debug, PartialEq, Eq, Error)]

@@ -9,10 +9,11 @@ mod punch;
 mod reading;
 mod stream;
 
-pub use device::{Failed, NoMemory, Sink, Source, WriteStop, put_all, put_each};
+pub use device::{Failed, Sink, Source, WriteStop, put_all, put_each};
 pub use discard::Discard;
 pub use listing::ListingFile;
 pub use memory::{MemorySink, MemorySource, SureSink, SureSource};
 pub use punch::PunchFile;
 pub use reading::{SourceStop, read_up_to};
+pub use std::alloc::AllocError as NoMemory;
 pub use stream::{StreamSink, StreamSource};
