@@ -20,12 +20,15 @@ use Rattle.answer_definitions.specs.Verdicts.{check_of}
 use Rattle.answer_definitions.specs.Verdicts as verdicts
 use Rattle.answer_definitions.specs.Sections.{solution_lines}
 use Rattle.walk_definitions.specs.Checkers.{checker_of_128_bits}
+use Rattle.walk_definitions.specs.Words.{fraction_in}
 use Rattle.walk_definitions.specs.Tables.{begins_table_line}
 use Rattle.walk_definitions.specs.Tests.{point_of, verdict_test, solution_test}
 use Rattle.walk_definitions.specs.Reading.{Right, by_verdict, tested, judged_map, judged, Claim}
 use Rattle.walk_definitions.specs.Walker.{settles}
 use Rattle.fitting_answers.specs.Fitting.{LinesFit, VerdictFits}
 use Rattle.own_listing_laws.specs.Laws.{IsShownChecked, JudgedRight}
+use Rattle.own_listing_laws.proofs.Spelled.{in_128_bits}
+use Rattle.own_listing_laws.proofs.Suiting.{suits_128_bits}
 use Rattle.own_listing_laws.proofs.Claims.{verdict_read}
 use Rattle.own_listing_laws.proofs.Sections.{reported_read}
 use Rattle.own_listing_laws.proofs.Columns.{points_of_lines}
@@ -52,7 +55,7 @@ verdict_right : (solver : Solver) (sheet : Sheet) (s : Basis) (limit : Option �
     (Reached [] verdict reports.Checked) after
 verdict_right solver sheet s limit bases verdict after ended fits plain =
     ap (λ parsed. judged_map f (tested test parsed))
-    (verdict_read sheet reports.Checked tt after solver verdict ended.is_readable
+    (verdict_read (fraction_in checker_of_128_bits) in_128_bits sheet reports.Checked tt after solver verdict ended.is_readable
     (verdict_printed sheet (last_of s bases) ended.tableau (length bases) ended.ending verdict ended.is_of ended.is_verdict.is_verdict) fits plain)
     ∙ ap (λ (v : Verdict). judged_map f (by_verdict v (verdict, reports.Checked) after))
     (verdict_checked sheet (last_of s bases) ended.tableau (length bases) ended.ending verdict ended.is_of ended.is_verdict)
@@ -118,7 +121,8 @@ module _ (solver : Solver) (sheet : Sheet) (s : Basis) (limit : Option ℕ) (bas
       subst (λ (l : SolutionLines). judged checker_of_128_bits (OfSolution Optimal) sheet (solution_text Optimal l ++ after) ≡ Right l after)
       (sym is.shown.are_lines)
       (ap (tested (solution_test checker_of_128_bits sheet Optimal))
-      (reported_read sheet last t Optimal after (subst (λ (l : SolutionLines). LinesFit l.rows) is.shown.are_lines is.rows)
+      (reported_read (fraction_in checker_of_128_bits) in_128_bits sheet last t Optimal after (subst (λ
+      (l : SolutionLines). LinesFit l.rows) is.shown.are_lines is.rows)
       (subst (λ (l : SolutionLines). LinesFit l.columns) is.shown.are_lines is.columns))
       ∙ ap (λ (v : Verdict). by_verdict v (solution_lines sheet last t) after) checked)
 
@@ -127,7 +131,7 @@ module _ (solver : Solver) (sheet : Sheet) (s : Basis) (limit : Option ℕ) (bas
   shown_settles =
       subst (λ (l : SolutionLines). settles checker_of_128_bits (record { rest = rest; objective = objective; check = reports.Checked })
       (point_of sheet l sheet.lp.objective) ≡ true) (sym is.shown.are_lines)
-      (settles_true sheet is.lawful last is.nonsingular t is.shown.is_tableau
+      (settles_true sheet is.lawful last is.nonsingular t is.shown.is_tableau checker_of_128_bits suits_128_bits
       (record { rest = rest; objective = objective; check = reports.Checked }) waits checked)
 
 pub judged_right : JudgedRight
