@@ -8,7 +8,7 @@ use Rattle.lp_definitions.specs.Basis.{basics_of, Tableau, price_at}
 use Rattle.check_definitions.specs.Steps.{Step, AllHold}
 use Rattle.check_definitions.specs.Checks.{optimal_steps, crossed_steps, infeasible_steps, unbounded_steps}
 use Rattle.certificate_laws.proofs.Truth.{optimal_holds, crossed_holds, infeasible_holds, unbounded_holds}
-use Rattle.simplex_definitions.specs.Moves.{is_crossed, goes_up, stopper, is_below}
+use Rattle.simplex_definitions.specs.Moves.{is_crossed, goes_up, blocking_variable, is_below}
 use Rattle.simplex_definitions.specs.Path.{PathEnding, EndsOptimal, EndsCrossed, EndsInfeasible, EndsUnbounded, EndsAt, Turn, Moves, Ends, listed, speeds, crossed, outside, worth_rate, entering_variable, restore_feasibility, run_until, improve, turn_for, turn}
 use Rattle.simplex_definitions.specs.DualPath.{dual_for, dual_turn}
 use Rattle.simplex_definitions.specs.DualRatio.{cheapest}

@@ -15,8 +15,8 @@ use Rattle.control_definitions.specs.Cells.{steps_allowed}
 use Rattle.simplex_laws.specs.Laws.{IsNonsingularBasis}
 use Rattle.simplex_laws.proofs.Numbered.{find_some}
 use Rattle.simplex_laws.proofs.OnePath.{path_leads}
-use Rattle.dual_laws.proofs.DualTurns.{dual_end}
-use Rattle.dual_laws.proofs.OneDualPath.{dual_path_leads, path_right}
+use Rattle.simplex_laws.proofs.DualTurns.{dual_end}
+use Rattle.simplex_laws.proofs.OneDualPath.{dual_path_leads, path_right}
 use Rattle.problem_definitions.specs.Names.{Name}
 use Rattle.selection_definitions.specs.Selection.{selected}
 use Rattle.selection_laws.proofs.Selected.{selected_without_change}
