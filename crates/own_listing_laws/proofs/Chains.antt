@@ -1,5 +1,4 @@
 -- A chain of intervals lands: each interval is read back and passes its test, and so does the close.
---     IsFine C x rest judged       this is read, with this left, or an operation of a test is refused
 use Rattle.std.proofs.Common.{◌≡◌, ℕ, ◌+◌, ◌<◌, ◌≤◌, true, false, List, [], ◌∷◌, ◌++◌, length, map, Option, Some, None, codes, drop, if◌then◌else◌, refl, sym, ap, subst, ◌∙◌, ◌⊎◌, inl, inr, arith, append_assoc, append-nil}
 use Rattle.std.specs.Prelude.{All, nat_eq}
 use Rattle.std.specs.List.{flat_map, enumerate_from}
@@ -35,35 +34,18 @@ use Rattle.walk_definitions.specs.Checkers.{Checker}
 use Rattle.walk_definitions.specs.Words.{Parsed, left_after, max_count, fraction_in}
 use Rattle.walk_definitions.specs.Tables.{begins_table_line}
 use Rattle.walk_definitions.specs.Tests.{interval_test, close_test}
-use Rattle.walk_definitions.specs.Reading.{Judged, Right, Fails, Refuses, by_verdict, unread, tested_or, judged_map, interval_in, close_in, Run, onward, part_in, run_in, parametric_run_head, parametric_run_in, judged}
+use Rattle.walk_definitions.specs.Reading.{Judged, Fails, by_verdict, unread, tested_or, judged_map, interval_in, close_in, Run, onward, part_in, run_in, parametric_run_head, parametric_run_in, judged}
 use Rattle.walk_definitions.specs.Walker.{Walker, answered}
 use Rattle.walk_definitions.proofs.Texts.{stands}
 use Rattle.own_listing_laws.specs.Laws.{IsNoFailure, chain_of}
 use Rattle.fitting_answers.specs.Fitting.{IntervalsFit, EndFits, LinesFit}
 use Rattle.own_listing_laws.specs.Printed.{IsEndOf, of_end, of_direction, of_ray}
 use Rattle.own_listing_laws.proofs.Sections.{interval_read, close_read}
-use Rattle.own_listing_laws.proofs.Suiting.{SuitsRuns, CanRefuse}
+use Rattle.own_listing_laws.proofs.Suiting.{SuitsRuns}
 use Rattle.own_listing_laws.proofs.Tests.{Passes}
 use Rattle.own_listing_laws.proofs.Pace.{rebased, RefusesTest, Lands}
-use Rattle.own_listing_laws.proofs.Openings.{true_run, ParametricRunLands}
+use Rattle.own_listing_laws.proofs.Openings.{IsFine, fine_right, fine_refused, fine_map, fine_tested, true_run, ParametricRunLands}
 use Rattle.own_listing_laws.proofs.Parts.{part_passes, IsKind, face_kind, close_passes}
-
-pub data IsFine {X : Type 0} (C : Checker) (x : X) (rest : List ℕ) : Judged X → Type 0 where
-  fine_right : IsFine C x rest (Right x rest)
-  fine_refused : CanRefuse C → IsFine C x rest Refuses
-
-fine_map : {X Y : Type 0} (C : Checker) (f : X → Y) (x : X) (rest : List ℕ) (j : Judged X) → IsFine C x rest j → IsFine C (f x) rest (judged_map f j)
-fine_map C f x rest _ fine_right = fine_right
-fine_map C f x rest _ (fine_refused can) = fine_refused can
-
-fine_tested : {X : Type 0} (C : Checker) (test : X → Verdict) (x : X) (rest : List ℕ) → Passes C (test x) → IsFine C x rest (by_verdict (test x) x rest)
-fine_tested C test x rest passes = by (test x) passes
-  where
-    by : (v : Verdict) → Passes C v → IsFine C x rest (by_verdict v x rest)
-    by Checked passes = fine_right
-    by (Failed part number) passes = absurd passes.of
-    by (Unchecked refused) passes =
-        fine_refused (record { op = refused.op; left = refused.left; right = refused.right; refuses = passes.of })
 
 -- ---- readers of the linear program at a value are those of the linear program
 

@@ -40,7 +40,7 @@ use Rattle.answer_definitions.specs.Verdicts.{check_of, found, IsVerdict}
 use Rattle.answer_definitions.specs.Verdicts as verdicts
 use Rattle.answer_definitions.specs.Sections.{solution_row, solution_lines}
 use Rattle.walk_definitions.specs.Tables.{column_of}
-use Rattle.walk_definitions.specs.Checkers.{Checker, says_checked, checker_of_128_bits}
+use Rattle.walk_definitions.specs.Checkers.{Checker, says_checked, checker_of_128_bits, checker_of_any_length}
 use Rattle.walk_definitions.specs.Tests.{asked, says, verdict_test, slack_steps, best_test, solution_test}
 use Rattle.own_listing_laws.proofs.Columns.{column_is, first_of_pairs, second_of_pairs, multipliers_of_ray, points_of_lines, prices_of_lines}
 use Rattle.own_listing_laws.proofs.Ended.{IsOf, claim_steps}
@@ -58,6 +58,12 @@ pub never_failed : (C : Checker) (v : Verdict) → Passes C v → IsNotFailed v
 never_failed C Checked passes part number e = cc e
 never_failed C (Failed one two) passes part number e = passes.of
 never_failed C (Unchecked r) passes part number e = cc e
+
+-- where nothing is refused
+pub passed_at_any_length : (v : Verdict) → Passes checker_of_any_length v → v ≡ Checked
+passed_at_any_length Checked passes = refl
+passed_at_any_length (Failed part number) passes = absurd passes.of
+passed_at_any_length (Unchecked r) passes = let e : false ≡ true = passes.of in absurd (cc e)
 
 module _ (C : Checker) where
   pub passes_checked : Passes C Checked

@@ -21,5 +21,6 @@ returns c = record {
       (λ optimal. let ended = best optimal in reported_is_best sheet.lp s viewed.tableau ended.point ended.prices viewed.is_tableau ended.ends at lawful)));
   run = λ sheet s parametric_run bases intervals end after lawful free at chained fits end_fits plain.
       fine_passes checker_of_128_bits (Chained [] intervals end) after _
-      (answer_fine checker_of_128_bits suits_128_bits sheet.problem sheet.lp parametric_run lawful free s at bases intervals end after _ refl chained plain fits end_fits);
+      (answer_fine checker_of_128_bits suits_128_bits sheet.problem sheet.lp parametric_run lawful free s at bases intervals end after _ refl chained plain
+      fits end_fits);
 }
