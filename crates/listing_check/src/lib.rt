@@ -3,8 +3,10 @@
 
 mod check;
 mod line;
+mod program;
 mod start;
 mod status;
 
 pub use check::check_listing;
+pub use program::run_checker;
 pub use status::CheckStatus;

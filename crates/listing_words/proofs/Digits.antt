@@ -1,5 +1,5 @@
 -- The number that digits spell doesn't fall as more digits follow.
-use Rattle.std.proofs.Common.{◌≡◌, Bool, true, false, ◌||◌, ℕ, zero, suc, ◌+◌, ◌<◌, ◌≤◌, List, [], ◌∷◌, length, get_or, take, drop, refl, sym, ap, ◌∙◌, arith, subst, take-append-drop, le_refl}
+use Rattle.std.proofs.Common.{◌≡◌, ℕ, ◌+◌, ◌<◌, ◌≤◌, List, [], ◌∷◌, length, get_or, take, drop, sym, ap, ◌∙◌, arith, subst, take-append-drop, le_refl}
 use Rattle.std.specs.Prelude.{fold}
 use Rattle.std.proofs.lemmas.List.Sums.{fold-append, fold_more}
 use Rattle.card_definitions.specs.Numbers.{next_value, digits_value}
@@ -22,10 +22,3 @@ stays_great bound n value digits is within great small =
     fold_more next_value 0 digits n 0 within ∙ ap (λ v. next_value v (get_or digits n 0)) (sym is) in
     let least : digits_value (take (n + 1) digits) ≤ digits_value digits = grows (n + 1) digits in
     great (omega (arith, more, least, small))
-
--- all of them
-pub whole_taken : (n : ℕ) (digits : List ℕ) → length digits ≤ n → take n digits ≡ digits
-whole_taken zero [] past = refl
-whole_taken (suc n) [] past = refl
-whole_taken zero (d ∷ digits) past = absurd (omega arith)
-whole_taken (suc n) (d ∷ digits) past = ap (λ ds. d ∷ ds) (whole_taken n digits (omega arith))

@@ -1,2 +1,3 @@
 mod Digits
+mod Each
 pub mod Sameness

@@ -82,7 +82,7 @@ impl<'a> Number<'a> {
         self.is_equal(&Number::zero())
     }
 
-    /// The fraction in 128 bits, if it has as many.
+    /// The same as a fraction of 128 bits, if it fits.
     pub fn fraction(&self) -> Option<Frac>
         ensures { SomeIff result (TermsFit self.now) self.now }
     {
