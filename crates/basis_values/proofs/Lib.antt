@@ -1,6 +1,7 @@
 pub mod Covered
 pub mod Existence
 pub mod Kept
+pub mod Lasting
 pub mod Lengths
 pub mod Nearest
 pub mod Places

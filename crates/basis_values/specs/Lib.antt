@@ -6,3 +6,4 @@ pub mod Reach
 pub mod Points
 pub mod Prices
 pub mod Wants
+pub mod WordTerms

@@ -9,6 +9,7 @@ mod point;
 mod prices;
 pub mod reach;
 mod wants;
+mod word_terms;
 
 pub use choices::{
     counted, crossed, entering_variable, is_minimized, lies_below, may_lower, outside,

@@ -8,6 +8,7 @@ ghost use Rattle.basis_values.specs.Reach.{StepLengthRefused, IsAhead, Yields, s
 
 use crate::choices::counted;
 use crate::formula::{Formula, plus_product};
+use crate::word_terms::lasts;
 use frac128::Frac;
 use lp_model::{Evidence, Lp};
 
@@ -106,6 +107,39 @@ pub fn length_to(
     let distance = formula(6, 0, k, ahead.term).difference(ahead.limit, point[k as usize - 1])?;
     let change = formula(7, q, k, ahead.term).quotient(distance, rate)?;
     Ok(Some(counted(change, up)))
+}
+
+/// Whether it is seen without a quotient that `k` is no nearer than what is nearest so far.
+pub fn is_no_nearer(
+    lp: &Lp,
+    point: &[Frac],
+    direction: &[Frac],
+    up: bool,
+    nearest: &Option<Reach>,
+    k: u32,
+) -> bool
+    requires variable { IsVariable lp.now.matrix k }
+    requires point_places { length point.now ≡ size lp.now.matrix }
+    requires direction_places { length direction.now ≡ size lp.now.matrix }
+    ensures { IsTrue result → sooner nearest.now (step_length lp.now (value_at point.now)
+        (motion (value_at direction.now) up) k) k ≡ nearest.now }
+{
+    let speed = counted(direction[k as usize - 1], up);
+    let Some(ahead) = limit_before(lp, speed, k) else {
+        return true;
+    };
+    let Some(nearest) = nearest else {
+        return false;
+    };
+    let Ok(distance) = distance_formula(k, ahead.term).difference(
+        ahead.limit,
+        point[k as usize - 1],
+    ) else {
+        return false;
+    };
+    let rises = Frac::whole(0).is_less(speed);
+    let (distance, speed) = (counted(distance, rises), counted(speed, rises));
+    lasts(distance, speed, nearest.length).unwrap_or(false)
 }
 
 /// What is nearer: what was nearest so far, or `k` at this length.

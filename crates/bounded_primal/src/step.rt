@@ -32,6 +32,18 @@ fn formula(number: u8, p: u32, q: u32, i: u32) -> Formula
     }
 }
 
+/// The value of what has this rate, after a step, where the plain operations make it. Nothing is added to 0.
+#[inline(always)]
+fn quickly_moved(value: Frac, rate: Frac, step: Frac) -> Option<Frac>
+    ensures { IfSome result (λ moved. moved ≡ value +ℚ step *ℚ rate) }
+{
+    let product = step.mul(rate).ok()?;
+    if value.is_zero() {
+        return Some(product);
+    }
+    value.add(product).ok()
+}
+
 /// The value of `i`, which has this rate, after the step `by` of `q`, by the plain operations.
 #[inline(always)]
 fn plainly_moved(
@@ -98,6 +110,9 @@ fn moved_if_possible(
     ensures moves { OnErr result (rate ≢ zero_ℚ) }
     ensures needed { OnErr result (IsTrue needed) }
 {
+    if let Some(moved) = quickly_moved(value, rate, by.step) {
+        return Ok(Some(moved));
+    }
     match moved(value, rate, by, q, i) {
         Ok(moved) => Ok(Some(moved)),
         Err(evidence) => { if needed { Err(evidence) } else { Ok(None) } }
@@ -137,6 +152,32 @@ fn move_point(lp: &Lp, step: &Move<'_>, point: &mut [Frac], kept: Kept) -> Resul
         point[*k as usize - 1] = next;
     }
     Ok(still)
+}
+
+/// The same, where a step of 0 moves nothing.
+fn move_point_by_step(
+    lp: &Lp,
+    step: &Move<'_>,
+    point: &mut [Frac],
+    kept: Kept,
+) -> Result<Kept, Evidence>
+    requires direction_places { length step.now.direction.now ≡ size lp.now.matrix }
+    requires point_places { length point.old ≡ size lp.now.matrix }
+    ensures limited { OnOk result
+        (IsMovedAtLimits lp.now step.now.by.now.step (value_at step.now.direction.now)
+        (value_at point.old) (size lp.now.matrix) (value_at point.new)) }
+    ensures moved { IfOk result (λ still. IsTrue (all_kept still) → IsMoved step.now.by.now.step
+        (value_at step.now.direction.now) (value_at point.old)
+        (size lp.now.matrix) (value_at point.new)) }
+    ensures kept { IfOk result (λ still. IsTrue (all_kept still) → IsTrue (all_kept kept)) }
+    ensures needed { IfOk result (λ still. IsTrue (all_needed kept) → IsTrue (all_kept still)) }
+    ensures refused { IfErr result (SomeMovedRefused lp.now (all_needed kept) step.now.by.now
+        (value_at step.now.direction.now) (value_at point.old) step.now.q) }
+{
+    if step.by.step.is_zero() {
+        return Ok(kept);
+    }
+    move_point(lp, step, point, kept)
 }
 
 /// The limit of `k` that has this status.
@@ -257,7 +298,7 @@ pub fn step_over<R: Rates>(
     ensures overflow { StepOverflow result lp.now basis.old step.now.q step.now.by.now
         (R.state rates.old) (R.state rates.new) }
 {
-    let still = match move_point(lp, step, point, kept) {
+    let still = match move_point_by_step(lp, step, point, kept) {
         Ok(still) => still,
         Err(evidence) => return Err(Stop::Overflow(evidence)),
     };

@@ -12,7 +12,7 @@ ghost use Rattle.basis_values.specs.Reach.{length_of, IsFirst, IsNearest, Reache
 
 use crate::moves::BlockingVariable;
 use basis_values::counted;
-use basis_values::reach::{Reach, length_to, nearer, yields};
+use basis_values::reach::{Reach, is_no_nearer, length_to, nearer, yields};
 use frac128::Frac;
 use lp_model::{Basis, Evidence, Lp, SparseVector, Status};
 
@@ -47,6 +47,9 @@ fn nearest_by_lengths(
     let values = direction.values();
     let moving = direction.nonzero();
     for k in moving {
+        if is_no_nearer(lp, point, values, up, &nearest, *k) {
+            continue;
+        }
         let length = length_to(lp, point, values, up, q, *k)?;
         nearest = nearer(nearest, length, *k);
         if is_at_once(&nearest) {

@@ -1,7 +1,8 @@
-use Rattle.std.proofs.Common.{◌≡◌, ◌∙◌, ◌+◌, ◌<◌, ℕ, Bool, List, length, get_or, drop, Err, refl, rules, subst, ap, arith}
+use Rattle.std.proofs.Common.{◌≡◌, ◌∙◌, ◌+◌, ◌<◌, ℕ, Bool, List, length, get_or, drop, Err, refl, sym, rules, subst, ap, arith}
 use Rattle.std.specs.Prelude.{Option}
 use Rattle.exact_values.specs.Rational.{ℚ}
 use Rattle.lp_definitions.specs.LinearProgram.{LinearProgram, Vector, value_at}
+use Rattle.simplex_definitions.specs.Moves.{step_length}
 use Rattle.basis_values.specs.Motions.{motion}
 use Rattle.basis_values.specs.declared.reach.Reach.{Reach}
 use Rattle.bounded_primal.proofs.AtOnce.{nearest_at_once}
@@ -20,6 +21,25 @@ loop-k-init c =
     begun c.values-values.result.now _ c.nonzero-moving.result.now
     (rw c.values-values.ensures (listed_cover c.args.direction.now 1 c.nonzero-moving.result.now c.nonzero-moving.ensures))
     (λ k low high. absurd (omega (arith, low, high)))
+
+pub is_no_nearer-requires-clause-variable : goal.is_no_nearer-requires-clause-variable
+is_no_nearer-requires-clause-variable c =
+    let next =
+    before c.args.lp.now
+    (value_at c.args.point.now) c.values-values.result.now c.args.up c.loop-k.nearest c.nonzero-moving.result.now c.loop-k.k-index c.loop-k-test.true c.loop-k.invariant in
+    (omega (arith, next.is_next), omega (arith, next.within, ap length c.values-values.ensures, c.requires.direction_places))
+
+pub loop-k-preserved-then-is_no_nearer : goal.loop-k-preserved-then-is_no_nearer
+loop-k-preserved-then-is_no_nearer c =
+    let k = get_or c.nonzero-moving.result.now c.loop-k.k-index 0 in
+    let next =
+    before c.args.lp.now
+    (value_at c.args.point.now) c.values-values.result.now c.args.up c.loop-k.nearest c.nonzero-moving.result.now c.loop-k.k-index c.loop-k-test.true c.loop-k.invariant in
+    one_more c.values-values.result.now _ k _ next.within next.left
+    (nearest_by c.args.lp.now (value_at c.args.point.now)
+    (value_at c.values-values.result.now) c.args.up next.before k c.loop-k.nearest c.loop-k.nearest
+    (step_length c.args.lp.now (value_at c.args.point.now) (motion (value_at c.values-values.result.now) c.args.up) k)
+    next.is_next next.done refl (sym (c.if-is_no_nearer.ensures refl)))
 
 pub length_to-requires-clause-variable : goal.length_to-requires-clause-variable
 length_to-requires-clause-variable c =
