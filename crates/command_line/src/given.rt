@@ -4,7 +4,7 @@ use std::alloc::AllocError;
 use std::rt::Env;
 use std::{env, io};
 
-/// The words after the program's name. A word that isn't text stands as an empty one, which is refused.
+/// The words after the program's name. Where one isn't text, one empty word stands for all of them, and is refused.
 pub fn given_words<R: Env + AllocGlobal>(rt: &R) -> Result<Vec<String>, AllocError> {
     let mut words = Vec::new(rt.alloc());
     match env::args(rt) {

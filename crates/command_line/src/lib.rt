@@ -1,4 +1,4 @@
-//! What the words of the command line ask for.
+//! The words of the command line, and what they ask for.
 #![tactic(auto)]
 
 mod given;

@@ -1,3 +1,2 @@
 mod Digits
-mod Each
 pub mod Sameness

@@ -1,6 +1,6 @@
 // A place in a text.
 ghost use Rattle.std.specs.Prelude.{◌≡◌, ◌≤◌, length, drop, false};
-ghost use Rattle.std.specs.List.{flat_map, position_or_len};
+ghost use Rattle.std.specs.List.{position_or_len};
 ghost use Rattle.walk_definitions.specs.Words.{left_after, ends_word, word_in};
 ghost use Rattle.listing_words.specs.Read.{taken};
 
@@ -60,19 +60,6 @@ impl<'a> Cursor<'a> {
         } else {
             false
         }
-    }
-
-    /// Takes some texts, one after another, if they stand here.
-    pub fn take_each(&mut self, texts: &[&[u8]]) -> bool
-        ensures { left_after (flat_map (λ text. text.now) texts.now) self.old ≡
-            taken result self.new }
-    {
-        for text in texts {
-            if !self.take(text) {
-                return false;
-            }
-        }
-        true
     }
 
     /// Takes the word that stands here.

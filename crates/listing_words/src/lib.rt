@@ -10,4 +10,4 @@ mod slash;
 pub use cursor::Cursor;
 pub use number::Number;
 pub use numbers::{count_in, fraction_in};
-pub use slash::{after_slash, before_slash, has_slash, slash_place};
+pub use slash::{after_slash, before_slash, has_slash};

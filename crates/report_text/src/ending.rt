@@ -47,7 +47,7 @@ fn put_fault<P: Sink>(
     ensures { Writes (P.taken print.old) (P.taken print.new) result
         (concat (refused.now ∷ fault_text fault card ∷ codes "\n" ∷ [])) }
 {
-    put_deck_fault(print, refused, fault, card, None, None)
+    put_numbered_fault(print, refused, fault, card, None, None)
 }
 
 // The number of a verb fault.
@@ -183,7 +183,7 @@ fn label(word: &str, number: Option<u8>) -> Label
 }
 
 // A fault and its card, with the number of a fault in a number and the column of a bad character, where a deck's card has them.
-fn put_deck_fault<P: Sink>(
+fn put_numbered_fault<P: Sink>(
     print: &mut P,
     refused: &'static [u8],
     fault: u8,
@@ -260,7 +260,7 @@ pub fn put_ending<P: Sink>(print: &mut P, ending: Ending<'_>) -> Result<(), Writ
             card,
             number,
             column,
-        } => put_deck_fault(print, b"STOP 12 DECK ", fault, card, number, column),
+        } => put_numbered_fault(print, b"STOP 12 DECK ", fault, card, number, column),
         Ending::Card(fault) => put_card_fault(print, fault),
         Ending::Limit { limit, card } => put_limit(print, b"STOP 16 ITERATION LIMIT ", limit, card),
         Ending::Statements => put_all(print, b"STOP 17 STATEMENT LIMIT\n"),
