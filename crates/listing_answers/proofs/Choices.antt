@@ -5,7 +5,7 @@ use Rattle.std.specs.Option.{option_or}
 use Rattle.exact_values.specs.Rational.{ℚ}
 use Rattle.listing_definitions.specs.declared.Solver.{Solver}
 use Rattle.listing_definitions.specs.declared.Solver.TheVariants.{Primal, Dual, Paraobj, Pararhs}
-use Rattle.lp_model.specs.declared.NoMemory.{NoMemory}
+use Rattle.std.specs.declared.alloc.AllocError.{AllocError as NoMemory}
 use Rattle.question_definitions.specs.Answers.{Sheet}
 use Rattle.walk_definitions.specs.Words.{Parsed}
 use Rattle.walk_definitions.specs.Reading.{Claim, crossed_in, claim_in}

@@ -2,7 +2,7 @@
 use Rattle.std.proofs.Common.{◌≡◌, ℕ, List, [], IfOk, Result, Ok, Err, subst}
 use Rattle.card_definitions.specs.declared.CardFault.{CardFault}
 use Rattle.control_definitions.specs.declared.ControlFault.{ControlFault}
-use Rattle.job_devices.specs.declared.device.NoMemory.{NoMemory}
+use Rattle.std.specs.declared.alloc.AllocError.{AllocError as NoMemory}
 use Rattle.listing_definitions.specs.Ending.{CardStop, ControlStop}
 use Rattle.walk_definitions.specs.Checkers.{Checker}
 use Rattle.walk_definitions.specs.Walker as walks

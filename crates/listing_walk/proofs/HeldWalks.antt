@@ -1,7 +1,7 @@
 -- What a statement comes to in the walk, where XPARAM has a value that no cell holds.
 use Rattle.std.proofs.Common.{◌≡◌, ℕ, ◌+◌, List, Option, Some, None, Result, Ok, Err, IfOk, refl, sym, ap, subst, ◌∙◌}
 use Rattle.exact_values.specs.Rational.{ℚ}
-use Rattle.job_devices.specs.declared.device.NoMemory.{NoMemory}
+use Rattle.std.specs.declared.alloc.AllocError.{AllocError as NoMemory}
 use Rattle.control_definitions.specs.Cells.{Cells}
 use Rattle.control_definitions.specs.declared.NumberCell.TheVariants.{Xparam, Xparmax}
 use Rattle.control_definitions.specs.Program as program

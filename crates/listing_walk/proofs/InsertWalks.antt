@@ -1,7 +1,7 @@
 -- What INSERT comes to in the walk.
 use Rattle.std.proofs.Common.{◌≡◌, ℕ, ◌-◌, Bool, ◌&&◌, List, [], Option, Some, None, Result, Ok, Err, is_ok, IfOk, IfSome, drop, refl, sym, ap, subst, ◌∙◌}
 use Rattle.std.proofs.lemmas.Option.{same_Some}
-use Rattle.job_devices.specs.declared.device.NoMemory.{NoMemory}
+use Rattle.std.specs.declared.alloc.AllocError.{AllocError as NoMemory}
 use Rattle.card_definitions.specs.Cards.{Card, live, numbered_cards, cards_between}
 use Rattle.lp_definitions.specs.LinearProgram.{LinearProgram}
 use Rattle.problem_definitions.specs.Names.{Name}

@@ -2,7 +2,7 @@
 use Rattle.std.proofs.Common.{◌≡◌, ℕ, Bool, true, false, List, [], Some, None, IfSome, Result, Ok, Err, IfOk, refl, sym, ap, ◌∙◌, if◌then◌else◌}
 use Rattle.std.specs.Prelude.{min, length}
 use Rattle.std.specs.Option.{option_or}
-use Rattle.job_devices.specs.declared.device.NoMemory.{NoMemory}
+use Rattle.std.specs.declared.alloc.AllocError.{AllocError as NoMemory}
 use Rattle.lp_definitions.specs.LinearProgram.{LinearProgram}
 use Rattle.problem_definitions.specs.Problem.{Problem}
 use Rattle.problem_file.specs.Filed.{filed_under}

@@ -2,7 +2,7 @@
 use Rattle.std.proofs.Common.{◌≡◌, ℕ, false, List, [], Option, Some, Result, Ok, Err, IfOk, refl, sym, ap, subst}
 use Rattle.std.specs.Io.KnownBytes.{Appends}
 use Rattle.job_devices.specs.States.{SinkState}
-use Rattle.job_devices.specs.declared.device.NoMemory.{NoMemory}
+use Rattle.std.specs.declared.alloc.AllocError.{AllocError as NoMemory}
 use Rattle.job_devices.specs.declared.memory.SureSink.{SureSink}
 use Rattle.job_devices.specs.Memory.{sure_bytes, sure_sink_state}
 use Rattle.control_definitions.specs.declared.NameCell.{NameCell}

@@ -5,7 +5,7 @@ use Rattle.exact_values.specs.Rational.{ℚ}
 use Rattle.card_definitions.specs.Cards.{numbered_cards}
 use Rattle.deck_definitions.specs.Decks.{decks_of}
 use Rattle.control_definitions.specs.Program.{Statement, Program}
-use Rattle.job_devices.specs.declared.device.NoMemory.{NoMemory}
+use Rattle.std.specs.declared.alloc.AllocError.{AllocError as NoMemory}
 use Rattle.listing_definitions.specs.Ending.{Ending, Ended, StatementLimit}
 use Rattle.run_definitions.specs.State.{State, start}
 use Rattle.run_definitions.specs.Run.{counted, max_executed}
