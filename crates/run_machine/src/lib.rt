@@ -23,4 +23,4 @@ pub use ending::ending_of;
 pub use finding::{Finding, act_of, mark_left, refused};
 pub use kept::Kept;
 pub use machine::{Machine, problem_on_file, wanted_name};
-pub use selecting::{Refusal, present_choice, select_present, setup_choice};
+pub use selecting::{Refusal, present_choice, select_present};
