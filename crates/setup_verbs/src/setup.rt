@@ -16,9 +16,7 @@ use name_table::Name;
 use problem_file::ProblemFile;
 use report_text::{Report, text_of};
 use run_cells::{Cells, NameCell};
-use run_machine::{
-    Act, Halt, Machine, Refusal, present_choice, select_present, wanted_name,
-};
+use run_machine::{Act, Halt, Machine, Refusal, present_choice, select_present, wanted_name};
 use std::alloc::Global;
 
 /// A problem that was chosen: its own name, and what is kept of it.
