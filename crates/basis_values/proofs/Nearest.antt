@@ -7,8 +7,8 @@ use Rattle.exact_values.specs.Tests.{le_ℚ}
 use Rattle.exact_values.proofs.Order.{le_refl, le_of_lt, lt_of_lt_of_le}
 use Rattle.exact_values.proofs.TestsLaws.{le_fails_from_lt, lt_from_le_fails, le_from_test, test_from_le}
 use Rattle.lp_definitions.specs.LinearProgram.{LinearProgram, Vector, size}
-use Rattle.simplex_definitions.specs.Moves.{is_no_later, step_length, stopper}
-use Rattle.simplex_laws.proofs.Searches.{stopper_is, stopper_nothing}
+use Rattle.simplex_definitions.specs.Moves.{is_no_later, step_length, blocking_variable}
+use Rattle.simplex_laws.proofs.Searches.{blocking_variable_is, blocking_variable_nothing}
 use Rattle.basis_values.specs.Reach.{reach_of, sooner, IsFirst, IsNearest}
 use Rattle.basis_values.specs.declared.reach.Reach.{Reach}
 
@@ -80,11 +80,11 @@ module _ (f : ℕ → Option ℚ) (n : ℕ) where
 
 -- at the end it is what the definition finds
 module _ (p : LinearProgram) (z v : Vector) where
-  pub nearest_stops : (r : Reach) → IsNearest (step_length p z v) (size p.matrix) (Some r) → stopper p z v ≡ Some r.p
-  nearest_stops r h = stopper_is p z v r.p (h.low, h.high) (λ i is. h.first i is.0 is.1) h.later
+  pub nearest_stops : (r : Reach) → IsNearest (step_length p z v) (size p.matrix) (Some r) → blocking_variable p z v ≡ Some r.p
+  nearest_stops r h = blocking_variable_is p z v r.p (h.low, h.high) (λ i is. h.first i is.0 is.1) h.later
 
-  pub nothing_stops : IsNearest (step_length p z v) (size p.matrix) None → stopper p z v ≡ None
-  nothing_stops h = stopper_nothing p z v (λ k is. h k is.0 is.1)
+  pub nothing_stops : IsNearest (step_length p z v) (size p.matrix) None → blocking_variable p z v ≡ None
+  nothing_stops h = blocking_variable_nothing p z v (λ k is. h k is.0 is.1)
 
 -- it is a variable
 pub found_within : (f : ℕ → Option ℚ) (n : ℕ) (found : Option Reach) (r : Reach) → IsNearest f n found → found ≡ Some r → (1 ≤ r.p) × (r.p ≤ n)

@@ -28,7 +28,7 @@ use Rattle.bounded_primal.specs.Calls.{EvidenceHere}
 use Rattle.bounded_primal.specs.KeptPoints.{AgreesWithPoint}
 use Rattle.bounded_primal.specs.Moves.{StepsFromPoint, return_by, move_by}
 use Rattle.bounded_primal.specs.Turns.{IsUncrossed, least_outside, ray_from, ReturnStops, by_column, by_return, RuleEndsHere}
-use Rattle.bounded_primal.specs.declared.moves.Stopper.{Stopper}
+use Rattle.bounded_primal.specs.declared.moves.BlockingVariable.{BlockingVariable}
 use Rattle.bounded_primal.proofs.Agreement.{basis_point, outside_same, below_same, return_same, return_refused}
 use Rattle.bounded_primal.proofs.SameChoices.{listed_is, row_ray}
 use Rattle.bounded_primal.proofs.TurnCalls.{outside_basic}
@@ -154,9 +154,9 @@ module _ (p : LinearProgram) (lawful : IsLinearProgram p) (no_change : p.change 
     return_stops left before mid now (stop.Overflow e) keeps h = return_evidence left before mid now e keeps h
     return_stops left before mid now stop.NoMemory keeps h = tt
 
-    pub return_moves : (d : Vector) → IsDirectionOf p.matrix (basics_of s) q d → (by : Stopper) → by ≡ return_by p v d r to → (left : ℕ) → 1 ≤ left →
+    pub return_moves : (d : Vector) → IsDirectionOf p.matrix (basics_of s) q d → (by : BlockingVariable) → by ≡ return_by p v d r to → (left : ℕ) → 1 ≤ left →
         DualMovesOn p s d xs q by left
-    return_moves d direction by by_is left was_left = subst (λ (x : Stopper). DualMovesOn p s d xs q x left) (sym by_at_point) (record {
+    return_moves d direction by by_is left was_left = subst (λ (x : BlockingVariable). DualMovesOn p s d xs q x left) (sym by_at_point) (record {
       moves = return_move;
       leaves = leaves;
       nonbasic = return_nonbasic;

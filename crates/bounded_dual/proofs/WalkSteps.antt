@@ -16,7 +16,7 @@ use Rattle.basis_values.specs.Calls.{HasRates, LieIn, PointRefused}
 use Rattle.lp_model.specs.declared.reports.Outcome.{Outcome}
 use Rattle.bounded_primal.specs.Calls.{RuleWaypointsFollow}
 use Rattle.bounded_primal.specs.Moves.{move_by, StepRefused}
-use Rattle.bounded_primal.specs.declared.moves.Stopper.{Stopper}
+use Rattle.bounded_primal.specs.declared.moves.BlockingVariable.{BlockingVariable}
 use Rattle.bounded_primal.proofs.PathWalk.{HasReached, begins, goes_over, goes_on_there, overflows_there}
 use Rattle.bounded_primal.proofs.TurnEvidence.{step_refused_later}
 use Rattle.dual_step.specs.Prices.{ArePricesOver}
@@ -47,7 +47,7 @@ module _ (p : LinearProgram) (s : List Status) (before : List Basics) (now : Lis
       overflows_there dual_turn p s before now ways steps h (Dual p) limit more e within t.is_way (λ earlier lie. t.shows [] earlier lie)
   point_stops_there limit more stop.NoMemory no_change within r = (h.bases, (h.path.0, h.path.1), omega (arith, h.taken, within))
 
-  module _ (d xs : Vector) (q : ℕ) (by : Stopper) (left : ℕ) (m : DualMovesOn p now d xs q by left) where
+  module _ (d xs : Vector) (q : ℕ) (by : BlockingVariable) (left : ℕ) (m : DualMovesOn p now d xs q by left) where
     -- a step more
     pub walk_more : (next : List Status) (mid more : List Basics) → next ≡ after now (move_by q by) →
         KeepsWaypoints p.matrix (basics_of now) ways (basics_of now) mid → KeepsWaypoints p.matrix (basics_of now) mid (basics_of next) more →
@@ -74,7 +74,7 @@ module _ (p : LinearProgram) (s : List Status) (before : List Basics) (now : Lis
 
 -- the prices that a step has taken over are those of the next basis
 pub carried_prices : (p : LinearProgram) → IsLinearProgram p → p.change ≡ None → (a : Matrix) (b : Basics) (s : List Status) → HasRates a b p s →
-    (d xs w v : Vector) (q : ℕ) (by : Stopper) (left n : ℕ) → DualMovesOn p s d xs q by left → ArePricesOf p s w →
+    (d xs w v : Vector) (q : ℕ) (by : BlockingVariable) (left n : ℕ) → DualMovesOn p s d xs q by left → ArePricesOf p s w →
     n ≡ size p.matrix → ArePricesOver w xs by.p q n v → (next : List Status) → next ≡ after s (move_by q by) → ArePricesOf p next v
 carried_prices p lawful no_change a b s has d xs w v q by left n m priced counted over next is =
     subst (λ (t : List Status). ArePricesOf p t v) (sym is)

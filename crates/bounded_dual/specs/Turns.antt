@@ -15,14 +15,14 @@ use Rattle.simplex_definitions.specs.Statements.{Dual, RuleMoves}
 use Rattle.bounded_primal.specs.Calls.{EvidenceHere}
 use Rattle.bounded_primal.specs.Moves.{StepsFromPoint, move_by}
 use Rattle.bounded_primal.specs.Turns.{RuleEndsHere}
-use Rattle.bounded_primal.specs.declared.moves.Stopper.{Stopper}
+use Rattle.bounded_primal.specs.declared.moves.BlockingVariable.{BlockingVariable}
 use Rattle.bounded_primal.specs.declared.turns.Turn.{Turn}
 use Rattle.bounded_primal.specs.declared.turns.Turn.TheVariants.{Ends, Moves}
 use Rattle.bounded_dual.specs.declared.moves.DualStop.{DualStop}
 use Rattle.bounded_dual.specs.declared.moves.DualStop.TheVariants.{NotDualFeasible, Limit, Overflow, NoMemory}
 
 -- the basic that leaves has the rates xs, and q the direction d
-pub record DualMovesOn (p : LinearProgram) (s : List Status) (d xs : Vector) (q : ℕ) (by : Stopper) (left : ℕ) : Type 0 where
+pub record DualMovesOn (p : LinearProgram) (s : List Status) (d xs : Vector) (q : ℕ) (by : BlockingVariable) (left : ℕ) : Type 0 where
   pub moves : RuleMoves dual_turn p s (move_by q by)
   pub leaves : IsBasic p.matrix (basics_of s) by.p
   pub nonbasic : IsNonbasic p.matrix (basics_of s) q

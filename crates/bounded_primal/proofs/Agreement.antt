@@ -12,9 +12,9 @@ use Rattle.lp_definitions.specs.declared.Status.{Status}
 use Rattle.lp_laws.specs.Vectors.{along}
 use Rattle.lp_laws.proofs.Uniqueness.{one_point}
 use Rattle.frac128.specs.declared.Op.TheVariants.{Sub, Div}
-use Rattle.simplex_definitions.specs.Moves.{on_limit, is_below, is_above, is_outside, limit_ahead, step_length, stopper, is_no_later, reaches_first, signed, reached}
+use Rattle.simplex_definitions.specs.Moves.{on_limit, is_below, is_above, is_outside, limit_ahead, step_length, blocking_variable, is_no_later, reaches_first, signed, reached}
 use Rattle.simplex_laws.proofs.Numbered.{find_same, list_all_same}
-use Rattle.simplex_laws.proofs.Stoppers.{stopper_some}
+use Rattle.simplex_laws.proofs.BlockingVariables.{blocking_variable_some}
 use Rattle.simplex_definitions.specs.Formulas.{limit_numbered, number_of_limit}
 use Rattle.basis_values.specs.Formulas.{IsRefusal}
 use Rattle.basis_values.specs.Motions.{motion}
@@ -25,7 +25,7 @@ use Rattle.basis_values.proofs.RatesStops.{tableau_of, IsTableau-of}
 use Rattle.bounded_primal.specs.KeptPoints.{all_kept, all_needed, has_limit, AgreesAtLimits, AgreesWithPoint}
 use Rattle.bounded_primal.specs.declared.kept.Kept.{Kept}
 use Rattle.bounded_primal.specs.declared.kept.Kept.TheVariants.{All, AllSoFar, Limited}
-use Rattle.bounded_primal.specs.Moves.{stop_at, stopper_of, return_by}
+use Rattle.bounded_primal.specs.Moves.{stop_at, blocking_variable_of, return_by}
 use Rattle.bounded_primal.specs.Steps.{IsMovedAtLimits, ReturnRefused, of_distance, of_quotient}
 use Rattle.bounded_primal.specs.Turns.{least_outside}
 
@@ -127,22 +127,22 @@ module _ (p : LinearProgram) (z w : Vector) (agrees : AgreesAtLimits p z w) wher
   step_length_agrees v k is =
       length_same (limit_ahead p v k) (z k) (w k) (v k) (λ some. agrees k is (ahead_counts p k (lt_ℚ zero_ℚ (v k)) (lt_ℚ (v k) zero_ℚ) some))
 
-  stopper_agrees : (v : Vector) → stopper p z v ≡ stopper p w v
-  stopper_agrees v =
+  blocking_variable_agrees : (v : Vector) → blocking_variable p z v ≡ blocking_variable p w v
+  blocking_variable_agrees v =
       find_same (reaches_first p z v) (reaches_first p w v) (size p.matrix) 1 (λ k low high.
       list_all_same (λ i. is_no_later (step_length p z v k) (step_length p z v i)) (λ i. is_no_later (step_length p w v k) (step_length p w v i))
       (size p.matrix) 1 (λ i from to.
       ap₂ is_no_later (step_length_agrees v k (low, omega (arith, high))) (step_length_agrees v i (from, omega (arith, to)))))
 
   module _ (d : Vector) (up : Bool) where
-    stop_same : (o : Option ℕ) → stopper p w (motion d up) ≡ o → option_map (stop_at p z d up) o ≡ option_map (stop_at p w d up) o
+    stop_same : (o : Option ℕ) → blocking_variable p w (motion d up) ≡ o → option_map (stop_at p z d up) o ≡ option_map (stop_at p w d up) o
     stop_same None found = refl
     stop_same (Some k) found =
         ap (λ (r : Option ℚ). Some (record { p = k; step = signed up (unwrap_or r zero_ℚ); to = reached (motion d up) k }))
-        (step_length_agrees (motion d up) k (stopper_some p w (motion d up) k found).0)
+        (step_length_agrees (motion d up) k (blocking_variable_some p w (motion d up) k found).0)
 
-    pub stopper_of_same : stopper_of p z d up ≡ stopper_of p w d up
-    stopper_of_same = ap (option_map (stop_at p z d up)) (stopper_agrees (motion d up)) ∙ stop_same (stopper p w (motion d up)) refl
+    pub blocking_variable_of_same : blocking_variable_of p z d up ≡ blocking_variable_of p w d up
+    blocking_variable_of_same = ap (option_map (stop_at p z d up)) (blocking_variable_agrees (motion d up)) ∙ stop_same (blocking_variable p w (motion d up)) refl
 
     pub step_length_refused : (q : ℕ) (e : Evidence) → SomeStepLengthRefused p z d up q e → SomeStepLengthRefused p w d up q e
     step_length_refused q e h = (h.0, h.1, at h.0 h.1 h.2)

@@ -21,7 +21,7 @@ use Rattle.basis_values.specs.Calls.{HasRates}
 use Rattle.bounded_primal.specs.KeptPoints.{AgreesWithPoint}
 use Rattle.bounded_primal.specs.Moves.{move_by}
 use Rattle.bounded_primal.specs.Turns.{IsUncrossed, least_outside, MovesOn}
-use Rattle.bounded_primal.specs.declared.moves.Stopper.{Stopper}
+use Rattle.bounded_primal.specs.declared.moves.BlockingVariable.{BlockingVariable}
 use Rattle.bounded_primal.proofs.Agreement.{basis_point, outside_same}
 
 not_below : (low : Option ℚ) (x : ℚ) → IfSome low (λ l. l ≤ℚ x) → on_limit (λ l. lt_ℚ x l) low ≡ false
@@ -66,7 +66,7 @@ module _ (p : LinearProgram) (a : Matrix) (b : Basics) (s : List Status) (has : 
   at : IsNonsingularBasis p s
   at = record { is_basis = has.is_basis; nonsingular = has.nonsingular }
 
-  pub stays_inside : IsLinearProgram p → (d : Vector) (q : ℕ) (by : Stopper) (left : ℕ) → MovesOn p s d q by left → (next : List Status) →
+  pub stays_inside : IsLinearProgram p → (d : Vector) (q : ℕ) (by : BlockingVariable) (left : ℕ) → MovesOn p s d q by left → (next : List Status) →
       next ≡ after s (move_by q by) → (x : Vector) → AgreesWithPoint p next x → least_outside p next x ≡ None
   stays_inside lawful d q by left moves next is x follows =
       let step : IsStep p s next = record { tableau = moves.moves.0; is_tableau = moves.moves.1; move = move_by q by; turns = moves.moves.2; is_next = is } in

@@ -13,7 +13,7 @@ pub mod WalkCases
 pub mod TrueOutcomes
 pub mod FreeWalk
 pub mod CompletePaths
-pub mod StopperFacts
+pub mod BlockingVariableFacts
 pub mod Inside
 pub mod AtOnce
 pub mod Still

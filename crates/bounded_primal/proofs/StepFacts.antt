@@ -1,4 +1,4 @@
--- A step: the limit to which its stopper goes, and the basis to which it leads.
+-- A step: the limit to which its blocking variable goes, and the basis to which it leads.
 use Rattle.std.proofs.Common.{◌≡◌, ◌≢◌, ℕ, ◌-◌, List, Bool, true, false, ◌⊎◌, inl, inr, refl, sym, ap, ◌∙◌, subst}
 use Rattle.std.specs.Prelude.{Option, Some, None, option_map, unwrap_or, eqb, if◌then◌else◌}
 use Rattle.std.proofs.lemmas.Bool.Decides.{eqb_tells}
@@ -19,21 +19,21 @@ use Rattle.lp_laws.proofs.Exchange.{IsNonsingular-exchanged}
 use Rattle.lp_laws.proofs.Statuses.{basics_of-replaced, basics_of-flipped, status_of_basic, status_of_nonbasic, IsBasis-replaced, IsBasis-flipped}
 use Rattle.lp_laws.proofs.Uniqueness.{one_point}
 use Rattle.lp_laws.proofs.Points.{IsPointOf-replaced, IsPointOf-flipped}
-use Rattle.simplex_definitions.specs.Moves.{signed, limit_ahead, step_length, stopper}
-use Rattle.simplex_laws.proofs.Stoppers.{stopper_some, reaches_limit}
+use Rattle.simplex_definitions.specs.Moves.{signed, limit_ahead, step_length, blocking_variable}
+use Rattle.simplex_laws.proofs.BlockingVariables.{blocking_variable_some, reaches_limit}
 use Rattle.simplex_laws.proofs.Steps.{ahead_some}
 use Rattle.simplex_definitions.specs.Formulas.{limit_numbered, number_of_limit}
 use Rattle.basis_values.specs.Calls.{HasRates}
 use Rattle.basis_values.specs.Motions.{motion}
 use Rattle.bounded_primal.specs.KeptPoints.{AgreesWithPoint}
 use Rattle.bounded_primal.specs.Steps.{IsMoved, IsMovedAtLimits}
-use Rattle.bounded_primal.specs.Moves.{stop_at, IsStepBy, is_stopper, brings}
-use Rattle.bounded_primal.specs.declared.moves.Stopper.{Stopper}
+use Rattle.bounded_primal.specs.Moves.{stop_at, IsStepBy, is_blocking_variable, brings}
+use Rattle.bounded_primal.specs.declared.moves.BlockingVariable.{BlockingVariable}
 use Rattle.basis_values.proofs.Lengths.{signed_over}
 use Rattle.bounded_primal.proofs.Agreement.{agrees_moved}
 
--- the stopper goes to a limit that it has, and the step brings it there
-pub record ReachesLimit (p : LinearProgram) (z d : Vector) (by : Stopper) : Type 0 where
+-- the blocking variable goes to a limit that it has, and the step brings it there
+pub record ReachesLimit (p : LinearProgram) (z d : Vector) (by : BlockingVariable) : Type 0 where
   pub is_variable : IsVariable p.matrix by.p
   pub limit : ℚ
   pub is_limit : limit_numbered p by.p (number_of_limit by.to) ≡ Some limit
@@ -49,10 +49,10 @@ signed_twice : (up : Bool) (x : ℚ) → signed up (signed up x) ≡ x
 signed_twice true x = refl
 signed_twice false x = by_ring1 x (λ x. opposite (opposite x) ≐ x) refl
 
-stop_reaches : (p : LinearProgram) (z d : Vector) (up : Bool) (k : ℕ) → stopper p z (motion d up) ≡ Some k → d k ≢ zero_ℚ →
+stop_reaches : (p : LinearProgram) (z d : Vector) (up : Bool) (k : ℕ) → blocking_variable p z (motion d up) ≡ Some k → d k ≢ zero_ℚ →
     ReachesLimit p z d (stop_at p z d up k)
 stop_reaches p z d up k found moves =
-    let first = stopper_some p z (motion d up) k found in
+    let first = blocking_variable_some p z (motion d up) k found in
     let reach = reaches_limit (step_length p z (motion d up) k) (step_length p z (motion d up) k) (first.1 k first.0) in
     let there = ahead_some (limit_ahead p (motion d up) k) (z k) (motion d up k) reach.0 reach.1 in
     record {
@@ -63,15 +63,15 @@ stop_reaches p z d up k found moves =
           ∙ ap (signed up) (sym (signed_over up (there.0 -ℚ z k) (d k) moves)) ∙ signed_twice up ((there.0 -ℚ z k) /ℚ d k);
     }
 
-stops_reaches : (p : LinearProgram) (z d : Vector) (up : Bool) (by : Stopper) (o : Option ℕ) → stopper p z (motion d up) ≡ o →
+stops_reaches : (p : LinearProgram) (z d : Vector) (up : Bool) (by : BlockingVariable) (o : Option ℕ) → blocking_variable p z (motion d up) ≡ o →
     option_map (stop_at p z d up) o ≡ Some by → d by.p ≢ zero_ℚ → ReachesLimit p z d by
 stops_reaches p z d up by None found e moves = cc
 stops_reaches p z d up by (Some k) found e moves =
     let same : stop_at p z d up k ≡ by = cc in
-    subst (ReachesLimit p z d) same (stop_reaches p z d up k found (subst (λ (b : Stopper). d b.p ≢ zero_ℚ) (sym same) moves))
+    subst (ReachesLimit p z d) same (stop_reaches p z d up k found (subst (λ (b : BlockingVariable). d b.p ≢ zero_ℚ) (sym same) moves))
 
-pub step_reaches : (p : LinearProgram) (s : List Status) (z d : Vector) (q : ℕ) (by : Stopper) → IsStepBy p s z d q by → d by.p ≢ zero_ℚ → ReachesLimit p z d by
-step_reaches p s z d q by (is_stopper up feasible may found) moves = stops_reaches p z d up by (stopper p z (motion d up)) refl found moves
+pub step_reaches : (p : LinearProgram) (s : List Status) (z d : Vector) (q : ℕ) (by : BlockingVariable) → IsStepBy p s z d q by → d by.p ≢ zero_ℚ → ReachesLimit p z d by
+step_reaches p s z d q by (is_blocking_variable up feasible may found) moves = stops_reaches p z d up by (blocking_variable p z (motion d up)) refl found moves
 step_reaches p s z d q by (brings l basic limit step) moves = record { is_variable = basic.0; limit = l; is_limit = limit; is_step = step }
 
 -- ---- where it stands after the step
@@ -112,7 +112,7 @@ comes_to z l d some =
     back : (z l : ℚ) → z +ℚ (l -ℚ z) ≡ l
     back z l = by_ring3 z l z (λ z l u. z ⊕ (l ⊖ z) ≐ l) refl
 
-module _ (p : LinearProgram) (s : List Status) (z d : Vector) (q : ℕ) (by : Stopper) (basis : IsBasis p s) (nonsingular : IsNonsingular p.matrix (basics_of s))
+module _ (p : LinearProgram) (s : List Status) (z d : Vector) (q : ℕ) (by : BlockingVariable) (basis : IsBasis p s) (nonsingular : IsNonsingular p.matrix (basics_of s))
     (out : IsNonbasic p.matrix (basics_of s) q)
     (direction : IsDirectionOf p.matrix (basics_of s) q d) (moves : d by.p ≢ zero_ℚ) (step : IsStepBy p s z d q by) where
   pub reaches : ReachesLimit p z d by
@@ -127,7 +127,7 @@ module _ (p : LinearProgram) (s : List Status) (z d : Vector) (q : ℕ) (by : St
   pub not_basic : status_of s q ≢ Bs
   not_basic e = clash (sym (ap is_basic e) ∙ status_of_nonbasic p s basis q out)
 
-  -- a stopper other than q is basic
+  -- a blocking variable other than q is basic
   pub leaver_basic : by.p ≢ q → IsBasic p.matrix (basics_of s) by.p
   leaver_basic other = (reaches.is_variable, at (is_in (basics_of s) by.p) refl)
     where

@@ -23,7 +23,7 @@ use Rattle.basis_values.specs.Calls.{HasRates, StopsAt, job_of}
 use Rattle.bounded_primal.specs.KeptPoints.{has_limit}
 use Rattle.bounded_primal.specs.Moves.{IsStepBy, StepRefused}
 use Rattle.bounded_primal.specs.Steps.{MovedRefused, of_product, of_sum, SomeMovedRefused}
-use Rattle.bounded_primal.specs.declared.moves.Stopper.{Stopper}
+use Rattle.bounded_primal.specs.declared.moves.BlockingVariable.{BlockingVariable}
 use Rattle.basis_values.proofs.Existence.{rates_exist}
 use Rattle.basis_values.proofs.Refusals.{IsTableau-changed, no_parameter}
 use Rattle.basis_values.proofs.RatesStops.{stops_by_exchange, keeps_at}
@@ -84,7 +84,7 @@ module _ (p : LinearProgram) (s : List Status) (t : Tableau) (to : Status) (e : 
     }
 
 -- formula 8 or 9 of the step
-module _ (p : LinearProgram) (s : List Status) (z d : Vector) (q : ℕ) (by : Stopper) (basis : IsBasis p s) (nonsingular : IsNonsingular p.matrix (basics_of s))
+module _ (p : LinearProgram) (s : List Status) (z d : Vector) (q : ℕ) (by : BlockingVariable) (basis : IsBasis p s) (nonsingular : IsNonsingular p.matrix (basics_of s))
     (out : IsNonbasic p.matrix (basics_of s) q)
     (direction : IsDirectionOf p.matrix (basics_of s) q d) (moves : d by.p ≢ zero_ℚ) (step : IsStepBy p s z d q by) (point : IsPointOf p s z)
     (e : Evidence) where
@@ -173,7 +173,7 @@ module _ (a : Matrix) (w : Basics) (rate : ℕ → ℕ → ℚ) (e : Evidence) w
       record { belongs_to = λ p. rw names.is_formula refl; no_move = rw names.is_formula refl; no_step = rw names.is_formula refl }
 
 -- a refused exchange
-module _ (p : LinearProgram) (s : List Status) (q : ℕ) (by : Stopper) (basis : IsBasis p s) (nonsingular : IsNonsingular p.matrix (basics_of s))
+module _ (p : LinearProgram) (s : List Status) (q : ℕ) (by : BlockingVariable) (basis : IsBasis p s) (nonsingular : IsNonsingular p.matrix (basics_of s))
     (before after : List Basics) (keeps : KeepsWaypoints p.matrix (basics_of s) before (basics_of s) after) (e : Evidence) where
   exchange_stops : ExchangeRefused p.matrix (basics_of s ∷ exchanged (basics_of s) by.p q ∷ before) (basics_of s) after e → StepRefused p before s q by after e
   exchange_stops h =
@@ -188,7 +188,7 @@ module _ (p : LinearProgram) (s : List Status) (q : ℕ) (by : Stopper) (basis :
             (Covers-insert p.matrix after (basics_of s) (exchanged (basics_of s) by.p q) before (kept_within p.matrix (basics_of s) before after keeps)) e h;
       }
 
-pub exchange_refused : (p : LinearProgram) (s : List Status) (q : ℕ) (by : Stopper) (a : Matrix) (b c : Basics) (before after : List Basics) (stop : Stop) →
+pub exchange_refused : (p : LinearProgram) (s : List Status) (q : ℕ) (by : BlockingVariable) (a : Matrix) (b c : Basics) (before after : List Basics) (stop : Stop) →
     HasRates a b p s → c ≡ b → KeepsWaypoints a b before c after →
     IfOverflow stop (ExchangeRefused a (b ∷ exchanged b by.p q ∷ before) b after) → IfOverflow stop (StepRefused p before s q by after)
 exchange_refused p s q by a b c before after stop has same keeps h =

@@ -17,13 +17,13 @@ use Rattle.simplex_laws.proofs.Numbered.{find_some}
 use Rattle.simplex_definitions.specs.Statements.{PathMoves}
 use Rattle.basis_values.specs.Calls.{LieIn}
 use Rattle.basis_values.specs.Motions.{motion}
-use Rattle.bounded_primal.specs.Turns.{IsUncrossed, least_outside, entering_variable_by, ReturnStops, by_column, by_return, RunStops, by_direction, by_stopper, EvidenceAt, TurnStops, TurnFound}
+use Rattle.bounded_primal.specs.Turns.{IsUncrossed, least_outside, entering_variable_by, ReturnStops, by_column, by_return, RunStops, by_direction, by_blocking_variable, EvidenceAt, TurnStops, TurnFound}
 use Rattle.bounded_primal.specs.declared.moves.PrimalStop.{PrimalStop}
 use Rattle.bounded_primal.specs.declared.moves.PrimalStop.TheVariants.{Limit, Overflow, NoMemory}
 use Rattle.bounded_primal.specs.declared.turns.EnteringVariable.{EnteringVariable}
 use Rattle.bounded_primal.specs.declared.turns.Turn.{Turn}
 use Rattle.bounded_primal.specs.declared.turns.Turn.TheVariants.{Ends, Moves}
-use Rattle.bounded_primal.proofs.TurnEvidence.{of_point, of_return, of_stopper}
+use Rattle.bounded_primal.proofs.TurnEvidence.{of_point, of_return, of_blocking_variable}
 use Rattle.bounded_primal.proofs.TurnChoices.{return_enters, return_move, restoring_basic, restoring_nonbasic, return_pivot, improve_enters, run_some}
 
 -- a move of the path is a step
@@ -76,8 +76,8 @@ module _ (p : LinearProgram) (s : List Status) (z : Vector) (basis : IsBasis p s
   pub run_evidence : (y : Vector) (prices : ArePricesOf p s y) (inside : least_outside p s z ≡ None) (m : EnteringVariable)
       (chosen : Some m ≡ entering_variable_by p s y) → RunStops p s z m.q m.up before now e → EvidenceAt p s left before now e
   run_evidence y prices inside m chosen (by_direction h) = of_point p s left before now e h
-  run_evidence y prices inside m chosen (by_stopper d direction h) =
-      of_stopper p s left before now e z d m.q m.up (improve_enters p s z basis nonsingular point uncrossed y prices inside m chosen)
+  run_evidence y prices inside m chosen (by_blocking_variable d direction h) =
+      of_blocking_variable p s left before now e z d m.q m.up (improve_enters p s z basis nonsingular point uncrossed y prices inside m chosen)
       (run_some p s z basis nonsingular point uncrossed y prices inside m chosen d direction) h
 
 -- what is outside its limits is basic

@@ -18,13 +18,13 @@ use Rattle.simplex_definitions.specs.Formulas.{limit_numbered, number_of_limit}
 use Rattle.basis_values.specs.Calls.{HasRates, PointRefused}
 use Rattle.basis_values.specs.Motions.{may_move, motion}
 use Rattle.bounded_primal.specs.KeptPoints.{AgreesWithPoint}
-use Rattle.bounded_primal.specs.Moves.{stopper_of, return_by, move_by}
+use Rattle.bounded_primal.specs.Moves.{blocking_variable_of, return_by, move_by}
 use Rattle.bounded_primal.specs.Stops.{primal_stop_of}
 use Rattle.bounded_primal.specs.Turns.{IsUncrossed, least_outside, ray_from, entering_variable_by, Improves, IsUnboundedEnd, ReturnStops, by_column, by_return, RunStopsAtPoint, EndsHere, MovesOn, TurnStops}
 use Rattle.bounded_primal.specs.declared.moves.PrimalStop.TheVariants.{Limit}
-use Rattle.bounded_primal.specs.declared.moves.Stopper.{Stopper}
+use Rattle.bounded_primal.specs.declared.moves.BlockingVariable.{BlockingVariable}
 use Rattle.bounded_primal.specs.declared.turns.EnteringVariable.{EnteringVariable}
-use Rattle.bounded_primal.proofs.Agreement.{basis_point, outside_same, below_same, within_same, stopper_of_same, return_same, return_refused}
+use Rattle.bounded_primal.proofs.Agreement.{basis_point, outside_same, below_same, within_same, blocking_variable_of_same, return_same, return_refused}
 use Rattle.bounded_primal.proofs.TurnEvidence.{of_point, turn_stops}
 use Rattle.bounded_primal.proofs.TurnCalls.{step_of, outside_basic, stops_later, return_evidence, run_evidence}
 use Rattle.bounded_primal.proofs.TurnChoices.{infeasible_ends, limit_some, return_move, restoring_nonbasic, return_pivot, return_on, point_feasible, best_ends, improve_nonbasic, improve_may, unbounded_ends, run_move, run_on}
@@ -105,10 +105,10 @@ module _ (p : LinearProgram) (s : List Status) (v : Vector) (a : Matrix) (b : Ba
             (λ e x. return_evidence p s z has.is_basis has.nonsingular point uncrossed left mid now e r xs row broken q found_is
             (subst (λ (t : Status). ReturnStops p s z q r t mid now e) (sym limit_is) (return_stops e x))) h)
 
-        pub first_moves : (d : Vector) → IsDirectionOf p.matrix (basics_of s) q d → (by : Stopper) → by ≡ return_by p v d r to → (left : ℕ) → 1 ≤ left →
+        pub first_moves : (d : Vector) → IsDirectionOf p.matrix (basics_of s) q d → (by : BlockingVariable) → by ≡ return_by p v d r to → (left : ℕ) → 1 ≤ left →
             MovesOn p s d q by left
         first_moves d direction by by_is left was_left =
-            subst (λ (x : Stopper). MovesOn p s d q x left)
+            subst (λ (x : BlockingVariable). MovesOn p s d q x left)
             (ap (λ (t : Status). return_by p z d r t) limit_is ∙ sym (by_is ∙ return_same p v z (agrees z point) d r to is_variable first_limit))
             (return_on p s z has.is_basis has.nonsingular point uncrossed r xs row broken q found_is d direction left was_left)
 
@@ -151,17 +151,17 @@ module _ (p : LinearProgram) (s : List Status) (v : Vector) (a : Matrix) (b : Ba
           (x z point)) h
 
       module _ (d : Vector) (direction : IsDirectionOf p.matrix (basics_of s) m.q d) where
-        same : stopper_of p v d m.up ≡ stopper_of p z d m.up
-        same = stopper_of_same p v z (agrees z point) d m.up
+        same : blocking_variable_of p v d m.up ≡ blocking_variable_of p z d m.up
+        same = blocking_variable_of_same p v z (agrees z point) d m.up
 
-        pub run_ends : (zs : List ℚ) (steps : ℕ) (outcome : Outcome) → None ≡ stopper_of p v d m.up → length zs ≡ size p.matrix → IsPointOf p s (value_at zs) →
+        pub run_ends : (zs : List ℚ) (steps : ℕ) (outcome : Outcome) → None ≡ blocking_variable_of p v d m.up → length zs ≡ size p.matrix → IsPointOf p s (value_at zs) →
             IsUnboundedEnd p zs d m.up steps outcome → EndsHere p s steps outcome
         run_ends zs steps outcome none counted are h =
             unbounded_ends p s (value_at zs) has.is_basis has.nonsingular are uncrossed moves.price moves.prices
             (inside_of (value_at zs) are) m moves.chosen d direction zs steps outcome
-            (none ∙ stopper_of_same p v (value_at zs) (agrees (value_at zs) are) d m.up) counted (λ k is. refl) h
+            (none ∙ blocking_variable_of_same p v (value_at zs) (agrees (value_at zs) are) d m.up) counted (λ k is. refl) h
 
-        pub run_at_limit : (left : ℕ) (before now : List Basics) (by : Stopper) → Some by ≡ stopper_of p v d m.up → left ≡ 0 →
+        pub run_at_limit : (left : ℕ) (before now : List Basics) (by : BlockingVariable) → Some by ≡ blocking_variable_of p v d m.up → left ≡ 0 →
             TurnStops p s left before now Limit
         run_at_limit left before now by stops none = (
           none,
@@ -169,6 +169,6 @@ module _ (p : LinearProgram) (s : List Status) (v : Vector) (a : Matrix) (b : Ba
               (run_move p s z has.is_basis has.nonsingular point uncrossed moves.price moves.prices inside m moves.chosen d direction by (stops ∙ same)),
         )
 
-        pub run_moves : (by : Stopper) (left : ℕ) → Some by ≡ stopper_of p v d m.up → 1 ≤ left → MovesOn p s d m.q by left
+        pub run_moves : (by : BlockingVariable) (left : ℕ) → Some by ≡ blocking_variable_of p v d m.up → 1 ≤ left → MovesOn p s d m.q by left
         run_moves by left stops was_left =
             run_on p s z has.is_basis has.nonsingular point uncrossed moves.price moves.prices inside m moves.chosen d direction by left (stops ∙ same) was_left

@@ -15,10 +15,10 @@ use Rattle.lp_model.specs.declared.reports.Outcome.{Outcome}
 use Rattle.lp_model.specs.declared.reports.Outcome.TheVariants.{Optimal, Crossed, Infeasible, Unbounded}
 use Rattle.lp_laws.proofs.Uniqueness.{one_direction}
 use Rattle.lp_laws.proofs.Values.{clash}
-use Rattle.simplex_definitions.specs.Moves.{least, is_crossed, is_below, signed, goes_up, lowers, may_rise, may_fall, entering, limit_ahead, step_length, stopper}
+use Rattle.simplex_definitions.specs.Moves.{least, is_crossed, is_below, signed, goes_up, lowers, may_rise, may_fall, entering, limit_ahead, step_length, blocking_variable}
 use Rattle.simplex_definitions.specs.Path.{Move, Moves, EndsOptimal, EndsCrossed, EndsInfeasible, EndsUnbounded, listed, ray_of, excess_rate, outside, worth_rate, entering_variable, restore_feasibility, run_until, improve, turn_for, turn}
 use Rattle.simplex_laws.proofs.Numbered.{find_some}
-use Rattle.simplex_laws.proofs.Stoppers.{stopper_some, reaches_limit}
+use Rattle.simplex_laws.proofs.BlockingVariables.{blocking_variable_some, reaches_limit}
 use Rattle.simplex_laws.proofs.Turns.{IsFirstPhase, IsSecondPhase, improving}
 use Rattle.simplex_laws.proofs.Ends.{feasible}
 use Rattle.simplex_laws.proofs.UnboundedEnds.{IsEntering, enters}
@@ -28,13 +28,13 @@ use Rattle.simplex_definitions.specs.Formulas.{limit_numbered, number_of_limit}
 use Rattle.simplex_definitions.specs.Statements.{PathMoves, PathEnters}
 use Rattle.basis_values.specs.Motions.{may_move, motion}
 use Rattle.basis_values.specs.Prices.{worth_by}
-use Rattle.bounded_primal.specs.Moves.{stop_at, stopper_of, return_by, IsStepBy, is_stopper, brings, StepsFromPoint, move_by}
+use Rattle.bounded_primal.specs.Moves.{stop_at, blocking_variable_of, return_by, IsStepBy, is_blocking_variable, brings, StepsFromPoint, move_by}
 use Rattle.bounded_primal.specs.Turns.{IsUncrossed, least_outside, ray_from, moved_by, entering_variable_by, IsUnboundedEnd, EndsHere, MovesOn}
 use Rattle.bounded_primal.specs.declared.turns.EnteringVariable.{EnteringVariable}
-use Rattle.bounded_primal.specs.declared.moves.Stopper.{Stopper}
+use Rattle.bounded_primal.specs.declared.moves.BlockingVariable.{BlockingVariable}
 use Rattle.basis_values.proofs.Existence.{rates_exist}
 use Rattle.basis_values.proofs.RatesStops.{tableau_of, IsTableau-of}
-use Rattle.bounded_primal.proofs.SameChoices.{entering_same, stopper_same, listed_is, row_ray}
+use Rattle.bounded_primal.proofs.SameChoices.{entering_same, blocking_variable_same, listed_is, row_ray}
 
 -- a variable is crossed
 pub crossed_ends : (p : LinearProgram) (s : List Status) (k steps : ℕ) → IsBasis p s → IsNonsingular p.matrix (basics_of s) → Some k ≡ least p (is_crossed p) →
@@ -242,53 +242,53 @@ module _ (p : LinearProgram) (s : List Status) (z : Vector) (basis : IsBasis p s
             ap₂ (λ b v. signed b v) (ap (λ w. lt_ℚ w zero_ℚ) (worth_is m.q improve_nonbasic) ∙ sym up_is)
             (one_direction p.matrix (basics_of s) m.q (λ i. prices.rate i m.q) d nonsingular (prices.are_rates m.q improve_nonbasic) direction k is)
 
-        run_turn : (o : Option ℕ) → stopper p z (motion d m.up) ≡ o → turn p s u ≡ run_until p s u m.q (improving p s u m.q) o
+        run_turn : (o : Option ℕ) → blocking_variable p z (motion d m.up) ≡ o → turn p s u ≡ run_until p s u m.q (improving p s u m.q) o
         run_turn o stops =
             second_turn (Some m.q) improves
-            ∙ ap (run_until p s u m.q (improving p s u m.q)) (stopper_same p z (improving p s u m.q) (motion d m.up) speeds_are ∙ stops)
+            ∙ ap (run_until p s u m.q (improving p s u m.q)) (blocking_variable_same p z (improving p s u m.q) (motion d m.up) speeds_are ∙ stops)
 
         none_stops : (o : Option ℕ) → option_map (stop_at p z d m.up) o ≡ None → o ≡ None
         none_stops None e = refl
         none_stops (Some k) e = cc
 
         -- nothing stops q
-        pub unbounded_ends : (zs : List ℚ) (steps : ℕ) (outcome : Outcome) → None ≡ stopper_of p z d m.up → length zs ≡ size p.matrix →
+        pub unbounded_ends : (zs : List ℚ) (steps : ℕ) (outcome : Outcome) → None ≡ blocking_variable_of p z d m.up → length zs ≡ size p.matrix →
             ((k : ℕ) → IsVariable p.matrix k → value_at zs k ≡ z k) →
             IsUnboundedEnd p zs d m.up steps outcome → EndsHere p s steps outcome
         unbounded_ends zs steps outcome none zs_counted zs_are h = record {
           ending = EndsUnbounded (listed p.matrix z) (listed p.matrix (improving p s u m.q));
-          ends = record { tableau = u; is_tableau = is_u; turns = run_turn None (none_stops (stopper p z (motion d m.up)) (sym none)) };
+          ends = record { tableau = u; is_tableau = is_u; turns = run_turn None (none_stops (blocking_variable p z (motion d m.up)) (sym none)) };
           is_outcome =
               h.is_outcome
               ∙ ap₂ (Unbounded steps) (listed_is p.matrix zs z zs_counted zs_are)
               (listed_is p.matrix h.ds (improving p s u m.q) h.counted (λ k is. h.speeds k is ∙ sym (speeds_are k is)));
         }
 
-        some_stops : (by : Stopper) (o : Option ℕ) → option_map (stop_at p z d m.up) o ≡ Some by → (k : ℕ) × (o ≡ Some k) × (stop_at p z d m.up k ≡ by)
+        some_stops : (by : BlockingVariable) (o : Option ℕ) → option_map (stop_at p z d m.up) o ≡ Some by → (k : ℕ) × (o ≡ Some k) × (stop_at p z d m.up k ≡ by)
         some_stops by None e = cc
         some_stops by (Some k) e = (k, refl, cc)
 
         -- something does
-        pub run_move : (by : Stopper) → Some by ≡ stopper_of p z d m.up → PathMoves p s (move_by m.q by)
+        pub run_move : (by : BlockingVariable) → Some by ≡ blocking_variable_of p z d m.up → PathMoves p s (move_by m.q by)
         run_move by stops =
-            let at = some_stops by (stopper p z (motion d m.up)) (sym stops) in
-            let is = (stopper_some p z (motion d m.up) at.0 at.1).0 in
-            subst (λ (b : Stopper). PathMoves p s (move_by m.q b)) at.2 (
+            let at = some_stops by (blocking_variable p z (motion d m.up)) (sym stops) in
+            let is = (blocking_variable_some p z (motion d m.up) at.0 at.1).0 in
+            subst (λ (b : BlockingVariable). PathMoves p s (move_by m.q b)) at.2 (
               u,
               is_u,
               run_turn (Some at.0) at.1
                   ∙ ap (λ v. Moves (record { enters = m.q; leaves = at.0; to = if lt_ℚ zero_ℚ v then Ul else Ll })) (speeds_are at.0 is),
             )
 
-        pub run_some : IsSome (stopper_of p z d m.up) → (n : Move) × PathMoves p s n
-        run_some some = by_value (stopper_of p z d m.up) refl some
+        pub run_some : IsSome (blocking_variable_of p z d m.up) → (n : Move) × PathMoves p s n
+        run_some some = by_value (blocking_variable_of p z d m.up) refl some
           where
-            by_value : (o : Option Stopper) → stopper_of p z d m.up ≡ o → IsSome o → (n : Move) × PathMoves p s n
+            by_value : (o : Option BlockingVariable) → blocking_variable_of p z d m.up ≡ o → IsSome o → (n : Move) × PathMoves p s n
             by_value None e some = cc
             by_value (Some by) e some = (move_by m.q by, run_move by (sym e))
 
-        pub run_step : (by : Stopper) → Some by ≡ stopper_of p z d m.up → IsStepBy p s z d m.q by
-        run_step by stops = is_stopper m.up point_feasible improve_may (sym stops)
+        pub run_step : (by : BlockingVariable) → Some by ≡ blocking_variable_of p z d m.up → IsStepBy p s z d m.q by
+        run_step by stops = is_blocking_variable m.up point_feasible improve_may (sym stops)
 
         moves_ahead : (low high : Option ℚ) (v l : ℚ) (a b : Bool) → lt_ℚ zero_ℚ v ≡ a → lt_ℚ v zero_ℚ ≡ b →
             (if a then high else (if b then low else None)) ≡ Some l → v ≢ zero_ℚ
@@ -300,18 +300,18 @@ module _ (p : LinearProgram) (s : List Status) (z : Vector) (basis : IsBasis p s
         limit_of None w v x e = cc
         limit_of (Some l) w v x e = (l, refl)
 
-        pub run_pivot : (by : Stopper) → Some by ≡ stopper_of p z d m.up → d by.p ≢ zero_ℚ
+        pub run_pivot : (by : BlockingVariable) → Some by ≡ blocking_variable_of p z d m.up → d by.p ≢ zero_ℚ
         run_pivot by stops vanishes =
-            let at = some_stops by (stopper p z (motion d m.up)) (sym stops) in
-            let first = stopper_some p z (motion d m.up) at.0 at.1 in
+            let at = some_stops by (blocking_variable p z (motion d m.up)) (sym stops) in
+            let first = blocking_variable_some p z (motion d m.up) at.0 at.1 in
             let reach = reaches_limit (step_length p z (motion d m.up) at.0) (step_length p z (motion d m.up) at.0) (first.1 at.0 first.0) in
             let there = limit_of (limit_ahead p (motion d m.up) at.0) (z at.0) (motion d m.up at.0) reach.0 reach.1 in
-            let same : d at.0 ≡ zero_ℚ = ap (λ (b : Stopper). d b.p) at.2 ∙ vanishes in
+            let same : d at.0 ≡ zero_ℚ = ap (λ (b : BlockingVariable). d b.p) at.2 ∙ vanishes in
             moves_ahead (lower_of p at.0) (upper_of p at.0) (motion d m.up at.0) there.0 (lt_ℚ zero_ℚ (motion d m.up at.0))
             (lt_ℚ (motion d m.up at.0) zero_ℚ) refl refl there.1
             (ap (signed m.up) same ∙ signed_zero m.up)
 
-        pub run_on : (by : Stopper) (left : ℕ) → Some by ≡ stopper_of p z d m.up → 1 ≤ left → MovesOn p s d m.q by left
+        pub run_on : (by : BlockingVariable) (left : ℕ) → Some by ≡ blocking_variable_of p z d m.up → 1 ≤ left → MovesOn p s d m.q by left
         run_on by left stops was_left = record {
           enters = improve_enters;
           moves = run_move by stops;

@@ -23,14 +23,14 @@ use Rattle.simplex_definitions.specs.Formulas.{PointFormula, f6, f7, MoveFormula
 use Rattle.simplex_definitions.specs.Statements.{SolvingStatement, Primal, is_between, belongs, program_at, PathMoves, PathEnters, MovesAt, EntersAt}
 use Rattle.simplex_definitions.specs.Evidence.{Formula, by_exchange, by_entry, by_carried, by_point, by_slack, by_move, by_ratio, by_range, by_objective, by_slope, ShowsRefusal, IsLeaver, GoesTo, TakesStep, IsOfMove}
 use Rattle.basis_values.specs.Calls.{StopsAt, job_of, is_of_point, PointRefused}
-use Rattle.bounded_primal.specs.Moves.{StopperRefused, StepRefused, stopper_of, move_by}
+use Rattle.bounded_primal.specs.Moves.{BlockingVariableRefused, StepRefused, blocking_variable_of, move_by}
 use Rattle.bounded_primal.specs.Steps.{ReturnRefused, of_distance, of_quotient}
 use Rattle.bounded_primal.specs.Stops.{primal_stop_of}
 use Rattle.bounded_primal.specs.Turns.{EvidenceAt, TurnStops}
 use Rattle.lp_model.specs.RatesCalls.{IfOverflow}
 use Rattle.lp_model.specs.declared.Stop.{Stop}
 use Rattle.lp_model.specs.declared.Stop.TheVariants as stop
-use Rattle.bounded_primal.specs.declared.moves.Stopper.{Stopper}
+use Rattle.bounded_primal.specs.declared.moves.BlockingVariable.{BlockingVariable}
 use Rattle.basis_values.proofs.Covered.{stops_covered}
 use Rattle.basis_values.proofs.Existence.{rates_exist}
 use Rattle.basis_values.proofs.Refusals.{stops_at_basis}
@@ -305,9 +305,9 @@ module _ (p : LinearProgram) (s : List Status) (left : ℕ) (before now : List B
 
 -- ---- the numbers of the formulas of a move
 
-stopper_number : (n term : ℕ) → ((nat_eq n 6 && not (nat_eq term 3)) || nat_eq n 7) ≡ true →
+blocking_variable_number : (n term : ℕ) → ((nat_eq n 6 && not (nat_eq term 3)) || nat_eq n 7) ≡ true →
     (is_between 7 9 n ≡ true → nat_eq n 7 ≡ true) × (nat_eq n 14 ≡ false) × (is_between 1 12 n ≡ true) × ((not (nat_eq n 6) || not (nat_eq term 3)) ≡ true)
-stopper_number n term h = at (eqb_tells n 6) (eqb_tells n 7)
+blocking_variable_number n term h = at (eqb_tells n 6) (eqb_tells n 7)
   where
     goal : Type 0
     goal =
@@ -338,10 +338,10 @@ step_brings_not n term h = at (eqb_tells n 14)
 
 module _ (p : LinearProgram) (s : List Status) (left : ℕ) (before now : List Basics) (e : Evidence) where
   -- of the search for what stops q
-  pub of_stopper : (z d : Vector) (q : ℕ) (up : Bool) → PathEnters p s q → (IsSome (stopper_of p z d up) → (m : Move) × PathMoves p s m) →
-      StopperRefused p s z d q up e → EvidenceAt p s left before now e
-  of_stopper z d q up enters moves h =
-      let n = stopper_number e.formula e.term h.of_call in
+  pub of_blocking_variable : (z d : Vector) (q : ℕ) (up : Bool) → PathEnters p s q → (IsSome (blocking_variable_of p z d up) → (m : Move) × PathMoves p s m) →
+      BlockingVariableRefused p s z d q up e → EvidenceAt p s left before now e
+  of_blocking_variable z d q up enters moves h =
+      let n = blocking_variable_number e.formula e.term h.of_call in
       let bound : e.way ≤ 0 = h.stops.is_way in
       let no_way : e.way ≡ 0 = omega (arith, bound) in
       evidence_here p s left before now e (λ to. ⊥)
@@ -407,7 +407,7 @@ module _ (p : LinearProgram) (s : List Status) (left : ℕ) (before now : List B
           (belongs_job p e (ap (λ a. is_between 1 12 a && (not (nat_eq a 6) || not (nat_eq e.term 3))) f.names.is_formula))
 
   -- of the step of q by what stops it, with the basis that it leads to ahead
-  pub of_step : (q : ℕ) (by : Stopper) → PathEnters p s q → PathMoves p s (move_by q by) → by.to ≢ Bs → 1 ≤ left → StepRefused p before s q by now e →
+  pub of_step : (q : ℕ) (by : BlockingVariable) → PathEnters p s q → PathMoves p s (move_by q by) → by.to ≢ Bs → 1 ≤ left → StepRefused p before s q by now e →
       EvidenceAt p s left before now e
   of_step q by enters moves apart one_left h =
       evidence_ahead p s left before now e (λ to. to ≡ by.to) (move_by q by) moves (basics_of-replaced s by.p q by.to apart) one_left h.stops
@@ -420,7 +420,7 @@ module _ (p : LinearProgram) (s : List Status) (left : ℕ) (before now : List B
       (belongs_job p e h.of_call)
 
 -- a step after other calls at the same basis
-pub step_refused_later : (p : LinearProgram) (before mid now : List Basics) (s : List Status) (q : ℕ) (by : Stopper) (e : Evidence) →
+pub step_refused_later : (p : LinearProgram) (before mid now : List Basics) (s : List Status) (q : ℕ) (by : BlockingVariable) (e : Evidence) →
     KeepsWaypoints p.matrix (basics_of s) before (basics_of s) mid → StepRefused p mid s q by now e → StepRefused p before s q by now e
 step_refused_later p before mid now s q by e keeps h = record {
   of_call = h.of_call;

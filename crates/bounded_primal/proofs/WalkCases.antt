@@ -12,7 +12,7 @@ use Rattle.basis_values.specs.Calls.{PointRefused}
 use Rattle.bounded_primal.specs.Moves.{move_by, StepRefused}
 use Rattle.bounded_primal.specs.Stops.{primal_stop_of, PrimalStopsAlong}
 use Rattle.bounded_primal.specs.Turns.{MovesOn, TurnStops}
-use Rattle.bounded_primal.specs.declared.moves.Stopper.{Stopper}
+use Rattle.bounded_primal.specs.declared.moves.BlockingVariable.{BlockingVariable}
 use Rattle.bounded_primal.proofs.StepFacts.{ReachesLimit, step_reaches, limit_apart}
 use Rattle.bounded_primal.proofs.TurnEvidence.{of_step, step_refused_later, turn_stops}
 use Rattle.bounded_primal.proofs.TurnCases.{point_stops}
@@ -24,7 +24,7 @@ pub stops_at_once : (p : LinearProgram) (s : List Status) (limit : ℕ) (before 
 stops_at_once p s limit before now why h =
     stops_there p s before s before 0 (begins turn p s before) limit now (primal_stop_of why) (omega arith) (point_stops p s (limit - 0) before now why h)
 
-module _ (p : LinearProgram) (now : List Status) (d : Vector) (q : ℕ) (by : Stopper) (left : ℕ) (h : MovesOn p now d q by left) where
+module _ (p : LinearProgram) (now : List Status) (d : Vector) (q : ℕ) (by : BlockingVariable) (left : ℕ) (h : MovesOn p now d q by left) where
   reach : ReachesLimit p h.step.point d by
   reach = step_reaches p now h.step.point d q by h.step.is_step h.pivot
 

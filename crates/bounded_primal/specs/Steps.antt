@@ -15,7 +15,7 @@ use Rattle.basis_values.specs.Formulas.{IsRefusal}
 use Rattle.basis_values.specs.Reach.{reach_formula}
 use Rattle.basis_values.specs.declared.formula.Formula.{Formula}
 use Rattle.bounded_primal.specs.KeptPoints.{has_limit}
-use Rattle.bounded_primal.specs.declared.moves.Stopper.{Stopper}
+use Rattle.bounded_primal.specs.declared.moves.BlockingVariable.{BlockingVariable}
 
 abbrev pub step_formula : ℕ → ℕ → ℕ → ℕ → Formula
 step_formula number p q i = record { number = number; p = p; q = q; i = i; j = 0; term = 0; theta = zero_ℚ }
@@ -31,7 +31,7 @@ pub data MovedRefused (t rate value : ℚ) (p q i : ℕ) (e : Evidence) : Type 0
   of_sum : IsRefusal (step_formula 9 p q i) Add value (t *ℚ rate) e → MovedRefused t rate value p q i e
 
 -- that of some variable, whose rate is not 0 and whose value is needed: that of each is, where all are, and else of those with a limit
-pub record SomeMovedRefused (p : LinearProgram) (all : Bool) (by : Stopper) (d z : Vector) (q : ℕ) (e : Evidence) : Type 0 where
+pub record SomeMovedRefused (p : LinearProgram) (all : Bool) (by : BlockingVariable) (d z : Vector) (q : ℕ) (e : Evidence) : Type 0 where
   pub i : ℕ
   pub is : IsVariable p.matrix i
   pub needed : IsTrue (all || has_limit p i)

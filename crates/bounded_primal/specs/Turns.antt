@@ -30,11 +30,11 @@ use Rattle.basis_values.specs.Calls.{LieIn, job_of, PointRefused}
 use Rattle.bounded_primal.specs.Calls.{outcome_of}
 use Rattle.basis_values.specs.Motions.{motion}
 use Rattle.basis_values.specs.Prices.{worth_by}
-use Rattle.bounded_primal.specs.Moves.{StepsFromPoint, move_by, StopperRefused}
+use Rattle.bounded_primal.specs.Moves.{StepsFromPoint, move_by, BlockingVariableRefused}
 use Rattle.bounded_primal.specs.Steps.{ReturnRefused}
 use Rattle.bounded_primal.specs.declared.moves.PrimalStop.{PrimalStop}
 use Rattle.bounded_primal.specs.declared.moves.PrimalStop.TheVariants.{Limit, Overflow, NoMemory}
-use Rattle.bounded_primal.specs.declared.moves.Stopper.{Stopper}
+use Rattle.bounded_primal.specs.declared.moves.BlockingVariable.{BlockingVariable}
 use Rattle.bounded_primal.specs.declared.turns.EnteringVariable.{EnteringVariable}
 use Rattle.bounded_primal.specs.declared.turns.Turn.{Turn}
 use Rattle.bounded_primal.specs.declared.turns.Turn.TheVariants.{Ends, Moves}
@@ -87,7 +87,7 @@ pub data ReturnStops (p : LinearProgram) (s : List Status) (z : Vector) (q r : �
 -- the direction of q is refused, or what stops q
 pub data RunStops (p : LinearProgram) (s : List Status) (z : Vector) (q : ℕ) (up : Bool) (before after : List Basics) (e : Evidence) : Type 0 where
   by_direction : PointRefused p before s after e → RunStops p s z q up before after e
-  by_stopper : (d : Vector) → IsDirectionOf p.matrix (basics_of s) q d → StopperRefused p s z d q up e → RunStops p s z q up before after e
+  by_blocking_variable : (d : Vector) → IsDirectionOf p.matrix (basics_of s) q d → BlockingVariableRefused p s z d q up e → RunStops p s z q up before after e
 
 -- that holds at the point of s
 abbrev pub RunStopsAtPoint : LinearProgram → List Status → ℕ → Bool → List Basics → List Basics → Evidence → Type 0
@@ -103,7 +103,7 @@ abbrev pub EndsHere : LinearProgram → List Status → ℕ → Outcome → Type
 EndsHere = RuleEndsHere turn
 
 -- it moves q by what stops it, and a step is left
-pub record MovesOn (p : LinearProgram) (s : List Status) (d : Vector) (q : ℕ) (by : Stopper) (left : ℕ) : Type 0 where
+pub record MovesOn (p : LinearProgram) (s : List Status) (d : Vector) (q : ℕ) (by : BlockingVariable) (left : ℕ) : Type 0 where
   pub enters : PathEnters p s q
   pub moves : PathMoves p s (move_by q by)
   pub nonbasic : IsNonbasic p.matrix (basics_of s) q

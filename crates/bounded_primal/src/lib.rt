@@ -17,10 +17,10 @@ pub use basis_values::{Formula, counted, may_lower, plus_product, point_of, pric
 pub use beginning::opening;
 pub use free_path::primal_free;
 pub use kept::Kept;
-pub use moves::{Move, PrimalStop, Stopper};
+pub use moves::{BlockingVariable, Move, PrimalStop};
 pub use path::primal;
 pub use position::Position;
 pub use step::{returning, step_over};
-pub use stopping::stopper;
+pub use stopping::blocking_variable;
 pub use turns::{Turn, best, limit_broken, ray_of, return_along, whole_point};
 pub use workspace::Workspace;

@@ -43,7 +43,7 @@ impl From<Stop> for PrimalStop {
 /// The variable that stops a move. `step` is the change of what moves, negative where it moves down, and `to` is where `p` comes
 /// to stand.
 #[derive(Clone, Copy, Debug, PartialEq, Eq)]
-pub struct Stopper {
+pub struct BlockingVariable {
     pub p: u32,
     pub step: Frac,
     pub to: Status,
@@ -53,6 +53,6 @@ pub struct Stopper {
 #[derive(Clone, Copy)]
 pub struct Move<'a> {
     pub q: u32,
-    pub by: &'a Stopper,
+    pub by: &'a BlockingVariable,
     pub direction: &'a SparseVector,
 }

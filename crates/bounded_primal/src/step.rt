@@ -12,7 +12,7 @@ ghost use Rattle.bounded_primal.specs.Moves.{StepsFromPoint, move_by, return_by,
 ghost use Rattle.bounded_primal.specs.Steps.{IsMoved, IsMovedAtLimits, MovedRefused, SomeMovedRefused, ReturnRefused, step_formula};
 
 use crate::kept::Kept;
-use crate::moves::{Move, Stopper};
+use crate::moves::{BlockingVariable, Move};
 use basis_values::{Formula, plus_product, reach};
 use frac128::Frac;
 use lp_model::{Basis, Evidence, Lp, Rates, SparseVector, Status, Stop};
@@ -34,7 +34,13 @@ fn formula(number: u8, p: u32, q: u32, i: u32) -> Formula
 
 /// The value of `i`, which has this rate, after the step `by` of `q`, by the plain operations.
 #[inline(always)]
-fn plainly_moved(value: Frac, rate: Frac, by: &Stopper, q: u32, i: u32) -> Result<Frac, Evidence>
+fn plainly_moved(
+    value: Frac,
+    rate: Frac,
+    by: &BlockingVariable,
+    q: u32,
+    i: u32,
+) -> Result<Frac, Evidence>
     ensures value { IfOk result (λ moved. moved ≡ value +ℚ by.now.step *ℚ rate) }
     ensures refused { IfErr result (MovedRefused by.now.step rate value by.now.p q i) }
     ensures needed { OnErr result (rate ≢ zero_ℚ) }
@@ -45,7 +51,7 @@ fn plainly_moved(value: Frac, rate: Frac, by: &Stopper, q: u32, i: u32) -> Resul
 
 /// The same, also where only the plain operations are refused.
 #[inline(always)]
-fn moved(value: Frac, rate: Frac, by: &Stopper, q: u32, i: u32) -> Result<Frac, Evidence>
+fn moved(value: Frac, rate: Frac, by: &BlockingVariable, q: u32, i: u32) -> Result<Frac, Evidence>
     ensures value { IfOk result (λ moved. moved ≡ value +ℚ by.now.step *ℚ rate) }
     ensures refused { IfErr result (MovedRefused by.now.step rate value by.now.p q i) }
     ensures needed { OnErr result (rate ≢ zero_ℚ) }
@@ -80,7 +86,7 @@ fn is_needed(lp: &Lp, kept: Kept, k: u32) -> bool
 fn moved_if_possible(
     value: Frac,
     rate: Frac,
-    by: &Stopper,
+    by: &BlockingVariable,
     q: u32,
     i: u32,
     needed: bool,
@@ -164,13 +170,14 @@ pub fn returning(
     q: u32,
     p: u32,
     to: Status,
-) -> Result<Stopper, Evidence>
+) -> Result<BlockingVariable, Evidence>
     requires variable { IsVariable lp.now.matrix p }
     requires point_places { length point.now ≡ size lp.now.matrix }
     requires direction_places { length direction.now ≡ size lp.now.matrix }
     requires limit { IsSome (limit_numbered lp.now p (number_of_limit to)) }
     requires moves { value_at direction.now p ≢ zero_ℚ }
-    ensures stopper { IfOk result (λ by. by ≡ return_by lp.now (value_at point.now)
+    ensures blocking_variable { IfOk result
+        (λ by. by ≡ return_by lp.now (value_at point.now)
         (value_at direction.now) p to) }
     ensures refused { IfErr result (ReturnRefused lp.now (value_at point.now)
         (value_at direction.now) q p to) }
@@ -181,7 +188,7 @@ pub fn returning(
     let rate = direction[p as usize - 1];
     let distance = reach::formula(6, 0, p, number).difference(limit, value)?;
     let step = reach::formula(7, q, p, number).quotient(distance, rate)?;
-    Ok(Stopper { p, step, to })
+    Ok(BlockingVariable { p, step, to })
 }
 
 /// Takes the basis and the rates over the step. Where `q` itself stops, it changes its limit, and no exchange is made.

@@ -7,10 +7,10 @@ ghost use Rattle.lp_definitions.specs.Solutions.{IsFeasible, IsWithinLimits};
 ghost use Rattle.lp_definitions.specs.Basis.{basics_of, IsBasis, IsNonbasic, IsNonsingular, IsPointOf, IsDirectionOf};
 ghost use Rattle.simplex_definitions.specs.Moves.{step_length, signed, reached};
 ghost use Rattle.basis_values.specs.Motions.{may_move, motion};
-ghost use Rattle.bounded_primal.specs.Moves.{stopper_of, StopperRefused};
+ghost use Rattle.bounded_primal.specs.Moves.{blocking_variable_of, BlockingVariableRefused};
 ghost use Rattle.basis_values.specs.Reach.{length_of, IsFirst, IsNearest, Reaches, SomeStepLengthRefused};
 
-use crate::moves::Stopper;
+use crate::moves::BlockingVariable;
 use basis_values::counted;
 use basis_values::reach::{Reach, length_to, nearer, yields};
 use frac128::Frac;
@@ -142,18 +142,19 @@ fn limit_reached(speed: Frac) -> Status
     }
 }
 
-/// What `stopper` answers, from the values of the variables that have a limit.
-pub fn stopper_from(
+/// What `blocking_variable` answers, from the values of the variables that have a limit.
+pub fn blocking_variable_from(
     lp: &Lp,
     point: &[Frac],
     direction: &SparseVector,
     q: u32,
     up: bool,
-) -> Result<Option<Stopper>, Evidence>
+) -> Result<Option<BlockingVariable>, Evidence>
     requires point_places { length point.now ≡ size lp.now.matrix }
     requires direction_places { length direction.now ≡ size lp.now.matrix }
     requires within { IsWithinLimits lp.now (value_at point.now) }
-    ensures stopper { IfOk result (λ found. found ≡ stopper_of lp.now (value_at point.now)
+    ensures blocking_variable { IfOk result
+        (λ found. found ≡ blocking_variable_of lp.now (value_at point.now)
         (value_at direction.now) up) }
     ensures refused { IfErr result (SomeStepLengthRefused lp.now (value_at point.now)
         (value_at direction.now) up q) }
@@ -164,7 +165,7 @@ pub fn stopper_from(
         None => Ok(None),
         Some(nearest) => {
             let speed = counted(rates[nearest.p as usize - 1], up);
-            Ok(Some(Stopper {
+            Ok(Some(BlockingVariable {
                 p: nearest.p,
                 step: counted(nearest.length, up),
                 to: limit_reached(speed),
@@ -175,14 +176,14 @@ pub fn stopper_from(
 
 /// What stops `q`, which moves up or down from the feasible point, and how far it comes: the least-numbered of the variables that
 /// reach a limit first. None comes exactly where nothing stops `q`. Takes no memory.
-pub fn stopper(
+pub fn blocking_variable(
     lp: &Lp,
     basis: &Basis,
     point: &[Frac],
     direction: &SparseVector,
     q: u32,
     up: bool,
-) -> Result<Option<Stopper>, Evidence>
+) -> Result<Option<BlockingVariable>, Evidence>
     requires point_places { length point.now ≡ size lp.now.matrix }
     requires direction_places { length direction.now ≡ size lp.now.matrix }
     requires basis { IsBasis lp.now basis.now }
@@ -193,10 +194,11 @@ pub fn stopper(
     requires direction { IsDirectionOf lp.now.matrix (basics_of basis.now) q
         (value_at direction.now) }
     requires may { IsTrue (may_move lp.now basis.now up q) }
-    ensures stopper { IfOk result (λ found. found ≡ stopper_of lp.now (value_at point.now)
+    ensures blocking_variable { IfOk result
+        (λ found. found ≡ blocking_variable_of lp.now (value_at point.now)
         (value_at direction.now) up) }
-    ensures refused { IfErr result (StopperRefused lp.now basis.now (value_at point.now)
+    ensures refused { IfErr result (BlockingVariableRefused lp.now basis.now (value_at point.now)
         (value_at direction.now) q up) }
 {
-    stopper_from(lp, point, direction, q, up)
+    blocking_variable_from(lp, point, direction, q, up)
 }

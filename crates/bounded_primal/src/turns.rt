@@ -13,14 +13,14 @@ ghost use Rattle.basis_values.specs.Calls.{IsAtBasis, StaysAt};
 ghost use Rattle.basis_values.specs.Motions.{may_move, motion};
 ghost use Rattle.basis_values.specs.Wants.{AreWants};
 ghost use Rattle.bounded_primal.specs.KeptPoints.{all_kept, AgreesWithPoint};
-ghost use Rattle.bounded_primal.specs.Moves.{return_by, stopper_of as stopper_by};
+ghost use Rattle.bounded_primal.specs.Moves.{return_by, blocking_variable_of as blocking_variable_by};
 ghost use Rattle.bounded_primal.specs.Turns.{IsUncrossed, least_outside, ray_from, IsRestoring, moved_by, entering_variable_by, Improves, IsEnteringVariableFound, IsUnboundedEnd, ReturnStops, RunStopsAtPoint, TurnFound};
 
 use crate::kept::Kept;
-use crate::moves::{PrimalStop, Stopper};
+use crate::moves::{BlockingVariable, PrimalStop};
 use crate::position::Position;
 use crate::step::returning;
-use crate::stopping::stopper_from;
+use crate::stopping::blocking_variable_from;
 use basis_values::{counted, fill_prices, is_minimized, lies_below, point_of, wrong_price};
 use frac128::Frac;
 use lp_model::{
@@ -138,7 +138,7 @@ pub fn return_along<R: Rates>(
     q: u32,
     p: u32,
     to: Status,
-) -> Result<Stopper, Stop>
+) -> Result<BlockingVariable, Stop>
     requires rates { IsAtBasis (R.state rates.old) at.now.lp.now at.now.basis.now }
     requires direction_places { length direction.old ≡ size at.now.lp.now.matrix }
     requires nonbasic { IsNonbasic at.now.lp.now.matrix (basics_of at.now.basis.now) q }
@@ -150,7 +150,8 @@ pub fn return_along<R: Rates>(
     ensures direction { OnOk result
         (IsDirectionOf at.now.lp.now.matrix (basics_of at.now.basis.now) q
         (value_at direction.new)) }
-    ensures stopper { IfOk result (λ by. by ≡ return_by at.now.lp.now (value_at at.now.point.now)
+    ensures blocking_variable { IfOk result
+        (λ by. by ≡ return_by at.now.lp.now (value_at at.now.point.now)
         (value_at direction.new) p to) }
     ensures direction_places { OnOk result (length direction.new ≡ size at.now.lp.now.matrix) }
     ensures rates { StaysAt (R.state rates.old) (R.state rates.new) at.now.lp.now at.now.basis.now }
@@ -167,13 +168,13 @@ pub fn return_along<R: Rates>(
 }
 
 /// What stops `q`, which moves up or down. `direction` takes the direction of `q`.
-fn stopper_of<R: Rates>(
+fn blocking_variable_of<R: Rates>(
     at: &Position<'_>,
     rates: &mut R,
     direction: &mut SparseVector,
     q: u32,
     up: bool,
-) -> Result<Option<Stopper>, Stop>
+) -> Result<Option<BlockingVariable>, Stop>
     requires rates { IsAtBasis (R.state rates.old) at.now.lp.now at.now.basis.now }
     requires direction_places { length direction.old ≡ size at.now.lp.now.matrix }
     requires point { AgreesWithPoint at.now.lp.now at.now.basis.now (value_at at.now.point.now) }
@@ -183,8 +184,8 @@ fn stopper_of<R: Rates>(
     ensures direction { OnOk result
         (IsDirectionOf at.now.lp.now.matrix (basics_of at.now.basis.now) q
         (value_at direction.new)) }
-    ensures stopper { IfOk result
-        (λ found. found ≡ stopper_by at.now.lp.now (value_at at.now.point.now)
+    ensures blocking_variable { IfOk result
+        (λ found. found ≡ blocking_variable_by at.now.lp.now (value_at at.now.point.now)
         (value_at direction.new) up) }
     ensures direction_places { OnOk result (length direction.new ≡ size at.now.lp.now.matrix) }
     ensures rates { StaysAt (R.state rates.old) (R.state rates.new) at.now.lp.now at.now.basis.now }
@@ -193,7 +194,7 @@ fn stopper_of<R: Rates>(
 {
     let _size = at.lp.number_of_variables();
     rates.direction(q, direction)?;
-    match stopper_from(at.lp, at.point, direction, q, up) {
+    match blocking_variable_from(at.lp, at.point, direction, q, up) {
         Ok(found) => Ok(found),
         Err(evidence) => Err(Stop::Overflow(evidence)),
     }
@@ -305,7 +306,7 @@ fn entering_variable_of<R: Rates>(
 /// What the path does at a basis: it ends, or `q` moves by `by`, and its direction is at hand.
 pub enum Turn {
     Ends(Outcome),
-    Moves { q: u32, by: Stopper },
+    Moves { q: u32, by: BlockingVariable },
 }
 
 /// The first phase: brings the basic `r` back to the limit that it broke, or answers why nothing does. `row` and `direction` are
@@ -426,7 +427,7 @@ fn run<R: Rates>(
     ensures direction_places { OnOk result (length direction.new ≡ size at.now.lp.now.matrix) }
     ensures rates { StaysAt (R.state rates.old) (R.state rates.new) at.now.lp.now at.now.basis.now }
 {
-    match stopper_of(at, rates, direction, moved.q, moved.up)? {
+    match blocking_variable_of(at, rates, direction, moved.q, moved.up)? {
         None => {
             let point = whole_point(at, rates)?;
             Ok(Turn::Ends(unbounded_ending(

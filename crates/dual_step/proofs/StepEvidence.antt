@@ -28,7 +28,7 @@ use Rattle.basis_values.proofs.Refusals.{stops_at_basis}
 use Rattle.bounded_primal.specs.Calls.{EvidenceHere}
 use Rattle.bounded_primal.specs.Moves.{StepRefused, move_by}
 use Rattle.bounded_primal.specs.Steps.{ReturnRefused, of_distance, of_quotient}
-use Rattle.bounded_primal.specs.declared.moves.Stopper.{Stopper}
+use Rattle.bounded_primal.specs.declared.moves.BlockingVariable.{BlockingVariable}
 use Rattle.bounded_primal.proofs.StatementEvidence.{evidence_here, evidence_ahead, evidence_own, step_number, step_moves}
 use Rattle.bounded_primal.proofs.TurnEvidence.{step_brings_not}
 use Rattle.dual_laws.proofs.EnteringVariables.{is_entering_variable}
@@ -192,7 +192,7 @@ module _ (p : LinearProgram) (statement : SolvingStatement) (breakpoint : Option
             (subst (λ (x : ℚ). Refuses e Div (l -ℚ z r) x) (sym at_q) f.refuses)))
 
   -- the step of q, with the basis that it leads to ahead
-  pub of_step : (q : ℕ) (by : Stopper) → MovesAt statement breakpoint s (move_by q by) → by.to ≢ Bs → 1 ≤ left → StepRefused p before s q by now e →
+  pub of_step : (q : ℕ) (by : BlockingVariable) → MovesAt statement breakpoint s (move_by q by) → by.to ≢ Bs → 1 ≤ left → StepRefused p before s q by now e →
       EvidenceHere statement p.matrix breakpoint left s before now e
   of_step q by moves apart one_left h =
       let none = no_theta (λ to. to ≡ by.to) (basics_of s ∷ exchanged (basics_of s) by.p q ∷ before) h.stops in

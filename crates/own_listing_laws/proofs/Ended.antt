@@ -4,7 +4,7 @@ use Rattle.exact_values.specs.Rational.{ℚ}
 use Rattle.lp_definitions.specs.LinearProgram.{LinearProgram, Vector, size, IsVariable}
 use Rattle.lp_definitions.specs.declared.Status.{Status}
 use Rattle.lp_definitions.specs.Basis.{basics_of, Tableau, price_at}
-use Rattle.simplex_definitions.specs.Moves.{is_crossed, goes_up, stopper, is_below}
+use Rattle.simplex_definitions.specs.Moves.{is_crossed, goes_up, blocking_variable, is_below}
 use Rattle.simplex_definitions.specs.Path.{PathEnding, EndsOptimal, EndsCrossed, EndsInfeasible, EndsUnbounded, Turn, Moves, Ends, listed, speeds, crossed, outside, worth_rate, entering_variable, restore_feasibility, run_until, improve, turn_for, turn}
 use Rattle.simplex_definitions.specs.DualPath.{dual_for, dual_turn}
 use Rattle.simplex_definitions.specs.DualRatio.{cheapest}
@@ -32,7 +32,7 @@ module _ (p : LinearProgram) (s : List Status) (t : Tableau) where
   until_tells q v None = (sized p.matrix t.point, sized p.matrix v)
 
   improve_tells : (o : Option ℕ) → ReportsOf (improve p s t o)
-  improve_tells (Some q) = until_tells q (speeds t.rate (goes_up (worth_rate p s t) q) q) (stopper p t.point (speeds t.rate (goes_up (worth_rate p s t) q) q))
+  improve_tells (Some q) = until_tells q (speeds t.rate (goes_up (worth_rate p s t) q) q) (blocking_variable p t.point (speeds t.rate (goes_up (worth_rate p s t) q) q))
   improve_tells None = (refl, refl)
 
   crossed_tells : (k : ℕ) → crossed p s t ≡ Some k → IsVariable p.matrix k

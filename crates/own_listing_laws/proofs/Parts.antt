@@ -14,7 +14,7 @@ use Rattle.check_definitions.specs.Steps.{Step, verdict_of, sum_steps}
 use Rattle.check_definitions.specs.Checks.{optimal_check}
 use Rattle.certificate_check.proofs.TrueClaims.{NeverFails, never_optimal}
 use Rattle.sensitivity_laws.proofs.MovedLimits.{fixed_at}
-use Rattle.simplex_definitions.specs.Moves.{stopper}
+use Rattle.simplex_definitions.specs.Moves.{blocking_variable}
 use Rattle.simplex_definitions.specs.Path.{listed}
 use Rattle.simplex_definitions.specs.DualRatio.{cheapest}
 use Rattle.simplex_definitions.specs.Chain.{Part, along, ChainEnd as PastBreakpoint, AtMax, UnboundedPast as PastUnbounded, InfeasiblePast as PastInfeasible, FaceTurn, FaceEnds, IsPart}
@@ -167,7 +167,7 @@ objective_kind name p h theta s t = by (face_entering_variable p h theta s t)
     until q v None = tt
 
     by : (o : Option ℕ) → IsKindOf (Row name) (face_by p h theta s t o)
-    by (Some q) = until q _ (stopper p t.point _)
+    by (Some q) = until q _ (blocking_variable p t.point _)
     by None = tt
 
 rhs_kind : (name : List ℕ) (p : LinearProgram) (shift : List ℚ) (theta : ℚ) (s : List Status) (t : Tableau) (v : Vector) →

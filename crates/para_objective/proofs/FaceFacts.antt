@@ -13,17 +13,17 @@ use Rattle.lp_definitions.specs.declared.Status.TheVariants.{Ul, Ll}
 use Rattle.lp_laws.proofs.Uniqueness.{one_direction}
 use Rattle.lp_model.specs.RatesCalls.{IsRowOf}
 use Rattle.lp_model.specs.declared.reports.ParaEnd.{ParaEnd}
-use Rattle.simplex_definitions.specs.Moves.{may_rise, may_fall, lowers, goes_up, signed, stopper}
+use Rattle.simplex_definitions.specs.Moves.{may_rise, may_fall, lowers, goes_up, signed, blocking_variable}
 use Rattle.simplex_definitions.specs.Path.{after, speeds, stopped_by}
 use Rattle.simplex_laws.specs.Laws.{IsNonsingularBasis}
 use Rattle.simplex_laws.proofs.Searches.{found_passes}
-use Rattle.simplex_laws.proofs.Stoppers.{stopper_some}
+use Rattle.simplex_laws.proofs.BlockingVariables.{blocking_variable_some}
 use Rattle.simplex_definitions.specs.Chain.{FaceMoves, FaceDone, FaceEnds, UnboundedPast}
 use Rattle.simplex_definitions.specs.ObjectiveRun.{objective_family, change_rate, face_entering_variable, face_until, face_by, objective_face, IsObjectiveFace}
 use Rattle.basis_values.specs.Motions.{may_move, motion}
-use Rattle.bounded_primal.specs.Moves.{stop_at, stopper_of, IsStepBy, is_stopper, move_by}
-use Rattle.bounded_primal.specs.declared.moves.Stopper.{Stopper}
-use Rattle.bounded_primal.proofs.SameChoices.{stopper_same, listed_is}
+use Rattle.bounded_primal.specs.Moves.{stop_at, blocking_variable_of, IsStepBy, is_blocking_variable, move_by}
+use Rattle.bounded_primal.specs.declared.moves.BlockingVariable.{BlockingVariable}
+use Rattle.bounded_primal.proofs.SameChoices.{blocking_variable_same, listed_is}
 use Rattle.parametric_run.specs.Calls.{end_of}
 use Rattle.std.proofs.lemmas.Bool.{and_parts}
 use Rattle.parametric_laws.proofs.Objective.{to_objective}
@@ -104,10 +104,10 @@ module _ (p : LinearProgram) (h : ℕ) (lawful : IsLinearProgram p) (row : IsRow
           ap₂ (λ b v. signed b v) (sym (up_found ∙ up_is))
           (one_direction p.matrix (basics_of s) q (λ i. t.rate i q) d at.nonsingular (changed.are_rates q nonbasic) direction k is)
 
-      stops_same : stopper present z motion_of ≡ stopper p z (motion d up)
-      stops_same = stopper_same p z motion_of (motion d up) speeds_are
+      stops_same : blocking_variable present z motion_of ≡ blocking_variable p z (motion d up)
+      stops_same = blocking_variable_same p z motion_of (motion d up) speeds_are
 
-      face_is : (o : Option ℕ) → stopper p z (motion d up) ≡ o → objective_face present h theta s t ≡ face_until present h theta s t q motion_of o
+      face_is : (o : Option ℕ) → blocking_variable p z (motion d up) ≡ o → objective_face present h theta s t ≡ face_until present h theta s t q motion_of o
       unfolding objective_face
       face_is o stops = ap (face_by present h theta s t) found_is ∙ ap (face_until present h theta s t q motion_of) (stops_same ∙ stops)
 
@@ -115,53 +115,53 @@ module _ (p : LinearProgram) (h : ℕ) (lawful : IsLinearProgram p) (row : IsRow
       none_stops None e = refl
       none_stops (Some k) e = cc
 
-      some_stops : (by : Stopper) (o : Option ℕ) → option_map (stop_at p z d up) o ≡ Some by → (k : ℕ) × (o ≡ Some k) × (stop_at p z d up k ≡ by)
+      some_stops : (by : BlockingVariable) (o : Option ℕ) → option_map (stop_at p z d up) o ≡ Some by → (k : ℕ) × (o ≡ Some k) × (stop_at p z d up k ≡ by)
       some_stops by None e = cc
       some_stops by (Some k) e = (k, refl, cc)
 
       -- nothing stops q
-      pub face_ends : None ≡ stopper_of p z d up → (zs : List ℚ) → length zs ≡ size p.matrix → ((k : ℕ) → IsVariable p.matrix k → value_at zs k ≡ z k) →
+      pub face_ends : None ≡ blocking_variable_of p z d up → (zs : List ℚ) → length zs ≡ size p.matrix → ((k : ℕ) → IsVariable p.matrix k → value_at zs k ≡ z k) →
           (end : ParaEnd) → IsUnboundedPast p theta zs d up end →
           IsObjectiveFace p h theta s (FaceEnds (end_of end))
       face_ends none zs zs_counted zs_are end is = (
         t,
         tab,
-        face_is None (none_stops (stopper p z (motion d up)) (sym none))
+        face_is None (none_stops (blocking_variable p z (motion d up)) (sym none))
             ∙ ap₂ (λ xs ys. FaceEnds (UnboundedPast theta xs ys)) (sym (listed_is p.matrix zs z zs_counted zs_are))
             (sym (listed_is p.matrix is.ds motion_of is.counted (λ k var. is.speeds k var ∙ sym (speeds_are k var))))
             ∙ ap (λ e. FaceEnds (end_of e)) (sym is.is_end),
       )
 
-      module _ (by : Stopper) (stops : Some by ≡ stopper_of p z d up) where
-        stopper_at : (k : ℕ) × (stopper p z (motion d up) ≡ Some k) × (stop_at p z d up k ≡ by)
-        stopper_at = some_stops by (stopper p z (motion d up)) (sym stops)
+      module _ (by : BlockingVariable) (stops : Some by ≡ blocking_variable_of p z d up) where
+        blocking_variable_at : (k : ℕ) × (blocking_variable p z (motion d up) ≡ Some k) × (stop_at p z d up k ≡ by)
+        blocking_variable_at = some_stops by (blocking_variable p z (motion d up)) (sym stops)
 
-        k_is : IsVariable p.matrix stopper_at.0
-        k_is = (stopper_some p z (motion d up) stopper_at.0 stopper_at.1).0
+        k_is : IsVariable p.matrix blocking_variable_at.0
+        k_is = (blocking_variable_some p z (motion d up) blocking_variable_at.0 blocking_variable_at.1).0
 
-        move_is : stopped_by q motion_of stopper_at.0 ≡ move_by q by
+        move_is : stopped_by q motion_of blocking_variable_at.0 ≡ move_by q by
         move_is =
-            ap (λ v. record { enters = q; leaves = stopper_at.0; to = if lt_ℚ zero_ℚ v then Ul else Ll }) (speeds_are stopper_at.0 k_is)
-            ∙ ap (move_by q) stopper_at.2
+            ap (λ v. record { enters = q; leaves = blocking_variable_at.0; to = if lt_ℚ zero_ℚ v then Ul else Ll }) (speeds_are blocking_variable_at.0 k_is)
+            ∙ ap (move_by q) blocking_variable_at.2
 
         pub face_moves : IsObjectiveFace p h theta s (FaceMoves (move_by q by))
-        face_moves = (t, tab, face_is (Some stopper_at.0) stopper_at.1 ∙ ap FaceMoves move_is)
+        face_moves = (t, tab, face_is (Some blocking_variable_at.0) blocking_variable_at.1 ∙ ap FaceMoves move_is)
 
         pub face_keeps : IsOptimalBasis (objective_family p h theta) (after s (move_by q by))
         face_keeps =
             subst (λ m. IsOptimalBasis (objective_family p h theta) (after s m)) move_is
-            (kept_optimal p h lawful row theta s at t tab optimal q nonbasic zero_rate (goes_up (change_rate present h theta s t) q) stopper_at.0
-            (stops_same ∙ stopper_at.1))
+            (kept_optimal p h lawful row theta s at t tab optimal q nonbasic zero_rate (goes_up (change_rate present h theta s t) q) blocking_variable_at.0
+            (stops_same ∙ blocking_variable_at.1))
 
         pub face_pivot : d by.p ≢ zero_ℚ
         face_pivot zero =
-            pivot p h lawful row theta s at t tab optimal q nonbasic zero_rate (goes_up (change_rate present h theta s t) q) stopper_at.0
-            (stops_same ∙ stopper_at.1)
-            (one_direction p.matrix (basics_of s) q (λ i. t.rate i q) d at.nonsingular (changed.are_rates q nonbasic) direction stopper_at.0 k_is
-            ∙ ap (λ (b : Stopper). d b.p) stopper_at.2 ∙ zero)
+            pivot p h lawful row theta s at t tab optimal q nonbasic zero_rate (goes_up (change_rate present h theta s t) q) blocking_variable_at.0
+            (stops_same ∙ blocking_variable_at.1)
+            (one_direction p.matrix (basics_of s) q (λ i. t.rate i q) d at.nonsingular (changed.are_rates q nonbasic) direction blocking_variable_at.0 k_is
+            ∙ ap (λ (b : BlockingVariable). d b.p) blocking_variable_at.2 ∙ zero)
 
-        pub face_by_stopper : IsStepBy p s z d q by
-        face_by_stopper = is_stopper up feasible (subst (λ b. IsTrue (may_move p s b q)) (sym up_found) may) (sym stops)
+        pub face_by_blocking_variable : IsStepBy p s z d q by
+        face_by_blocking_variable = is_blocking_variable up feasible (subst (λ b. IsTrue (may_move p s b q)) (sym up_found) may) (sym stops)
 
     -- q is what a step would move
     pub face_enters : (u : Tableau) × IsTableau present s u × (face_entering_variable present h theta s u ≡ Some q)

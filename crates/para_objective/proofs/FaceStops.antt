@@ -13,7 +13,7 @@ use Rattle.simplex_definitions.specs.Chain.{RunReport}
 use Rattle.simplex_definitions.specs.ObjectiveRun.{objective_family, IsObjectiveFace}
 use Rattle.simplex_definitions.specs.Statements.{Paraobj, EntersAt}
 use Rattle.bounded_primal.specs.Stops.{primal_stop_of}
-use Rattle.bounded_primal.specs.Turns.{RunStops as TurnStops, by_direction, by_stopper}
+use Rattle.bounded_primal.specs.Turns.{RunStops as TurnStops, by_direction, by_blocking_variable}
 use Rattle.bounded_primal.specs.declared.moves.PrimalStop.{PrimalStop}
 use Rattle.bounded_primal.specs.declared.moves.PrimalStop.TheVariants.{Limit, Overflow, NoMemory}
 use Rattle.parametric_run.specs.Calls.{RunOverflows, RunStops}
@@ -22,7 +22,7 @@ use Rattle.parametric_run.specs.Complete.{RunEndsOverflowFree}
 use Rattle.parametric_run.specs.Walks.{FaceStops}
 use Rattle.parametric_run.specs.declared.method.Span.{Span}
 use Rattle.para_objective.specs.Method.{objective_problem}
-use Rattle.para_objective.proofs.RunEvidence.{of_point, of_stopper}
+use Rattle.para_objective.proofs.RunEvidence.{of_point, of_blocking_variable}
 
 module _ (p : LinearProgram) (h : ℕ) (no_change : p.change ≡ None) (theta : ℚ) (s : List Status) (from : ℚ) (left : ℕ) (ways now : List Basics) where
   -- the direction of q, or what stops it
@@ -30,7 +30,7 @@ module _ (p : LinearProgram) (h : ℕ) (no_change : p.change ≡ None) (theta : 
       IfOverflow why (TurnStops p s z q up ways now) →
       FaceStops (objective_family p h) (IsObjectiveFace p h) (Paraobj p h from) p.matrix theta s left ways now (primal_stop_of why)
   turn_stops q enters z up (stop.Overflow e) (by_direction r) = of_point p h from no_change s left ways now e (Some theta) r
-  turn_stops q enters z up (stop.Overflow e) (by_stopper d direction r) = of_stopper p h from no_change s left ways now e theta q enters z d up r
+  turn_stops q enters z up (stop.Overflow e) (by_blocking_variable d direction r) = of_blocking_variable p h from no_change s left ways now e theta q enters z d up r
   turn_stops q enters z up stop.NoMemory r = tt
 
 -- ---- the program at a value can always be made: an overflow comes with evidence at a basis

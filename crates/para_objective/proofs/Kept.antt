@@ -17,10 +17,10 @@ use Rattle.lp_laws.proofs.Values.{clash, sub-zero}
 use Rattle.lp_laws.proofs.Exchange.{AreRates-exchanged, was_nonbasic}
 use Rattle.lp_laws.proofs.Statuses.{basics_of-replaced, basics_of-flipped, changed_other, status_of_nonbasic}
 use Rattle.lp_laws.proofs.Optimal.{for_min-zero}
-use Rattle.simplex_definitions.specs.Moves.{rises_from, falls_from, is_fixed, lowers, signed, step_length, reached, stopper}
+use Rattle.simplex_definitions.specs.Moves.{rises_from, falls_from, is_fixed, lowers, signed, step_length, reached, blocking_variable}
 use Rattle.simplex_definitions.specs.Path.{after, speeds, stopped_by}
 use Rattle.simplex_laws.specs.Laws.{IsNonsingularBasis}
-use Rattle.simplex_laws.proofs.Stoppers.{stopper_some, reaches_limit}
+use Rattle.simplex_laws.proofs.BlockingVariables.{blocking_variable_some, reaches_limit}
 use Rattle.simplex_definitions.specs.ObjectiveRun.{objective_family}
 use Rattle.sensitivity_laws.specs.Changes.{HasRows, IsRightTableau}
 use Rattle.sensitivity_laws.proofs.Tableaus.{by_tableau}
@@ -60,7 +60,7 @@ taken_away x y c a theta b e =
 module _ (p : LinearProgram) (h : ℕ) (lawful : IsLinearProgram p) (row : IsRow p.matrix h) (theta : ℚ) (s : List Status) (at : IsNonsingularBasis p s)
     (t : Tableau) (tab : IsTableau (objective_family p h theta) s t) (optimal : IsOptimalBasis (objective_family p h theta) s)
     (q : ℕ) (enters : IsNonbasic p.matrix (basics_of s) q) (zero_rate : objective_rate (objective_family p h theta) t.rate q ≡ zero_ℚ)
-    (up : Bool) (k : ℕ) (stops : stopper (objective_family p h theta) t.point (speeds t.rate up q) ≡ Some k) where
+    (up : Bool) (k : ℕ) (stops : blocking_variable (objective_family p h theta) t.point (speeds t.rate up q) ≡ Some k) where
   abbrev present : LinearProgram
   present = objective_family p h theta
 
@@ -86,10 +86,10 @@ module _ (p : LinearProgram) (h : ℕ) (lawful : IsLinearProgram p) (row : IsRow
   have = stopped_feasible present s t there tab right_now.feasible q k up enters stops
 
   k_is : IsVariable p.matrix k
-  k_is = (stopper_some present t.point v k stops).0
+  k_is = (blocking_variable_some present t.point v k stops).0
 
   pub pivot : t.rate k q ≢ zero_ℚ
-  pivot zero = nothing (reaches_limit (step_length present t.point v k) (step_length present t.point v k) ((stopper_some present t.point v k stops).1 k k_is))
+  pivot zero = nothing (reaches_limit (step_length present t.point v k) (step_length present t.point v k) ((blocking_variable_some present t.point v k stops).1 k k_is))
     where
       nothing : (x : ℚ) × (step_length present t.point v k ≡ Some x) → ⊥
       nothing (x, e) =

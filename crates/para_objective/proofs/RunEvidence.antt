@@ -15,8 +15,8 @@ use Rattle.lp_laws.proofs.WaypointLaws.{within_itself}
 use Rattle.simplex_definitions.specs.Statements.{Paraobj, is_between, thetas_of, EntersAt, MovesAt}
 use Rattle.simplex_definitions.specs.Evidence.{ShowsRefusal}
 use Rattle.basis_values.specs.Calls.{StopsAt, job_of, is_of_point, PointRefused}
-use Rattle.bounded_primal.specs.Moves.{StopperRefused, StepRefused, move_by}
-use Rattle.bounded_primal.specs.declared.moves.Stopper.{Stopper}
+use Rattle.bounded_primal.specs.Moves.{BlockingVariableRefused, StepRefused, move_by}
+use Rattle.bounded_primal.specs.declared.moves.BlockingVariable.{BlockingVariable}
 use Rattle.bounded_primal.proofs.TurnEvidence.{step_brings_not}
 use Rattle.basis_values.proofs.Covered.{stops_covered}
 use Rattle.bounded_primal.specs.Calls.{EvidenceHere}
@@ -39,18 +39,18 @@ module _ (n term : ℕ) where
       ((is_between 1 13 n || is_between 16 17 n) && (not (nat_eq n 6) || not (nat_eq term 3))) ≡ true
   point_belongs h = grind arith
 
-  stopper_number : ((nat_eq n 6 && not (nat_eq term 3)) || nat_eq n 7) ≡ true → is_between 1 12 n ≡ true
-  stopper_number h = grind arith
+  blocking_variable_number : ((nat_eq n 6 && not (nat_eq term 3)) || nat_eq n 7) ≡ true → is_between 1 12 n ≡ true
+  blocking_variable_number h = grind arith
 
-  stopper_moves : ((nat_eq n 6 && not (nat_eq term 3)) || nat_eq n 7) ≡ true → is_between 7 9 n ≡ true → nat_eq n 7 ≡ true
-  stopper_moves h is = grind arith
+  blocking_variable_moves : ((nat_eq n 6 && not (nat_eq term 3)) || nat_eq n 7) ≡ true → is_between 7 9 n ≡ true → nat_eq n 7 ≡ true
+  blocking_variable_moves h is = grind arith
 
-  stopper_brings_not : ((nat_eq n 6 && not (nat_eq term 3)) || nat_eq n 7) ≡ true → nat_eq n 14 ≡ false
-  stopper_brings_not h = grind arith
+  blocking_variable_brings_not : ((nat_eq n 6 && not (nat_eq term 3)) || nat_eq n 7) ≡ true → nat_eq n 14 ≡ false
+  blocking_variable_brings_not h = grind arith
 
-  stopper_belongs : ((nat_eq n 6 && not (nat_eq term 3)) || nat_eq n 7) ≡ true →
+  blocking_variable_belongs : ((nat_eq n 6 && not (nat_eq term 3)) || nat_eq n 7) ≡ true →
       ((is_between 1 13 n || is_between 16 17 n) && (not (nat_eq n 6) || not (nat_eq term 3))) ≡ true
-  stopper_belongs h = grind arith
+  blocking_variable_belongs h = grind arith
 
   step_belongs : (is_between 1 12 n && (not (nat_eq n 6) || not (nat_eq term 3))) ≡ true →
       ((is_between 1 13 n || is_between 16 17 n) && (not (nat_eq n 6) || not (nat_eq term 3))) ≡ true
@@ -96,8 +96,8 @@ module _ (p : LinearProgram) (h : ℕ) (from : ℚ) (no_change : p.change ≡ No
 
   module _ (theta : ℚ) (q : ℕ) (enters : EntersAt (Paraobj p h from) (Some theta) s q) where
     -- the search for what stops q
-    pub of_stopper : (z d : Vector) (up : Bool) → StopperRefused p s z d q up e → EvidenceHere (Paraobj p h from) p.matrix (Some theta) left s before now e
-    of_stopper z d up r =
+    pub of_blocking_variable : (z d : Vector) (up : Bool) → BlockingVariableRefused p s z d q up e → EvidenceHere (Paraobj p h from) p.matrix (Some theta) left s before now e
+    of_blocking_variable z d up r =
         let bound : e.way ≤ 0 = r.stops.is_way in
         let no_way : e.way ≡ 0 = omega (arith, bound) in
         let stops : StopsAt (λ to. ⊥) p (basics_of s ∷ []) s now e = record {
@@ -108,18 +108,18 @@ module _ (p : LinearProgram) (h : ℕ) (from : ℚ) (no_change : p.change ≡ No
               (ap (waypoint (basics_of s) []) no_way ∙ sym (ap (waypoint (basics_of s) now) no_way)) r.stops.shows;
         } in
         let wider = stops_covered (λ to. ⊥) p (basics_of s ∷ []) (basics_of s ∷ before) s now e (inl (within_itself p.matrix (basics_of s)), tt) stops in
-        evidence_here p (Some (record { row = h; theta = e.theta })) (Paraobj p h from) s e refl (stopper_number e.formula e.term r.of_call) no_change
+        evidence_here p (Some (record { row = h; theta = e.theta })) (Paraobj p h from) s e refl (blocking_variable_number e.formula e.term r.of_call) no_change
         (Some theta) left before now
         (zero_theta (λ to. ⊥) (basics_of s ∷ before) wider)
         (record {
-          enters = λ is. subst (EntersAt (Paraobj p h from) (Some theta) s) (sym (r.enters (stopper_moves e.formula e.term r.of_call is))) enters;
-          brings = λ is. absurd (clash (sym is ∙ stopper_brings_not e.formula e.term r.of_call));
+          enters = λ is. subst (EntersAt (Paraobj p h from) (Some theta) s) (sym (r.enters (blocking_variable_moves e.formula e.term r.of_call is))) enters;
+          brings = λ is. absurd (clash (sym is ∙ blocking_variable_brings_not e.formula e.term r.of_call));
           steps = λ is. tt;
         })
-        (stopper_belongs e.formula e.term r.of_call) (λ to. ⊥) (λ to none is. absurd none) wider
+        (blocking_variable_belongs e.formula e.term r.of_call) (λ to. ⊥) (λ to none is. absurd none) wider
 
     -- the step of q by what stops it, with the basis that it leads to ahead
-    pub of_step : (by : Stopper) → MovesAt (Paraobj p h from) (Some theta) s (move_by q by) → by.to ≢ Bs → 1 ≤ left → StepRefused p before s q by now e →
+    pub of_step : (by : BlockingVariable) → MovesAt (Paraobj p h from) (Some theta) s (move_by q by) → by.to ≢ Bs → 1 ≤ left → StepRefused p before s q by now e →
         EvidenceHere (Paraobj p h from) p.matrix (Some theta) left s before now e
     of_step by moves apart one_left r =
         evidence_ahead p (Some (record { row = h; theta = e.theta })) (Paraobj p h from) s e refl (step_number e.formula e.term r.of_call) no_change

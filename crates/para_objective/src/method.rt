@@ -2,7 +2,7 @@
 
 use crate::breaks::face_entering_variable;
 use crate::reaching::reach;
-use crate::turns::{rises, stopper_of, unbounded_end};
+use crate::turns::{blocking_variable_of, rises, unbounded_end};
 use basis_values::fill_prices;
 use bounded_primal::{PrimalStop, primal};
 use dual_step::read_row;
@@ -130,7 +130,7 @@ impl<'a> Parametric for Objective<'a> {
             return Ok(FaceStep::Done);
         };
         let up = rises(self.lp, workspace, q);
-        let stopped = stopper_of(self.lp, basis, rates, workspace, q, up)?;
+        let stopped = blocking_variable_of(self.lp, basis, rates, workspace, q, up)?;
         let Some(by) = stopped else {
             let end = unbounded_end(self.lp, workspace, up, theta)?;
             return Ok(FaceStep::Ends(end));

@@ -7,14 +7,14 @@ ghost use Rattle.lp_definitions.specs.Basis.{basics_of, IsNonbasic, IsDirectionO
 ghost use Rattle.lp_model.specs.RatesCalls.{IfOverflow};
 ghost use Rattle.basis_values.specs.Calls.{IsAtBasis, StaysAt};
 ghost use Rattle.basis_values.specs.Motions.{may_move, motion};
-ghost use Rattle.bounded_primal.specs.Moves.{stopper_of as stopper_by};
+ghost use Rattle.bounded_primal.specs.Moves.{blocking_variable_of as blocking_variable_by};
 ghost use Rattle.bounded_primal.specs.Turns.{RunStops};
 ghost use Rattle.parametric_run.specs.Standing.{AreSized};
 ghost use Rattle.para_objective.specs.Faces.{face_up, IsUnboundedPast};
 
 use crate::choices::worth;
 use basis_values::counted;
-use bounded_primal::{Stopper, stopper};
+use bounded_primal::{BlockingVariable, blocking_variable};
 use frac128::Frac;
 use lp_model::{Basis, Direction, Lp, NoMemory, ParaEnd, Rates, Stop};
 use parametric_run::{Workspace, point_with};
@@ -64,14 +64,14 @@ fn speeds(alloc: Global, lp: &Lp, direction: &[Frac], up: bool) -> Result<Direct
 }
 
 /// What stops `q`, which moves up or down from the basis's point. The workspace takes the direction of `q`.
-pub fn stopper_of<R: Rates>(
+pub fn blocking_variable_of<R: Rates>(
     lp: &Lp,
     basis: &Basis,
     rates: &mut R,
     workspace: &mut Workspace,
     q: u32,
     up: bool,
-) -> Result<Option<Stopper>, Stop>
+) -> Result<Option<BlockingVariable>, Stop>
     requires rates { IsAtBasis (R.state rates.old) lp.now basis.now }
     requires sized { AreSized (size lp.now.matrix) workspace.old }
     requires point { IsPointOf lp.now basis.now (value_at workspace.old.point.items) }
@@ -80,7 +80,8 @@ pub fn stopper_of<R: Rates>(
     requires may { IsTrue (may_move lp.now basis.now up q) }
     ensures direction { OnOk result (IsDirectionOf lp.now.matrix (basics_of basis.now) q
         (value_at workspace.new.direction)) }
-    ensures stopper { IfOk result (λ found. found ≡ stopper_by lp.now
+    ensures blocking_variable { IfOk result
+        (λ found. found ≡ blocking_variable_by lp.now
         (value_at workspace.new.point.items) (value_at workspace.new.direction) up) }
     ensures others { workspace.new ≡ record workspace.old { direction = workspace.new.direction } }
     ensures places { OnOk result (length workspace.new.direction ≡ size lp.now.matrix) }
@@ -90,7 +91,7 @@ pub fn stopper_of<R: Rates>(
         (R.state rates.new).waypoints)) }
 {
     workspace.read_direction(lp, basis, rates, q)?;
-    match stopper(lp, basis, &workspace.point, &workspace.direction, q, up) {
+    match blocking_variable(lp, basis, &workspace.point, &workspace.direction, q, up) {
         Ok(found) => Ok(found),
         Err(evidence) => Err(Stop::Overflow(evidence)),
     }

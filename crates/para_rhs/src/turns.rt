@@ -16,7 +16,7 @@ ghost use Rattle.para_rhs.specs.Turns.{goes_to, EntryRefused, IsInfeasiblePast};
 
 use crate::breaks::Leaver;
 use crate::limits::is_lower;
-use bounded_primal::{Stopper, limit_broken, ray_of, returning};
+use bounded_primal::{BlockingVariable, limit_broken, ray_of, returning};
 use dual_step::cheapest;
 use frac128::Frac;
 use lp_model::{Basis, Lp, NoMemory, ParaEnd, Rates, Stop};
@@ -69,7 +69,7 @@ pub fn return_of<R: Rates>(
     workspace: &mut Workspace,
     q: u32,
     leaver: &Leaver,
-) -> Result<Stopper, Stop>
+) -> Result<BlockingVariable, Stop>
     requires rates { IsAtBasis (R.state rates.old) lp.now basis.now }
     requires sized { AreSized (size lp.now.matrix) workspace.old }
     requires nonbasic { IsNonbasic lp.now.matrix (basics_of basis.now) q }
@@ -80,7 +80,8 @@ pub fn return_of<R: Rates>(
         d leaver.now.r ≢ zero_ℚ }
     ensures direction { OnOk result (IsDirectionOf lp.now.matrix (basics_of basis.now) q
         (value_at workspace.new.direction)) }
-    ensures stopper { IfOk result (λ by. by ≡ return_by lp.now (value_at workspace.new.point.items)
+    ensures blocking_variable { IfOk result
+        (λ by. by ≡ return_by lp.now (value_at workspace.new.point.items)
         (value_at workspace.new.direction) leaver.now.r (goes_to leaver.now)) }
     ensures others { workspace.new ≡ record workspace.old { direction = workspace.new.direction } }
     ensures places { OnOk result (length workspace.new.direction ≡ size lp.now.matrix) }

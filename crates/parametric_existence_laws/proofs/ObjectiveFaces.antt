@@ -18,10 +18,10 @@ use Rattle.lp_laws.proofs.Values.{clash, sub-zero}
 use Rattle.lp_laws.proofs.Exchange.{AreRates-exchanged, was_nonbasic}
 use Rattle.lp_laws.proofs.Statuses.{basics_of-replaced, basics_of-flipped, changed_other, status_of_nonbasic}
 use Rattle.lp_laws.proofs.Optimal.{for_min-zero}
-use Rattle.simplex_definitions.specs.Moves.{rises_from, falls_from, is_fixed, lowers, signed, goes_up, step_length, reached, stopper}
+use Rattle.simplex_definitions.specs.Moves.{rises_from, falls_from, is_fixed, lowers, signed, goes_up, step_length, reached, blocking_variable}
 use Rattle.simplex_definitions.specs.Path.{Move, after, speeds, stopped_by}
 use Rattle.simplex_laws.specs.Laws.{IsNonsingularBasis}
-use Rattle.simplex_laws.proofs.Stoppers.{stopper_some, reaches_limit}
+use Rattle.simplex_laws.proofs.BlockingVariables.{blocking_variable_some, reaches_limit}
 use Rattle.simplex_definitions.specs.Chain.{FaceMoves}
 use Rattle.simplex_definitions.specs.ObjectiveRun.{objective_family, change_rate, face_entering_variable, face_until, face_by, objective_face, IsObjectiveFace}
 use Rattle.sensitivity_laws.specs.Changes.{HasRows, IsRightTableau}
@@ -63,7 +63,7 @@ taken_away x y c a theta b e =
 module _ (p : LinearProgram) (h : ℕ) (lawful : IsLinearProgram p) (row : IsRow p.matrix h) (theta : ℚ) (s : List Status) (at : IsNonsingularBasis p s)
     (t : Tableau) (tab : IsTableau (objective_family p h theta) s t) (optimal : IsOptimalBasis (objective_family p h theta) s)
     (q : ℕ) (enters : IsNonbasic p.matrix (basics_of s) q) (zero_rate : objective_rate (objective_family p h theta) t.rate q ≡ zero_ℚ)
-    (up : Bool) (k : ℕ) (stops : stopper (objective_family p h theta) t.point (speeds t.rate up q) ≡ Some k) where
+    (up : Bool) (k : ℕ) (stops : blocking_variable (objective_family p h theta) t.point (speeds t.rate up q) ≡ Some k) where
   abbrev present : LinearProgram
   present = objective_family p h theta
 
@@ -89,10 +89,10 @@ module _ (p : LinearProgram) (h : ℕ) (lawful : IsLinearProgram p) (row : IsRow
   have = stopped_feasible present s t there tab right_now.feasible q k up enters stops
 
   k_is : IsVariable p.matrix k
-  k_is = (stopper_some present t.point v k stops).0
+  k_is = (blocking_variable_some present t.point v k stops).0
 
   pivot : t.rate k q ≢ zero_ℚ
-  pivot zero = nothing (reaches_limit (step_length present t.point v k) (step_length present t.point v k) ((stopper_some present t.point v k stops).1 k k_is))
+  pivot zero = nothing (reaches_limit (step_length present t.point v k) (step_length present t.point v k) ((blocking_variable_some present t.point v k stops).1 k k_is))
     where
       nothing : (x : ℚ) × (step_length present t.point v k ≡ Some x) → ⊥
       nothing (x, e) =
@@ -197,16 +197,16 @@ module _ (p : LinearProgram) (h : ℕ) (theta : ℚ) (s : List Status) (t : Tabl
     q : ℕ
     k : ℕ
     found : face_entering_variable p h theta s t ≡ Some q
-    stops : stopper p t.point (motion q) ≡ Some k
+    stops : blocking_variable p t.point (motion q) ≡ Some k
     gives : stopped_by q (motion q) k ≡ m
 
-  stopped : (m : Move) (q : ℕ) → face_entering_variable p h theta s t ≡ Some q → (o : Option ℕ) → stopper p t.point (motion q) ≡ o →
+  stopped : (m : Move) (q : ℕ) → face_entering_variable p h theta s t ≡ Some q → (o : Option ℕ) → blocking_variable p t.point (motion q) ≡ o →
       face_until p h theta s t q (motion q) o ≡ FaceMoves m → IsStopped m
   stopped m q found (Some k) stops e = record { q = q; k = k; found = found; stops = stops; gives = let same : stopped_by q (motion q) k ≡ m = cc in same }
   stopped m q found None stops e = cc
 
   moving : (m : Move) (o : Option ℕ) → face_entering_variable p h theta s t ≡ o → face_by p h theta s t o ≡ FaceMoves m → IsStopped m
-  moving m (Some q) found e = stopped m q found (stopper p t.point (motion q)) refl e
+  moving m (Some q) found e = stopped m q found (blocking_variable p t.point (motion q)) refl e
   moving m None found e = cc
 
   is_stopped : (m : Move) → objective_face p h theta s t ≡ FaceMoves m → IsStopped m

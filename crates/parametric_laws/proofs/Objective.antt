@@ -7,7 +7,7 @@ use Rattle.exact_values.specs.Tests.{eq_ℚ}
 use Rattle.lp_definitions.specs.LinearProgram.{LinearProgram, Vector}
 use Rattle.lp_definitions.specs.Basis.{Tableau, IsTableau, objective_rate}
 use Rattle.lp_definitions.specs.declared.Status.{Status}
-use Rattle.simplex_definitions.specs.Moves.{goes_up, lowers, stopper}
+use Rattle.simplex_definitions.specs.Moves.{goes_up, lowers, blocking_variable}
 use Rattle.simplex_definitions.specs.Path.{Move, after, speeds, stopped_by}
 use Rattle.simplex_laws.specs.Laws.{IsNonsingularBasis}
 use Rattle.simplex_laws.proofs.Searches.{found_passes}
@@ -36,17 +36,17 @@ module _ (p : LinearProgram) (h : ℕ) (theta : ℚ) (s : List Status) (t : Tabl
   -- q moves until k stops it
   record IsFaceMove (m : Move) (q k : ℕ) : Type 0 where
     found : face_entering_variable p h theta s t ≡ Some q
-    stops : stopper p t.point (motion q) ≡ Some k
+    stops : blocking_variable p t.point (motion q) ≡ Some k
     gives : m ≡ stopped_by q (motion q) k
 
-  stopped_move : (m : Move) (q : ℕ) → face_entering_variable p h theta s t ≡ Some q → (o : Option ℕ) → stopper p t.point (motion q) ≡ o →
+  stopped_move : (m : Move) (q : ℕ) → face_entering_variable p h theta s t ≡ Some q → (o : Option ℕ) → blocking_variable p t.point (motion q) ≡ o →
       face_until p h theta s t q (motion q) o ≡ FaceMoves m → (q : ℕ) × (k : ℕ) × IsFaceMove m q k
   stopped_move m q found (Some k) stops e = (q, k, record { found = found; stops = stops; gives = let same : m ≡ stopped_by q (motion q) k = cc in same })
   stopped_move m q found None stops e = cc
 
   found_move : (m : Move) (o : Option ℕ) → face_entering_variable p h theta s t ≡ o → face_by p h theta s t o ≡ FaceMoves m →
       (q : ℕ) × (k : ℕ) × IsFaceMove m q k
-  found_move m (Some q) found e = stopped_move m q found (stopper p t.point (motion q)) refl e
+  found_move m (Some q) found e = stopped_move m q found (blocking_variable p t.point (motion q)) refl e
   found_move m None found e = cc
 
   face_move : (m : Move) → objective_face p h theta s t ≡ FaceMoves m → (q : ℕ) × (k : ℕ) × IsFaceMove m q k

@@ -17,7 +17,7 @@ use Rattle.lp_definitions.specs.declared.Sense.TheVariants.{Min, Max}
 use Rattle.lp_definitions.specs.declared.Status.{Status}
 use Rattle.lp_laws.proofs.Duality.{unbounded_by_direction}
 use Rattle.lp_laws.proofs.Uniqueness.{one_point}
-use Rattle.simplex_definitions.specs.Moves.{signed, goes_up, lowers, stopper}
+use Rattle.simplex_definitions.specs.Moves.{signed, goes_up, lowers, blocking_variable}
 use Rattle.simplex_definitions.specs.Path.{Move, after, listed, speeds, stopped_by}
 use Rattle.simplex_laws.specs.Laws.{IsNonsingularBasis}
 use Rattle.simplex_laws.proofs.UnboundedEnds.{keeps-signed, motion_proves}
@@ -42,31 +42,31 @@ module _ (p : LinearProgram) (h : ℕ) (theta : ℚ) (s : List Status) (t : Tabl
     q : ℕ
     k : ℕ
     found : face_entering_variable p h theta s t ≡ Some q
-    stops : stopper p t.point (motion q) ≡ Some k
+    stops : blocking_variable p t.point (motion q) ≡ Some k
     gives : m ≡ stopped_by q (motion q) k
 
   -- nothing stops q
   record IsUnboundedEnd (end : ChainEnd) : Type 0 where
     q : ℕ
     found : face_entering_variable p h theta s t ≡ Some q
-    stops : stopper p t.point (motion q) ≡ None
+    stops : blocking_variable p t.point (motion q) ≡ None
     gives : end ≡ UnboundedPast theta (listed p.matrix t.point) (listed p.matrix (motion q))
 
-  stopped_by_one : (m : Move) (q : ℕ) → face_entering_variable p h theta s t ≡ Some q → (o : Option ℕ) → stopper p t.point (motion q) ≡ o →
+  stopped_by_one : (m : Move) (q : ℕ) → face_entering_variable p h theta s t ≡ Some q → (o : Option ℕ) → blocking_variable p t.point (motion q) ≡ o →
       face_until p h theta s t q (motion q) o ≡ FaceMoves m → IsStopped m
   stopped_by_one m q found (Some k) stops e =
       record { q = q; k = k; found = found; stops = stops; gives = let same : m ≡ stopped_by q (motion q) k = cc in same }
   stopped_by_one m q found None stops e = cc
 
   moving : (m : Move) (o : Option ℕ) → face_entering_variable p h theta s t ≡ o → face_by p h theta s t o ≡ FaceMoves m → IsStopped m
-  moving m (Some q) found e = stopped_by_one m q found (stopper p t.point (motion q)) refl e
+  moving m (Some q) found e = stopped_by_one m q found (blocking_variable p t.point (motion q)) refl e
   moving m None found e = cc
 
   is_stopped : (m : Move) → objective_face p h theta s t ≡ FaceMoves m → IsStopped m
   unfolding objective_face
   is_stopped m e = moving m (face_entering_variable p h theta s t) refl e
 
-  stopped_by_none : (end : ChainEnd) (q : ℕ) → face_entering_variable p h theta s t ≡ Some q → (o : Option ℕ) → stopper p t.point (motion q) ≡ o →
+  stopped_by_none : (end : ChainEnd) (q : ℕ) → face_entering_variable p h theta s t ≡ Some q → (o : Option ℕ) → blocking_variable p t.point (motion q) ≡ o →
       face_until p h theta s t q (motion q) o ≡ FaceEnds end → IsUnboundedEnd end
   stopped_by_none end q found (Some k) stops e = cc
   stopped_by_none end q found None stops e =
@@ -79,7 +79,7 @@ module _ (p : LinearProgram) (h : ℕ) (theta : ℚ) (s : List Status) (t : Tabl
       }
 
   ending : (end : ChainEnd) (o : Option ℕ) → face_entering_variable p h theta s t ≡ o → face_by p h theta s t o ≡ FaceEnds end → IsUnboundedEnd end
-  ending end (Some q) found e = stopped_by_none end q found (stopper p t.point (motion q)) refl e
+  ending end (Some q) found e = stopped_by_none end q found (blocking_variable p t.point (motion q)) refl e
   ending end None found e = cc
 
   is_unbounded : (end : ChainEnd) → objective_face p h theta s t ≡ FaceEnds end → IsUnboundedEnd end
@@ -172,7 +172,7 @@ module _ (p : LinearProgram) (h : ℕ) (theta : ℚ) (s : List Status) (t : Tabl
     (at : IsNonsingularBasis p s)
     (tab : IsTableau (objective_family p h theta) s t) (have : HasFeasiblePoint p s) (q : ℕ)
     (entering_variable : IsFaceEnteringVariable (objective_family p h theta) h theta s t q)
-    (stops : stopper (objective_family p h theta) t.point (motion (objective_family p h theta) h theta s t q) ≡ None) (x : ℚ) (past : theta <ℚ x) where
+    (stops : blocking_variable (objective_family p h theta) t.point (motion (objective_family p h theta) h theta s t q) ≡ None) (x : ℚ) (past : theta <ℚ x) where
   abbrev c : ℚ
   c = change_rate (objective_family p h theta) h theta s t q
 

@@ -14,7 +14,7 @@ use Rattle.lp_definitions.specs.declared.Sense.{Sense}
 use Rattle.lp_definitions.specs.declared.Sense.TheVariants.{Min, Max}
 use Rattle.lp_definitions.specs.declared.Status.{Status}
 use Rattle.lp_laws.proofs.Values.{clash}
-use Rattle.simplex_definitions.specs.Moves.{may_rise, may_fall, lowers, stopper, goes_up}
+use Rattle.simplex_definitions.specs.Moves.{may_rise, may_fall, lowers, blocking_variable, goes_up}
 use Rattle.simplex_definitions.specs.Path.{speeds}
 use Rattle.simplex_laws.specs.Laws.{IsNonsingularBasis}
 use Rattle.simplex_laws.proofs.Searches.{none_passes}
@@ -39,7 +39,7 @@ module _ (p : LinearProgram) (h : ℕ) (theta : ℚ) (s : List Status) (t : Tabl
       face_entering_variable p h theta s t ≡ None
   by_entering_variable (Some q) is e =
       let v : Vector = speeds t.rate (goes_up (change_rate p h theta s t) q) q in
-      absurd (goes_or_ends q v (stopper p t.point v) e)
+      absurd (goes_or_ends q v (blocking_variable p t.point v) e)
   by_entering_variable None is e = is
 
   done_entering_variable : objective_face p h theta s t ≡ FaceDone → face_entering_variable p h theta s t ≡ None

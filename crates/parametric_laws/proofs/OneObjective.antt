@@ -8,7 +8,7 @@ use Rattle.lp_definitions.specs.LinearProgram.{LinearProgram, Vector, size, IsRo
 use Rattle.lp_definitions.specs.Basis.{is_in, basics_of, IsNonbasic, Tableau, objective_rate}
 use Rattle.lp_definitions.specs.declared.Status.{Status}
 use Rattle.lp_definitions.specs.declared.Status.TheVariants.{Ul, Ll}
-use Rattle.simplex_definitions.specs.Moves.{goes_up, lowers, signed, stopper}
+use Rattle.simplex_definitions.specs.Moves.{goes_up, lowers, signed, blocking_variable}
 use Rattle.simplex_definitions.specs.Path.{speeds}
 use Rattle.simplex_laws.specs.Laws.{IsNonsingularBasis}
 use Rattle.simplex_laws.proofs.Numbered.{find_same}
@@ -19,7 +19,7 @@ use Rattle.simplex_definitions.specs.Chain.{FaceTurn, FaceMoves, FaceEnds, Unbou
 use Rattle.simplex_definitions.specs.ObjectiveRun.{objective_family, change_rate, face_entering_variable, face_until, face_by, objective_face, IsObjectiveFace}
 use Rattle.dual_laws.proofs.EnteringVariables.{is_entering_variable}
 use Rattle.parametric_laws.proofs.Objective.{to_objective}
-use Rattle.simplex_laws.proofs.OneTurn.{listed_same, lowers_idle, lowers_same, stopper_same}
+use Rattle.simplex_laws.proofs.OneTurn.{listed_same, lowers_idle, lowers_same, blocking_variable_same}
 use Rattle.simplex_laws.proofs.OnePath.{same_tableau}
 
 -- a row without limits is added to the objective
@@ -77,8 +77,8 @@ module _ (p : LinearProgram) (h : ℕ) (theta : ℚ) (s : List Status) (t u : Ta
   by_same : (o : Option ℕ) → ((q : ℕ) → o ≡ Some q → IsNonbasic p.matrix (basics_of s) q) → face_by p h theta s t o ≡ face_by p h theta s u o
   by_same (Some q) out =
       let same_motion = motion_same q (out q refl) in
-      ap (face_until p h theta s t q (motion t q)) (stopper_same p t.point u.point (motion t q) (motion u q) same.points same_motion)
-      ∙ until_same q (motion t q) (motion u q) same_motion (stopper p u.point (motion u q)) (λ k e. (found_passes p _ k e).0)
+      ap (face_until p h theta s t q (motion t q)) (blocking_variable_same p t.point u.point (motion t q) (motion u q) same.points same_motion)
+      ∙ until_same q (motion t q) (motion u q) same_motion (blocking_variable p u.point (motion u q)) (λ k e. (found_passes p _ k e).0)
   by_same None out = refl
 
   moves_nonbasic : (q : ℕ) → face_entering_variable p h theta s t ≡ Some q → IsNonbasic p.matrix (basics_of s) q

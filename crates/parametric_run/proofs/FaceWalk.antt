@@ -14,7 +14,7 @@ use Rattle.simplex_definitions.specs.Chain.{FaceMoves, IsFaceStep, AtBreakpoint}
 use Rattle.bounded_primal.specs.Moves.{StepRefused}
 use Rattle.bounded_primal.specs.Stops.{primal_stop_of}
 use Rattle.bounded_primal.specs.declared.moves.PrimalStop.{PrimalStop}
-use Rattle.bounded_primal.specs.declared.moves.Stopper.{Stopper}
+use Rattle.bounded_primal.specs.declared.moves.BlockingVariable.{BlockingVariable}
 use Rattle.parametric_laws.proofs.Runs.{last_of-append}
 use Rattle.parametric_run.specs.Faces.{FaceMovesOn, FacesReach, AnyRun, FacesStop, FacesFollow}
 use Rattle.parametric_run.specs.Programs.{ParametricProgram}
@@ -31,7 +31,7 @@ module _ (m : ParametricProgram) (theta : ℚ) (s : List Status) (left : ℕ) (w
   refused_stops (stop.Overflow e) r from = r from (Some theta) left
   refused_stops stop.NoMemory r from = tt
 
-  pub step_stops : (w : Workspace) (q : ℕ) (by : Stopper) → FaceMovesOn m theta s w q by left → (why : Stop) →
+  pub step_stops : (w : Workspace) (q : ℕ) (by : BlockingVariable) → FaceMovesOn m theta s w q by left → (why : Stop) →
       IfOverflow why (StepRefused m.program ways s q by now) →
       (from : ℚ) → FaceStops m.family m.face (m.statement from) m.program.matrix theta s left ways now (primal_stop_of why)
   step_stops w q by h (stop.Overflow e) r from = h.refused from ways now e r

@@ -16,7 +16,7 @@ use Rattle.simplex_definitions.specs.Chain.{FaceMoves, FaceDone, FaceEnds, IsFac
 use Rattle.bounded_primal.specs.Calls.{EvidenceHere}
 use Rattle.bounded_primal.specs.Moves.{StepRefused, move_by}
 use Rattle.bounded_primal.specs.declared.moves.PrimalStop.{PrimalStop}
-use Rattle.bounded_primal.specs.declared.moves.Stopper.{Stopper}
+use Rattle.bounded_primal.specs.declared.moves.BlockingVariable.{BlockingVariable}
 use Rattle.parametric_run.specs.Calls.{end_of, WaypointsFollowRun, RunOverflows, RunStops}
 use Rattle.parametric_run.specs.Programs.{ParametricProgram}
 use Rattle.parametric_run.specs.Standing.{IsWorkspaceOf, IsReady}
@@ -30,7 +30,7 @@ use Rattle.parametric_run.specs.declared.workspace.Workspace.{Workspace}
 
 module _ (m : ParametricProgram) where
   -- it moves q by what stops it to a basis that is optimal at the breakpoint too, and a step is left; what the step refuses is evidence
-  pub record FaceMovesOn (theta : ℚ) (s : List Status) (w : Workspace) (q : ℕ) (by : Stopper) (left : ℕ) : Type 0 where
+  pub record FaceMovesOn (theta : ℚ) (s : List Status) (w : Workspace) (q : ℕ) (by : BlockingVariable) (left : ℕ) : Type 0 where
     pub moves : m.face theta s (FaceMoves (move_by q by))
     pub keeps : IsOptimalBasis (m.family theta) (after s (move_by q by))
     pub ready : IsReady m.program s w q by

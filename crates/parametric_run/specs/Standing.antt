@@ -12,7 +12,7 @@ use Rattle.lp_definitions.specs.declared.Evidence.{Evidence}
 use Rattle.lp_definitions.specs.declared.Status.{Status}
 use Rattle.bounded_primal.specs.Calls.{EvidenceHere}
 use Rattle.bounded_primal.specs.Moves.{IsStepBy}
-use Rattle.bounded_primal.specs.declared.moves.Stopper.{Stopper}
+use Rattle.bounded_primal.specs.declared.moves.BlockingVariable.{BlockingVariable}
 use Rattle.parametric_run.specs.Programs.{ParametricProgram}
 use Rattle.parametric_run.specs.declared.workspace.Workspace.{Workspace}
 
@@ -32,7 +32,7 @@ pub record IsWorkspaceOf (m : ParametricProgram) (s : List Status) (w : Workspac
 abbrev pub IsPointAtSome : ParametricProgram → List Status → Vector → Type 0
 IsPointAtSome m s z = (theta : ℚ) × IsPointOf (m.family theta) s z
 
-pub record IsReady (p : LinearProgram) (s : List Status) (w : Workspace) (q : ℕ) (by : Stopper) : Type 0 where
+pub record IsReady (p : LinearProgram) (s : List Status) (w : Workspace) (q : ℕ) (by : BlockingVariable) : Type 0 where
   pub nonbasic : IsNonbasic p.matrix (basics_of s) q
   pub direction : IsDirectionOf p.matrix (basics_of s) q (value_at w.direction)
   pub pivot : value_at w.direction by.p ≢ zero_ℚ

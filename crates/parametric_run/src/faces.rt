@@ -11,7 +11,7 @@ ghost use Rattle.parametric_run.specs.Standing.{AreSized, IsReady, IsWorkspaceOf
 
 use crate::method::{AfterFaces, FaceStep, Parametric};
 use crate::workspace::{Workspace, take_step_in};
-use bounded_primal::{PrimalStop, Stopper};
+use bounded_primal::{BlockingVariable, PrimalStop};
 use frac128::Frac;
 use lp_model::{Basis, Rates, Stop};
 
@@ -22,7 +22,7 @@ fn take<M: Parametric, R: Rates>(
     rates: &mut R,
     workspace: &mut Workspace,
     q: u32,
-    by: &Stopper,
+    by: &BlockingVariable,
 ) -> Result<(), Stop>
     requires rates { IsAtBasis (R.state rates.old) (M.problem method.now).program basis.old }
     requires sized { AreSized (size (M.problem method.now).program.matrix) workspace.old }

@@ -17,7 +17,7 @@ ghost use Rattle.parametric_run.specs.Programs.{ParametricProgram};
 ghost use Rattle.parametric_run.specs.Standing.{AreSized, IsWorkspaceOf, IsPointAtSome, RefusedAt};
 
 use crate::workspace::Workspace;
-use bounded_primal::{PrimalStop, Stopper};
+use bounded_primal::{BlockingVariable, PrimalStop};
 use frac128::Frac;
 use lp_model::{Basis, Lp, Outcome, ParaEnd, ParaPart, Point, Rates, Stop};
 use std::alloc::Global;
@@ -41,7 +41,7 @@ pub struct Opened {
 pub enum FaceStep {
     Done,
     Ends(ParaEnd),
-    Moves { q: u32, by: Stopper },
+    Moves { q: u32, by: BlockingVariable },
 }
 
 /// What the face steps at a breakpoint come to: none remains, with so many steps left to the run, or it ends.

@@ -11,7 +11,7 @@ ghost use Rattle.simplex_definitions.specs.Path.{after};
 ghost use Rattle.bounded_primal.specs.Moves.{IsStepBy, StepOverflow, move_by};
 ghost use Rattle.parametric_run.specs.Standing.{AreSized, IsReady};
 
-use bounded_primal::{Kept, Move, Stopper, step_over};
+use bounded_primal::{BlockingVariable, Kept, Move, step_over};
 use frac128::Frac;
 use lp_model::{Basis, Lp, NoMemory, Point, Prices, Rates, SparseVector, Stop};
 use std::alloc::Global;
@@ -150,7 +150,7 @@ pub fn still_prices(alloc: Global, lp: &Lp) -> Result<Prices, NoMemory>
 #[derive(Clone, Copy)]
 struct StoppedMove<'a> {
     q: u32,
-    by: &'a Stopper,
+    by: &'a BlockingVariable,
 }
 
 // Makes the step along this direction: the basis, the rates and the point go over to the next basis.
@@ -197,7 +197,7 @@ pub fn take_step_in<R: Rates>(
     rates: &mut R,
     workspace: &mut Workspace,
     q: u32,
-    by: &Stopper,
+    by: &BlockingVariable,
 ) -> Result<(), Stop>
     requires rates { IsAtBasis (R.state rates.old) lp.now basis.old }
     requires sized { AreSized (size lp.now.matrix) workspace.old }

@@ -4,7 +4,7 @@
 --     may_rise p s k, may_fall p s k       a nonbasic that is not fixed may leave the place at which it stands, upward or downward
 --     entering p s f                       the least-numbered nonbasic that may move so as to lower a quantity; f has its rates
 --     step_length p z v k                  how long it is until k, which moves at the speed v k, reaches the limit ahead of it
---     stopper p z v                        the least-numbered of the variables that reach a limit first
+--     blocking_variable p z v              the least-numbered of the variables that reach a limit first
 use Rattle.std.specs.Prelude.{ℕ, Bool, true, false, not, ◌&&◌, ◌||◌, List, Option, Some, None, if◌then◌else◌, find, option_map}
 use Rattle.std.specs.List.{list_all}
 use Rattle.exact_values.specs.Rational.{ℚ, zero_ℚ, neg_ℚ, ◌-ℚ◌, ◌/ℚ◌}
@@ -81,8 +81,8 @@ is_no_later (Some a) (Some b) = le_ℚ a b
 abbrev pub reaches_first : LinearProgram → Vector → Vector → ℕ → Bool
 reaches_first p z v k = list_all (λ i. is_no_later (step_length p z v k) (step_length p z v i)) (variables p.matrix)
 
-abbrev pub stopper : LinearProgram → Vector → Vector → Option ℕ
-stopper p z v = least p (reaches_first p z v)
+abbrev pub blocking_variable : LinearProgram → Vector → Vector → Option ℕ
+blocking_variable p z v = least p (reaches_first p z v)
 
 -- the limit that a variable reaches, as the status that it has there
 abbrev pub reached : Vector → ℕ → Status

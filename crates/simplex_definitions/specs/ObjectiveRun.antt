@@ -8,7 +8,7 @@ use Rattle.exact_values.specs.Tests.{eq_ℚ}
 use Rattle.lp_definitions.specs.LinearProgram.{LinearProgram, Vector, for_min, with_change}
 use Rattle.lp_definitions.specs.Basis.{Tableau, IsTableau, objective_rate}
 use Rattle.lp_definitions.specs.declared.Status.{Status}
-use Rattle.simplex_definitions.specs.Moves.{least, goes_up, lowers, stopper}
+use Rattle.simplex_definitions.specs.Moves.{least, goes_up, lowers, blocking_variable}
 use Rattle.simplex_definitions.specs.Path.{listed, speeds, stopped_by}
 use Rattle.simplex_definitions.specs.Chain.{FaceTurn, FaceMoves, FaceDone, FaceEnds, UnboundedPast}
 
@@ -31,7 +31,7 @@ module _ (p : LinearProgram) (h : ℕ) (theta : ℚ) (s : List Status) (t : Tabl
   face_until q v None = FaceEnds (UnboundedPast theta (listed p.matrix t.point) (listed p.matrix v))
 
   abbrev pub face_run : ℕ → Vector → FaceTurn
-  face_run q v = face_until q v (stopper p t.point v)
+  face_run q v = face_until q v (blocking_variable p t.point v)
 
   abbrev pub face_by : Option ℕ → FaceTurn
   face_by (Some q) = face_run q (speeds t.rate (goes_up change_rate q) q)

@@ -13,7 +13,7 @@ use Rattle.lp_definitions.specs.LinearProgram.{Matrix, LinearProgram, Vector, va
 use Rattle.lp_definitions.specs.Basis.{Basics, is_in, basics_of, with_status, Tableau, IsTableau, objective_rate, price_at}
 use Rattle.lp_definitions.specs.declared.Status.{Status}
 use Rattle.lp_definitions.specs.declared.Status.TheVariants.{Bs, Ll, Ul}
-use Rattle.simplex_definitions.specs.Moves.{least, is_crossed, is_below, is_outside, signed, goes_up, entering, stopper, reached}
+use Rattle.simplex_definitions.specs.Moves.{least, is_crossed, is_below, is_outside, signed, goes_up, entering, blocking_variable, reached}
 
 -- the variable enters moves, and the variable leaves comes to the limit of the status to; the two may be one
 pub record Move : Type 0 where
@@ -86,7 +86,7 @@ module _ (p : LinearProgram) (s : List Status) (t : Tableau) where
   run_until q v None = Ends (EndsUnbounded (listed p.matrix t.point) (listed p.matrix v))
 
   abbrev pub run_at : ℕ → Vector → Turn
-  run_at q v = run_until q v (stopper p t.point v)
+  run_at q v = run_until q v (blocking_variable p t.point v)
 
   -- second phase: q improves the objective
   abbrev pub improve : Option ℕ → Turn

@@ -1,5 +1,5 @@
 pub mod Numbered
-pub mod Stoppers
+pub mod BlockingVariables
 pub mod Motions
 pub mod Turns
 pub mod Ends

@@ -17,10 +17,10 @@ use Rattle.lp_definitions.specs.declared.Status.TheVariants.{Bs, Ll, Ul}
 use Rattle.lp_laws.specs.Vectors.{along}
 use Rattle.lp_laws.proofs.Equations.{KeepsEquations-along}
 use Rattle.lp_laws.proofs.Points.{IsPointOf-replaced}
-use Rattle.simplex_definitions.specs.Moves.{is_no_later, signed, step_length, reached, stopper}
+use Rattle.simplex_definitions.specs.Moves.{is_no_later, signed, step_length, reached, blocking_variable}
 use Rattle.simplex_definitions.specs.Path.{speeds}
 use Rattle.simplex_laws.specs.Laws.{IsNonsingularBasis}
-use Rattle.simplex_laws.proofs.Stoppers.{stopper_some, reaches_limit}
+use Rattle.simplex_laws.proofs.BlockingVariables.{blocking_variable_some, reaches_limit}
 
 -- ---- how far a variable may move
 
@@ -140,14 +140,14 @@ signed_moves false z x d = by_ring3 z x d (λ z x d. z ⊕ opposite x ⊗ d ≐ 
 
 -- ---- q moves until k stops it
 
-module _ (p : LinearProgram) (t : Tableau) (q k : ℕ) (up : Bool) (stops : stopper p t.point (speeds t.rate up q) ≡ Some k) where
+module _ (p : LinearProgram) (t : Tableau) (q k : ℕ) (up : Bool) (stops : blocking_variable p t.point (speeds t.rate up q) ≡ Some k) where
   pub stopped_is : IsVariable p.matrix k
-  stopped_is = (stopper_some p t.point (speeds t.rate up q) k stops).0
+  stopped_is = (blocking_variable_some p t.point (speeds t.rate up q) k stops).0
 
   pub length_of : (x : ℚ) × (step_length p t.point (speeds t.rate up q) k ≡ Some x)
   length_of =
       reaches_limit (step_length p t.point (speeds t.rate up q) k) (step_length p t.point (speeds t.rate up q) k)
-      ((stopper_some p t.point (speeds t.rate up q) k stops).1 k stopped_is)
+      ((blocking_variable_some p t.point (speeds t.rate up q) k stops).1 k stopped_is)
 
   module _ (feasible : IsFeasible p t.point) where
     pub comes : ComesTo (lower_of p k) (upper_of p k) (t.point k) (speeds t.rate up q k) length_of.0
@@ -163,7 +163,7 @@ module _ (p : LinearProgram) (t : Tableau) (q k : ℕ) (up : Bool) (stops : stop
             (KeepsEquations-along p.matrix t.point (signed up length_of.0) (λ i. t.rate i q) tab.is_point.keeps (tab.are_rates q enters).keeps);
         within = λ i is. moved_within (t.point i) (speeds t.rate up q i) length_of.0 comes.forward (lower_of p i) (upper_of p i) (feasible.within i is)
             (subst (λ o. is_no_later o (step_length p t.point (speeds t.rate up q) i) ≡ true) length_of.1
-            ((stopper_some p t.point (speeds t.rate up q) k stops).1 i is));
+            ((blocking_variable_some p t.point (speeds t.rate up q) k stops).1 i is));
       }
 
       stands : StandsAt (reached (speeds t.rate up q) k) (lower_of p k) (upper_of p k) (along t.point length_of.0 (speeds t.rate up q) k)

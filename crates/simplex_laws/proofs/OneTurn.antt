@@ -8,7 +8,7 @@ use Rattle.lp_definitions.specs.Basis.{is_in, basics_of, status_of, is_basic, Is
 use Rattle.lp_definitions.specs.declared.Status.{Status}
 use Rattle.lp_definitions.specs.declared.Status.TheVariants.{Bs, Ll, Ul, Fr}
 use Rattle.lp_laws.proofs.Uniqueness.{is_in-basics_of}
-use Rattle.simplex_definitions.specs.Moves.{is_below, is_outside, is_fixed, rises_from, falls_from, lowers, entering, signed, goes_up, step_length, is_no_later, reaches_first, stopper, on_limit}
+use Rattle.simplex_definitions.specs.Moves.{is_below, is_outside, is_fixed, rises_from, falls_from, lowers, entering, signed, goes_up, step_length, is_no_later, reaches_first, blocking_variable, on_limit}
 use Rattle.simplex_definitions.specs.Path.{Moves, Ends, EndsOptimal, EndsInfeasible, EndsUnbounded, listed, ray_of, excess_rate, speeds, crossed, outside, worth_rate, entering_variable, restore_feasibility, run_until, improve, turn_for, turn}
 use Rattle.simplex_laws.proofs.Numbered.{find_same, find_some, list_all_same, map_same}
 use Rattle.simplex_laws.proofs.UnboundedEnds.{enters, objective_value-same}
@@ -62,9 +62,9 @@ step_length_same : (p : LinearProgram) (z y v w : Vector) (k : ℕ) → z k ≡ 
 unfolding step_length_at
 step_length_same p z y v w k first second = ap₂ (step_length_at p k) first second
 
-pub stopper_same : (p : LinearProgram) (z y v w : Vector) → ((k : ℕ) → IsVariable p.matrix k → z k ≡ y k) → ((k : ℕ) → IsVariable p.matrix k → v k ≡ w k) →
-    stopper p z v ≡ stopper p y w
-stopper_same p z y v w first second =
+pub blocking_variable_same : (p : LinearProgram) (z y v w : Vector) → ((k : ℕ) → IsVariable p.matrix k → z k ≡ y k) → ((k : ℕ) → IsVariable p.matrix k → v k ≡ w k) →
+    blocking_variable p z v ≡ blocking_variable p y w
+blocking_variable_same p z y v w first second =
     find_same (reaches_first p z v) (reaches_first p y w) (size p.matrix) 1 (λ k low high.
     list_all_same (λ i. is_no_later (step_length p z v k) (step_length p z v i)) (λ i. is_no_later (step_length p y w k) (step_length p y w i))
     (size p.matrix) 1 (λ i from to.
@@ -123,8 +123,8 @@ module _ (p : LinearProgram) (s : List Status) (t u : Tableau) (lawful : IsLinea
   pub improve_same : (o : Option ℕ) → ((q : ℕ) → o ≡ Some q → IsNonbasic p.matrix (basics_of s) q) → improve p s t o ≡ improve p s u o
   improve_same (Some q) out =
       let h = speeds_same q (out q refl) in
-      ap (run_until p s t q (speeds t.rate (goes_up (worth_rate p s t) q) q)) (stopper_same p t.point u.point _ _ same.points h)
-      ∙ run_same q _ _ h (stopper p u.point (speeds u.rate (goes_up (worth_rate p s u) q) q))
+      ap (run_until p s t q (speeds t.rate (goes_up (worth_rate p s t) q) q)) (blocking_variable_same p t.point u.point _ _ same.points h)
+      ∙ run_same q _ _ h (blocking_variable p u.point (speeds u.rate (goes_up (worth_rate p s u) q) q))
       (λ k e. let f = find_some _ (size p.matrix) 1 k e in (f.low, omega (arith, f.high)))
   improve_same None out = ap₂ (λ xs ys. Ends (EndsOptimal xs ys)) (listed_same p.matrix t.point u.point same.points) (listed_same p.matrix _ _ prices_same)
 

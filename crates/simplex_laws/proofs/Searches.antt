@@ -3,10 +3,10 @@ use Rattle.std.proofs.Common.{◌≡◌, ℕ, ◌≤◌, ◌<◌, Bool, true, fa
 use Rattle.std.specs.Prelude.{Some, None}
 use Rattle.lp_laws.proofs.Values.{clash}
 use Rattle.lp_definitions.specs.LinearProgram.{LinearProgram, Vector, size, IsVariable}
-use Rattle.simplex_definitions.specs.Moves.{least, is_no_later, step_length, reaches_first, stopper}
+use Rattle.simplex_definitions.specs.Moves.{least, is_no_later, step_length, reaches_first, blocking_variable}
 use Rattle.simplex_laws.specs.Laws.{IsLeast}
 use Rattle.simplex_laws.proofs.Numbered.{find_first, find_nothing, find_none, find_some, list_all_from, list_all_true}
-use Rattle.simplex_laws.proofs.Stoppers.{reaches_limit}
+use Rattle.simplex_laws.proofs.BlockingVariables.{reaches_limit}
 
 pub least_is : (p : LinearProgram) (test : ℕ → Bool) (k : ℕ) → IsLeast p test k → least p test ≡ Some k
 least_is p test k h = find_first test (size p.matrix) 1 k h.is_variable.0 (omega (arith, h.is_variable.1)) h.passes (λ j from to. h.before j from to)
@@ -21,10 +21,10 @@ pub found_passes : (p : LinearProgram) (test : ℕ → Bool) (k : ℕ) → least
 found_passes p test k e = let h = find_some test (size p.matrix) 1 k e in ((h.low, omega (arith, h.high)), h.passes)
 
 -- k reaches a limit, no variable reaches one sooner, and each before it reaches one later or none
-pub stopper_is : (p : LinearProgram) (z v : Vector) (k : ℕ) → IsVariable p.matrix k →
+pub blocking_variable_is : (p : LinearProgram) (z v : Vector) (k : ℕ) → IsVariable p.matrix k →
     ((i : ℕ) → IsVariable p.matrix i → is_no_later (step_length p z v k) (step_length p z v i) ≡ true) →
-    ((j : ℕ) → 1 ≤ j → j < k → is_no_later (step_length p z v j) (step_length p z v k) ≡ false) → stopper p z v ≡ Some k
-stopper_is p z v k is first before = least_is p (reaches_first p z v) k (record {
+    ((j : ℕ) → 1 ≤ j → j < k → is_no_later (step_length p z v j) (step_length p z v k) ≡ false) → blocking_variable p z v ≡ Some k
+blocking_variable_is p z v k is first before = least_is p (reaches_first p z v) k (record {
   is_variable = is;
   passes = list_all_from (λ i. is_no_later (step_length p z v k) (step_length p z v i)) (size p.matrix) 1 (λ i low high. first i (low, omega (arith, high)));
   before = λ j from to. late j from to (reaches_first p z v j) refl;
@@ -38,8 +38,8 @@ stopper_is p z v k is first before = least_is p (reaches_first p z v) k (record 
         ∙ before j from to))
 
 -- nothing stops a motion where no variable has a limit ahead
-pub stopper_nothing : (p : LinearProgram) (z v : Vector) → ((k : ℕ) → IsVariable p.matrix k → step_length p z v k ≡ None) → stopper p z v ≡ None
-stopper_nothing p z v h = least_none p (reaches_first p z v) (λ k is. late k is (reaches_first p z v k) refl)
+pub blocking_variable_nothing : (p : LinearProgram) (z v : Vector) → ((k : ℕ) → IsVariable p.matrix k → step_length p z v k ≡ None) → blocking_variable p z v ≡ None
+blocking_variable_nothing p z v h = least_none p (reaches_first p z v) (λ k is. late k is (reaches_first p z v k) refl)
   where
     late : (k : ℕ) → IsVariable p.matrix k → (b : Bool) → reaches_first p z v k ≡ b → reaches_first p z v k ≡ false
     late k is false e = e

@@ -17,10 +17,10 @@ use Rattle.lp_laws.proofs.Values.{clash}
 use Rattle.lp_laws.proofs.Exchange.{IsNonsingular-exchanged, AreRates-exchanged}
 use Rattle.lp_laws.proofs.Statuses.{basics_of-replaced, basics_of-flipped, status_of_basic, status_of_nonbasic, IsBasis-replaced, IsBasis-flipped, IsBasis-opening, basics_of-opening}
 use Rattle.lp_laws.proofs.Opening.{IsNonsingular-row_basics}
-use Rattle.simplex_definitions.specs.Moves.{is_below, signed, goes_up, limit_ahead, step_length, reached, stopper}
+use Rattle.simplex_definitions.specs.Moves.{is_below, signed, goes_up, limit_ahead, step_length, reached, blocking_variable}
 use Rattle.simplex_definitions.specs.Path.{Move, Moves, after, speeds, IsStep, excess_rate, worth_rate}
 use Rattle.simplex_laws.specs.Laws.{IsNonsingularBasis}
-use Rattle.simplex_laws.proofs.Stoppers.{stopper_some, reaches_limit}
+use Rattle.simplex_laws.proofs.BlockingVariables.{blocking_variable_some, reaches_limit}
 use Rattle.simplex_laws.proofs.Turns.{IsFirstPhase, IsBroughtTurn, IsStoppedTurn, MovingRule, brings, stops, moving_turn, improving, rule_of}
 use Rattle.simplex_laws.proofs.UnboundedEnds.{IsEntering, enters}
 use Rattle.simplex_laws.proofs.Rays.{Breaks, breaks_lower, breaks_upper, broken_basic, broken_limit}
@@ -115,9 +115,9 @@ ahead_some None z v x e = cc
 ahead_some (Some l) z v x e = (l, refl)
 
 -- what stops a motion stands ahead of it at a limit that it has
-stopper_ahead : (p : LinearProgram) (z v : Vector) (k : ℕ) → stopper p z v ≡ Some k → IsAhead (lower_of p k) (upper_of p k) (v k) (reached v k)
-stopper_ahead p z v k e =
-    let first = stopper_some p z v k e in
+blocking_variable_ahead : (p : LinearProgram) (z v : Vector) (k : ℕ) → blocking_variable p z v ≡ Some k → IsAhead (lower_of p k) (upper_of p k) (v k) (reached v k)
+blocking_variable_ahead p z v k e =
+    let first = blocking_variable_some p z v k e in
     let reach = reaches_limit (step_length p z v k) (step_length p z v k) (first.1 k first.0) in
     let limit = ahead_some (limit_ahead p v k) (z k) (v k) reach.0 reach.1 in
     is_ahead (lower_of p k) (upper_of p k) (v k) limit.0 (lt_ℚ zero_ℚ (v k)) (lt_ℚ (v k) zero_ℚ) refl refl limit.1
@@ -128,12 +128,12 @@ stands_ahead p k v to h = record { nonbasic = h.apart.0; limited = h.apart.1; al
 -- a nonbasic q rises or falls until k stops it
 module _ (p : LinearProgram) (s : List Status) (t : Tableau) (basis : IsBasis p s) (one : IsNonsingular p.matrix (basics_of s)) (tab : IsTableau p s t)
     (q k : ℕ) (up : Bool)
-    (enters : IsNonbasic p.matrix (basics_of s) q) (stops : stopper p t.point (speeds t.rate up q) ≡ Some k) where
+    (enters : IsNonbasic p.matrix (basics_of s) q) (stops : blocking_variable p t.point (speeds t.rate up q) ≡ Some k) where
   ahead : IsAhead (lower_of p k) (upper_of p k) (speeds t.rate up q k) (reached (speeds t.rate up q) k)
-  ahead = stopper_ahead p t.point (speeds t.rate up q) k stops
+  ahead = blocking_variable_ahead p t.point (speeds t.rate up q) k stops
 
   k_is : IsVariable p.matrix k
-  k_is = (stopper_some p t.point (speeds t.rate up q) k stops).0
+  k_is = (blocking_variable_some p t.point (speeds t.rate up q) k stops).0
 
   pivot : t.rate k q ≢ zero_ℚ
   pivot zero = ahead.moves (ap (signed up) zero ∙ signed_zero up)

@@ -6,7 +6,7 @@ use Rattle.lp_definitions.specs.LinearProgram.{LinearProgram, Vector}
 use Rattle.lp_definitions.specs.Basis.{Tableau, basics_of, price_at}
 use Rattle.lp_definitions.specs.declared.Status.{Status}
 use Rattle.lp_definitions.specs.declared.Status.TheVariants.{Ll, Ul}
-use Rattle.simplex_definitions.specs.Moves.{is_below, goes_up, stopper}
+use Rattle.simplex_definitions.specs.Moves.{is_below, goes_up, blocking_variable}
 use Rattle.simplex_definitions.specs.Path.{Move, Turn, Moves, Ends, EndsOptimal, EndsCrossed, EndsInfeasible, EndsUnbounded, listed, ray_of, speeds, stopped_by, crossed, outside, worth_rate, entering_variable, restore_feasibility, run_until, improve, turn_for, turn}
 
 module _ (p : LinearProgram) (s : List Status) (t : Tableau) where
@@ -41,13 +41,13 @@ module _ (p : LinearProgram) (s : List Status) (t : Tableau) where
   pub record IsStoppedTurn (u : Turn) (q k : ℕ) : Type 0 where
     pub phase : IsSecondPhase
     pub moves : entering_variable p s t None ≡ Some q
-    pub stops : stopper p t.point (improving q) ≡ Some k
+    pub stops : blocking_variable p t.point (improving q) ≡ Some k
     pub gives : u ≡ Moves (stopped_by q (improving q) k)
 
   pub record IsUnboundedTurn (u : Turn) (q : ℕ) : Type 0 where
     pub phase : IsSecondPhase
     pub moves : entering_variable p s t None ≡ Some q
-    pub stops : stopper p t.point (improving q) ≡ None
+    pub stops : blocking_variable p t.point (improving q) ≡ None
     pub gives : u ≡ Ends (EndsUnbounded (listed p.matrix t.point) (listed p.matrix (improving q)))
 
   pub record IsOptimalTurn (u : Turn) : Type 0 where
@@ -63,13 +63,13 @@ module _ (p : LinearProgram) (s : List Status) (t : Tableau) where
     by_unbounded : (q : ℕ) → IsUnboundedTurn u q → Rule u
     by_optimal : IsOptimalTurn u → Rule u
 
-  of_run : (q : ℕ) → IsSecondPhase → entering_variable p s t None ≡ Some q → (o : Option ℕ) → stopper p t.point (improving q) ≡ o →
+  of_run : (q : ℕ) → IsSecondPhase → entering_variable p s t None ≡ Some q → (o : Option ℕ) → blocking_variable p t.point (improving q) ≡ o →
       Rule (run_until p s t q (improving q) o)
   of_run q phase moves (Some k) stops = by_stopped q k (record { phase = phase; moves = moves; stops = stops; gives = refl })
   of_run q phase moves None stops = by_unbounded q (record { phase = phase; moves = moves; stops = stops; gives = refl })
 
   of_improve : IsSecondPhase → (o : Option ℕ) → entering_variable p s t None ≡ o → Rule (improve p s t o)
-  of_improve phase (Some q) moves = of_run q phase moves (stopper p t.point (improving q)) refl
+  of_improve phase (Some q) moves = of_run q phase moves (blocking_variable p t.point (improving q)) refl
   of_improve phase None moves = by_optimal (record { phase = phase; moves = moves; gives = refl })
 
   of_back : (r : ℕ) → IsFirstPhase r → (o : Option ℕ) → entering_variable p s t (Some r) ≡ o → Rule (restore_feasibility p s t r o)

@@ -19,10 +19,10 @@ use Rattle.lp_definitions.specs.declared.Status.{Status}
 use Rattle.lp_definitions.specs.declared.Status.TheVariants.{Bs, Ll, Ul, Fr}
 use Rattle.lp_laws.proofs.Equations.{KeepsEquations-same}
 use Rattle.lp_laws.proofs.Uniqueness.{is_in-basics_of}
-use Rattle.simplex_definitions.specs.Moves.{on_limits, is_crossed, is_fixed, rises_from, falls_from, lowers, signed, goes_up, limit_ahead, entering, stopper}
+use Rattle.simplex_definitions.specs.Moves.{on_limits, is_crossed, is_fixed, rises_from, falls_from, lowers, signed, goes_up, limit_ahead, entering, blocking_variable}
 use Rattle.simplex_definitions.specs.Path.{EndsCrossed, EndsUnbounded, Ends, EndsAt, listed, speeds, worth_rate}
 use Rattle.simplex_laws.proofs.Numbered.{find_some}
-use Rattle.simplex_laws.proofs.Stoppers.{stopper_none}
+use Rattle.simplex_laws.proofs.BlockingVariables.{blocking_variable_none}
 use Rattle.simplex_laws.proofs.Turns.{improving, IsUnboundedTurn, rule_of, crossed_turn, unbounded_turn}
 use Rattle.simplex_laws.proofs.Ends.{feasible, value_at-listed, IsFeasible-same}
 
@@ -158,7 +158,7 @@ objective_value-same p d e lawful same =
     (λ c is. same c.row (change_row_is p p.change lawful.change_free c is))
 
 -- nothing stops a motion from a feasible point that improves the objective: that proves the program unbounded
-pub motion_proves : (p : LinearProgram) (z v : Vector) → IsLinearProgram p → IsFeasible p z → KeepsEquations p.matrix v → stopper p z v ≡ None →
+pub motion_proves : (p : LinearProgram) (z v : Vector) → IsLinearProgram p → IsFeasible p z → KeepsEquations p.matrix v → blocking_variable p z v ≡ None →
     for_min p.sense (objective_value p v) <ℚ zero_ℚ →
     ProvesUnbounded p (value_at (listed p.matrix z)) (value_at (listed p.matrix v))
 motion_proves p z v lawful feasible keeps stops improves = record {
@@ -173,7 +173,7 @@ motion_proves p z v lawful feasible keeps stops improves = record {
     at d k is = sym (value_at-listed p.matrix d k is)
 
     none_ahead : (k : ℕ) → IsVariable p.matrix k → limit_ahead p v k ≡ None
-    none_ahead k is = step_length_none (limit_ahead p v k) (z k) (v k) (stopper_none p z v stops k is)
+    none_ahead k is = step_length_none (limit_ahead p v k) (z k) (v k) (blocking_variable_none p z v stops k is)
 
 -- an unbounded end: the point is feasible, and the direction improves the objective without end
 pub unbounded_end : (p : LinearProgram) (s : List Status) (z d : List ℚ) → IsLinearProgram p → IsBasis p s → EndsAt p s (EndsUnbounded z d) →

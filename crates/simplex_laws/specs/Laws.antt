@@ -10,7 +10,7 @@ use Rattle.lp_definitions.specs.LinearProgram.{LinearProgram, Vector, value_at, 
 use Rattle.lp_definitions.specs.Solutions.{IsFeasible, IsBest, IsDualCertificate, IsCrossed, IsRay, ProvesUnbounded}
 use Rattle.lp_definitions.specs.Basis.{basics_of, IsBasis, IsNonsingular, IsOptimalBasis, IsPointOf, ArePricesOf, Tableau, IsTableau, opening_statuses}
 use Rattle.lp_definitions.specs.declared.Status.{Status}
-use Rattle.simplex_definitions.specs.Moves.{least, is_no_later, step_length, stopper}
+use Rattle.simplex_definitions.specs.Moves.{least, is_no_later, step_length, blocking_variable}
 use Rattle.simplex_definitions.specs.Path.{PathEnding, EndsOptimal, EndsCrossed, EndsInfeasible, EndsUnbounded, turn, Rule, RulePathEnds, IsStep, EndsAt, IsPath, last_of, PathEnds, GoesOnFor}
 
 pub record IsNonsingularBasis (p : LinearProgram) (s : List Status) : Type 0 where
@@ -96,10 +96,10 @@ pub record SearchLaws : Type 0 where
   pub least_none : (p : LinearProgram) (test : ℕ → Bool) → ((k : ℕ) → IsVariable p.matrix k → test k ≡ false) → least p test ≡ None
   pub none_passes : (p : LinearProgram) (test : ℕ → Bool) → least p test ≡ None → (k : ℕ) → IsVariable p.matrix k → test k ≡ false
   pub found_passes : (p : LinearProgram) (test : ℕ → Bool) (k : ℕ) → least p test ≡ Some k → IsVariable p.matrix k × (test k ≡ true)
-  pub stopper_is : (p : LinearProgram) (z v : Vector) (k : ℕ) → IsVariable p.matrix k →
+  pub blocking_variable_is : (p : LinearProgram) (z v : Vector) (k : ℕ) → IsVariable p.matrix k →
       ((i : ℕ) → IsVariable p.matrix i → is_no_later (step_length p z v k) (step_length p z v i) ≡ true) →
-      ((j : ℕ) → 1 ≤ j → j < k → is_no_later (step_length p z v j) (step_length p z v k) ≡ false) → stopper p z v ≡ Some k
-  pub stopper_nothing : (p : LinearProgram) (z v : Vector) → ((k : ℕ) → IsVariable p.matrix k → step_length p z v k ≡ None) → stopper p z v ≡ None
-  pub stopper_none : (p : LinearProgram) (z v : Vector) → stopper p z v ≡ None → (k : ℕ) → IsVariable p.matrix k → step_length p z v k ≡ None
-  pub stopper_some : (p : LinearProgram) (z v : Vector) (k : ℕ) → stopper p z v ≡ Some k →
+      ((j : ℕ) → 1 ≤ j → j < k → is_no_later (step_length p z v j) (step_length p z v k) ≡ false) → blocking_variable p z v ≡ Some k
+  pub blocking_variable_nothing : (p : LinearProgram) (z v : Vector) → ((k : ℕ) → IsVariable p.matrix k → step_length p z v k ≡ None) → blocking_variable p z v ≡ None
+  pub blocking_variable_none : (p : LinearProgram) (z v : Vector) → blocking_variable p z v ≡ None → (k : ℕ) → IsVariable p.matrix k → step_length p z v k ≡ None
+  pub blocking_variable_some : (p : LinearProgram) (z v : Vector) (k : ℕ) → blocking_variable p z v ≡ Some k →
       IsVariable p.matrix k × ((i : ℕ) → IsVariable p.matrix i → is_no_later (step_length p z v k) (step_length p z v i) ≡ true)

@@ -13,11 +13,11 @@ use Rattle.lp_laws.specs.Rates.{weight}
 use Rattle.lp_laws.proofs.Values.{clash}
 use Rattle.lp_laws.proofs.Optimal.{objective_by_nonbasics}
 use Rattle.lp_laws.proofs.Statuses.{status_of_nonbasic, nonbasic_by_status}
-use Rattle.simplex_definitions.specs.Moves.{is_fixed, is_no_later, lowers, signed, goes_up, step_length, reaches_first, stopper}
+use Rattle.simplex_definitions.specs.Moves.{is_fixed, is_no_later, lowers, signed, goes_up, step_length, reaches_first, blocking_variable}
 use Rattle.simplex_definitions.specs.Path.{worth_rate, entering_variable}
 use Rattle.simplex_laws.specs.Laws.{IsNonsingularBasis}
 use Rattle.simplex_laws.proofs.Numbered.{find_some, list_all_from}
-use Rattle.simplex_laws.proofs.Stoppers.{stopper_some}
+use Rattle.simplex_laws.proofs.BlockingVariables.{blocking_variable_some}
 use Rattle.simplex_laws.proofs.Turns.{improving}
 use Rattle.simplex_laws.proofs.Ends.{right}
 use Rattle.simplex_laws.proofs.UnboundedEnds.{enters, IsEntering, improving_keeps, improving_improves}
@@ -30,7 +30,7 @@ module _ (p : LinearProgram) (lawful : IsLinearProgram p) (s₁ s₂ : List Stat
     (at₂ : IsNonsingularBasis p s₂) (tab₁ : IsTableau p s₁ t₁) (tab₂ : IsTableau p s₂ t₂)
     (same : (k : ℕ) → IsVariable p.matrix k → t₁.point k ≡ t₂.point k) (t q : ℕ) (moves₁ : entering_variable p s₁ t₁ None ≡ Some t)
     (moves₂ : entering_variable p s₂ t₂ None ≡ Some q)
-    (stops : stopper p t₂.point (improving p s₂ t₂ q) ≡ Some t) (at_once : step_length p t₂.point (improving p s₂ t₂ q) t ≡ Some zero_ℚ)
+    (stops : blocking_variable p t₂.point (improving p s₂ t₂ q) ≡ Some t) (at_once : step_length p t₂.point (improving p s₂ t₂ q) t ≡ Some zero_ℚ)
     (past : (k : ℕ) → IsVariable p.matrix k → t < k → status_of s₁ k ≡ status_of s₂ k) (before_t : q < t) where
   abbrev w : Vector
   w = worth_rate p s₁ t₁
@@ -65,7 +65,7 @@ module _ (p : LinearProgram) (lawful : IsLinearProgram p) (s₁ s₂ : List Stat
       reaches =
           list_all_from (λ i. is_no_later (step_length p t₂.point d k) (step_length p t₂.point d i)) (size p.matrix) 1
           (λ i low high. subst (λ o. is_no_later o (step_length p t₂.point d i) ≡ true) (at_once ∙ sym none)
-          ((stopper_some p t₂.point d t stops).1 i (low, omega (arith, high))))
+          ((blocking_variable_some p t₂.point d t stops).1 i (low, omega (arith, high))))
 
   before_term : (k : ℕ) → IsVariable p.matrix k → k < t → is_in (basics_of s₁) k ≡ false → zero_ℚ ≤ℚ d k *ℚ w k
   before_term k is before out =

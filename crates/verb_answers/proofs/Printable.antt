@@ -16,7 +16,7 @@ use Rattle.lp_model.specs.declared.reports.ParaEnd.TheVariants as ends
 use Rattle.lp_model.specs.declared.reports.ParaPart.{ParaPart}
 use Rattle.lp_model.specs.declared.reports.ParaReport.{ParaReport}
 use Rattle.lp_model.specs.declared.reports.ParaReport.TheVariants as reports
-use Rattle.simplex_definitions.specs.Moves.{goes_up, stopper}
+use Rattle.simplex_definitions.specs.Moves.{goes_up, blocking_variable}
 use Rattle.simplex_definitions.specs.Path.{listed, ray_of, speeds}
 use Rattle.simplex_definitions.specs.DualRatio.{cheapest}
 use Rattle.simplex_definitions.specs.Chain.{Part, ChainEnd, AtMax, UnboundedPast, InfeasiblePast, FaceTurn, FaceMoves, FaceDone, FaceEnds, IsPart as IsInterval, IsChain, at_max, past_breakpoint, goes_on}
@@ -60,7 +60,7 @@ module _ (p : LinearProgram) (h : ℕ) (theta : ℚ) (s : List Status) (t : Tabl
   objective_by : (o : Option ℕ) (end : ChainEnd) → face_by p h theta s t o ≡ FaceEnds end → EndHasPlaces (size p.matrix) end
   objective_by (Some q) end e =
       objective_until q (speeds t.rate (goes_up (change_rate p h theta s t) q) q)
-      (stopper p t.point (speeds t.rate (goes_up (change_rate p h theta s t) q) q)) end e
+      (blocking_variable p t.point (speeds t.rate (goes_up (change_rate p h theta s t) q) q)) end e
   objective_by None end e = absurd (cc e)
 
   objective_end : (end : ChainEnd) → objective_face p h theta s t ≡ FaceEnds end → EndHasPlaces (size p.matrix) end

@@ -1,5 +1,5 @@
-use Rattle.simplex_laws.proofs.Searches.{least_is, least_none, none_passes, found_passes, stopper_is, stopper_nothing}
-use Rattle.simplex_laws.proofs.Stoppers.{stopper_none, stopper_some}
+use Rattle.simplex_laws.proofs.Searches.{least_is, least_none, none_passes, found_passes, blocking_variable_is, blocking_variable_nothing}
+use Rattle.simplex_laws.proofs.BlockingVariables.{blocking_variable_none, blocking_variable_some}
 use Rattle.simplex_laws.proofs.search_laws.Goals as goal
 
 pub returns : goal.returns
@@ -8,8 +8,8 @@ returns c = record {
   least_none = least_none;
   none_passes = none_passes;
   found_passes = found_passes;
-  stopper_is = stopper_is;
-  stopper_nothing = stopper_nothing;
-  stopper_none = stopper_none;
-  stopper_some = stopper_some;
+  blocking_variable_is = blocking_variable_is;
+  blocking_variable_nothing = blocking_variable_nothing;
+  blocking_variable_none = blocking_variable_none;
+  blocking_variable_some = blocking_variable_some;
 }

@@ -92,7 +92,7 @@ returns-clause-turn g c =
     (g.R.Rates.state c.args.rates.now).matrix
     (g.R.Rates.state c.args.rates.now).basics c.requires.rates c.requires.point c.requires.uncrossed c.args.r c.requires.outside
     (value_at c.args.prices.now)
-    (value_at c.read_row.new.out) c.requires.prices c.in_ok-read_row.ensures.row c.lies_below-below.result c.lies_below-below.ensures c.in-Some.q (sym c.in-Ok.ensures.cheapest ∙ c.in-Some.is) c.limit_broken.result c.limit_broken.ensures (value_at c.return_along.new.direction) c.in_ok-by.ensures.direction c.in_ok-by.by c.in_ok-by.ensures.stopper c.args.at.now.left (omega (arith, c.if-at-eq0.false))
+    (value_at c.read_row.new.out) c.requires.prices c.in_ok-read_row.ensures.row c.lies_below-below.result c.lies_below-below.ensures c.in-Some.q (sym c.in-Ok.ensures.cheapest ∙ c.in-Some.is) c.limit_broken.result c.limit_broken.ensures (value_at c.return_along.new.direction) c.in_ok-by.ensures.direction c.in_ok-by.by c.in_ok-by.ensures.blocking_variable c.args.at.now.left (omega (arith, c.if-at-eq0.false))
 
 pub returns-in_err-by-clause-rates : goal.returns-in_err-by-clause-rates
 returns-in_err-by-clause-rates g c = kept_then c.in_ok-read_row.ensures.rates c.in_err-by.ensures.rates

@@ -63,7 +63,7 @@ returns-in_err-by-clause-turn g c =
 pub returns-clause-turn : goal.returns-clause-turn
 returns-clause-turn g c =
     first_moves c.args.at.now.lp.now c.args.at.now.basis.now (value_at c.args.at.now.point.now) (g.R.Rates.state c.args.rates.now).matrix
-    (g.R.Rates.state c.args.rates.now).basics c.requires.rates c.requires.point c.requires.uncrossed c.args.r c.requires.outside c.in_ok-q.ensures.found.rates c.in_ok-q.ensures.found.is_row c.lies_below-below.result c.lies_below-below.ensures c.in-Some.q (sym c.in-Some.is ∙ c.in_ok-q.ensures.found.enters) c.limit_broken.result c.limit_broken.ensures (value_at c.return_along.new.direction) c.in_ok-by.ensures.direction c.in_ok-by.by c.in_ok-by.ensures.stopper c.args.at.now.left (omega (arith, c.if-at-eq0.false))
+    (g.R.Rates.state c.args.rates.now).basics c.requires.rates c.requires.point c.requires.uncrossed c.args.r c.requires.outside c.in_ok-q.ensures.found.rates c.in_ok-q.ensures.found.is_row c.lies_below-below.result c.lies_below-below.ensures c.in-Some.q (sym c.in-Some.is ∙ c.in_ok-q.ensures.found.enters) c.limit_broken.result c.limit_broken.ensures (value_at c.return_along.new.direction) c.in_ok-by.ensures.direction c.in_ok-by.by c.in_ok-by.ensures.blocking_variable c.args.at.now.left (omega (arith, c.if-at-eq0.false))
 
 pub returns-in_err-by-clause-rates : goal.returns-in_err-by-clause-rates
 returns-in_err-by-clause-rates g c = kept_then c.restoring.ensures.rates c.return_along.ensures.rates

@@ -20,6 +20,6 @@ returns-in-Err-clause-overflow g c =
           (λ (w : Workspace). w.point.items) c.in_ok-read_direction.ensures.others,
     ) at c.in-Err.ensures.refused)
 
-pub returns-in-Ok-clause-stopper : goal.returns-in-Ok-clause-stopper
-returns-in-Ok-clause-stopper g c =
-    rw (c.deref.ensures.value, c.values-direction.ensures, c.limit_broken-to.ensures, c.is_lower.ensures) at c.in-Ok.ensures.stopper
+pub returns-in-Ok-clause-blocking_variable : goal.returns-in-Ok-clause-blocking_variable
+returns-in-Ok-clause-blocking_variable g c =
+    rw (c.deref.ensures.value, c.values-direction.ensures, c.limit_broken-to.ensures, c.is_lower.ensures) at c.in-Ok.ensures.blocking_variable

@@ -11,7 +11,7 @@ use Rattle.simplex_definitions.specs.RhsRun.{rhs_family, IsRhsFace}
 use Rattle.simplex_laws.specs.Laws.{IsNonsingularBasis}
 use Rattle.basis_values.proofs.Kept.{kept_same, kept_then}
 use Rattle.bounded_primal.specs.Moves.{IsStepBy, move_by, return_by}
-use Rattle.bounded_primal.specs.declared.moves.Stopper.{Stopper}
+use Rattle.bounded_primal.specs.declared.moves.BlockingVariable.{BlockingVariable}
 use Rattle.bounded_primal.proofs.StepFacts.{step_reaches, limit_apart}
 use Rattle.parametric_run.specs.Calls.{end_of}
 use Rattle.parametric_run.proofs.Workspaces.{row_kept, direction_kept}
@@ -199,9 +199,9 @@ returns-clause-turn g c =
     (rhs_problem c.args.self.now.lp.now c.args.self.now.shift.now) c.args.basis.now c.entering.new.workspace c.return_of.new.workspace read c.in_ok-by.ensures.others c.in_ok-by.ensures.places in
     let left = c.if-left-eq0.false in
     let by_is : c.in_ok-by.by ≡ return_by c.args.self.now.lp.now (value_at c.return_of.new.workspace.point.items)
-    (value_at c.return_of.new.workspace.direction) c.in-Some.leaver.r (goes_to c.in-Some.leaver) = c.in_ok-by.ensures.stopper in
+    (value_at c.return_of.new.workspace.direction) c.in-Some.leaver.r (goes_to c.in-Some.leaver) = c.in_ok-by.ensures.blocking_variable in
     let moves : IsRhsFace c.args.self.now.lp.now c.args.self.now.shift.now c.args.theta c.args.basis.now (FaceMoves (move_by c.in-Some-chosen.q c.in_ok-by.by))
-    = subst (λ (b : Stopper). IsRhsFace c.args.self.now.lp.now c.args.self.now.shift.now c.args.theta c.args.basis.now
+    = subst (λ (b : BlockingVariable). IsRhsFace c.args.self.now.lp.now c.args.self.now.shift.now c.args.theta c.args.basis.now
     (FaceMoves (move_by c.in-Some-chosen.q b))) (sym by_is)
     (face_moves c.args.self.now.lp.now c.args.self.now.shift.now c.requires.fits.lawful c.requires.fits.no_change c.args.theta c.args.basis.now at
     (value_at c.return_of.new.workspace.point.items) (value_at c.return_of.new.workspace.change.items) last.point last.change c.in-Some.leaver found
@@ -209,7 +209,7 @@ returns-clause-turn g c =
     (value_at c.entering.new.workspace.row.items) read.prices c.in_ok-chosen.ensures.row c.in-Some-chosen.q
     (sym c.in_ok-chosen.ensures.chosen ∙ c.in-Some-chosen.is)) in
     let pivot : value_at c.return_of.new.workspace.direction c.in_ok-by.by.p ≢ zero_ℚ
-    = subst (λ (b : Stopper). value_at c.return_of.new.workspace.direction b.p ≢ zero_ℚ) (sym by_is)
+    = subst (λ (b : BlockingVariable). value_at c.return_of.new.workspace.direction b.p ≢ zero_ℚ) (sym by_is)
     (face_pivot c.args.self.now.lp.now c.args.self.now.shift.now c.requires.fits.lawful c.requires.fits.no_change c.args.theta c.args.basis.now at
     (value_at c.return_of.new.workspace.point.items) (value_at c.return_of.new.workspace.change.items) last.point last.change c.in-Some.leaver found
     (value_at c.entering.new.workspace.prices.items)
@@ -218,7 +218,7 @@ returns-clause-turn g c =
     (value_at c.return_of.new.workspace.direction) c.in_ok-by.ensures.direction) in
     let step : IsStepBy c.args.self.now.lp.now c.args.basis.now (value_at c.return_of.new.workspace.point.items)
     (value_at c.return_of.new.workspace.direction) c.in-Some-chosen.q c.in_ok-by.by
-    = subst (λ (b : Stopper). IsStepBy c.args.self.now.lp.now c.args.basis.now (value_at c.return_of.new.workspace.point.items)
+    = subst (λ (b : BlockingVariable). IsStepBy c.args.self.now.lp.now c.args.basis.now (value_at c.return_of.new.workspace.point.items)
     (value_at c.return_of.new.workspace.direction) c.in-Some-chosen.q b) (sym by_is)
     (face_step c.args.self.now.lp.now c.args.self.now.shift.now c.requires.fits.lawful c.requires.fits.no_change c.args.theta c.args.basis.now at
     (value_at c.return_of.new.workspace.point.items) (value_at c.return_of.new.workspace.change.items) last.point last.change c.in-Some.leaver found
@@ -231,7 +231,7 @@ returns-clause-turn g c =
     record {
       moves = moves;
       keeps =
-          subst (λ (b : Stopper). IsOptimalBasis (rhs_family c.args.self.now.lp.now c.args.self.now.shift.now c.args.theta)
+          subst (λ (b : BlockingVariable). IsOptimalBasis (rhs_family c.args.self.now.lp.now c.args.self.now.shift.now c.args.theta)
           (after c.args.basis.now (move_by c.in-Some-chosen.q b))) (sym by_is)
           (face_keeps c.args.self.now.lp.now c.args.self.now.shift.now c.requires.fits.lawful c.requires.fits.no_change c.args.theta c.args.basis.now at
           (value_at c.return_of.new.workspace.point.items)

@@ -1,12 +1,12 @@
 use Rattle.std.proofs.Common.{◌≡◌, Err, rules}
 use Rattle.lp_definitions.specs.LinearProgram.{value_at}
 use Rattle.lp_model.proofs.Stops.{IfOverflow-map}
-use Rattle.bounded_primal.specs.Turns.{by_direction, by_stopper}
+use Rattle.bounded_primal.specs.Turns.{by_direction, by_blocking_variable}
 use Rattle.basis_values.proofs.RatesStops.{column_refused}
 use Rattle.basis_values.proofs.Kept.{kept_by}
 use Rattle.bounded_primal.proofs.Agreement.{step_length_refused}
-use Rattle.bounded_primal.proofs.StopperFacts.{call_refused}
-use Rattle.bounded_primal.proofs.turns.stopper_of.Goals as goal
+use Rattle.bounded_primal.proofs.BlockingVariableFacts.{call_refused}
+use Rattle.bounded_primal.proofs.turns.blocking_variable_of.Goals as goal
 
 pub returns-in_err-direction-clause-overflow : goal.returns-in_err-direction-clause-overflow
 returns-in_err-direction-clause-overflow g c =
@@ -24,7 +24,7 @@ returns-in-Err-clause-overflow g c =
     let some =
     step_length_refused c.args.at.now.lp.now (value_at c.args.at.now.point.now) z (c.requires.point z at)
     (value_at c.direction.new.out) c.args.up c.args.q c.in-Err.evidence c.in-Err.ensures.refused in
-    by_stopper (value_at c.direction.new.out) direction
+    by_blocking_variable (value_at c.direction.new.out) direction
     (call_refused c.args.at.now.lp.now c.args.at.now.basis.now z
     (value_at c.direction.new.out) c.args.q c.args.up c.requires.rates.nonsingular at c.requires.nonbasic direction some.0 some.1 c.in-Err.evidence some.2)
 

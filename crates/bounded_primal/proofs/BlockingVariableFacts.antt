@@ -8,11 +8,11 @@ use Rattle.lp_definitions.specs.declared.Evidence.{Evidence}
 use Rattle.lp_definitions.specs.declared.Status.{Status}
 use Rattle.lp_laws.proofs.Values.{clash}
 use Rattle.lp_laws.proofs.Uniqueness.{one_direction}
-use Rattle.simplex_definitions.specs.Moves.{stopper, limit_ahead, step_length, signed, reached}
-use Rattle.simplex_laws.proofs.Stoppers.{stopper_none}
+use Rattle.simplex_definitions.specs.Moves.{blocking_variable, limit_ahead, step_length, signed, reached}
+use Rattle.simplex_laws.proofs.BlockingVariables.{blocking_variable_none}
 use Rattle.simplex_definitions.specs.Formulas.{PointFormula, f6, f7}
 use Rattle.basis_values.specs.Motions.{motion}
-use Rattle.bounded_primal.specs.Moves.{stopper_of, StopperRefused, stop_at}
+use Rattle.bounded_primal.specs.Moves.{blocking_variable_of, BlockingVariableRefused, stop_at}
 use Rattle.basis_values.specs.Reach.{StepLengthRefused, of_distance, of_quotient, IsFirst, IsNearest}
 use Rattle.basis_values.proofs.Existence.{rates_exist}
 use Rattle.basis_values.specs.declared.reach.Reach.{Reach}
@@ -22,7 +22,7 @@ use Rattle.basis_values.proofs.Refusals.{stops_at_basis}
 -- what is found, as the definition tells it
 pub stop_found : (p : LinearProgram) (z d : Vector) (up : Bool) (found : Option Reach) (r : Reach) (rate speed step : ℚ) (to : Status) →
     IsNearest (step_length p z (motion d up)) (size p.matrix) found → found ≡ Some r → rate ≡ d r.p → speed ≡ signed up rate →
-    step ≡ signed up r.length → to ≡ reached (λ _. speed) 0 → Some (record { p = r.p; step = step; to = to }) ≡ stopper_of p z d up
+    step ≡ signed up r.length → to ≡ reached (λ _. speed) 0 → Some (record { p = r.p; step = step; to = to }) ≡ blocking_variable_of p z d up
 stop_found p z d up found r rate speed step to nearest is rate_is speed_is step_is to_is =
     ap₂ (λ (x : ℚ) (t : Status). Some (record { p = r.p; step = x; to = t }))
     (step_is ∙ ap (λ o. signed up (unwrap_or o zero_ℚ)) (sym h.reaches))
@@ -33,18 +33,18 @@ stop_found p z d up found r rate speed step to nearest is rate_is speed_is step_
     h = subst (λ (o : Option Reach). IsNearest (step_length p z (motion d up)) (size p.matrix) o) is nearest
 
 pub nothing_found : (p : LinearProgram) (z d : Vector) (up : Bool) (found : Option Reach) → IsNearest (step_length p z (motion d up)) (size p.matrix) found →
-    found ≡ None → None ≡ stopper_of p z d up
+    found ≡ None → None ≡ blocking_variable_of p z d up
 nothing_found p z d up found nearest is =
     sym (ap (option_map (stop_at p z d up))
     (nothing_stops p z (motion d up) (subst (λ (o : Option Reach). IsNearest (step_length p z (motion d up)) (size p.matrix) o) is nearest)))
 
 -- something stops a motion where a variable has a limit ahead
 is_stopped : (p : LinearProgram) (z d : Vector) (up : Bool) (k : ℕ) (l : ℚ) → IsVariable p.matrix k → limit_ahead p (motion d up) k ≡ Some l →
-    IsSome (stopper_of p z d up)
-is_stopped p z d up k l is ahead = at (stopper p z (motion d up)) refl
+    IsSome (blocking_variable_of p z d up)
+is_stopped p z d up k l is ahead = at (blocking_variable p z (motion d up)) refl
   where
-    at : (o : Option ℕ) → stopper p z (motion d up) ≡ o → IsSome (stopper_of p z d up)
-    at None none = let gone = stopper_none p z (motion d up) none k is in absurd (none_some (rw ahead at gone))
+    at : (o : Option ℕ) → blocking_variable p z (motion d up) ≡ o → IsSome (blocking_variable_of p z d up)
+    at None none = let gone = blocking_variable_none p z (motion d up) none k is in absurd (none_some (rw ahead at gone))
       where
         none_some : {x : ℚ} → Some x ≡ None → ⊥
         none_some e = cc
@@ -75,7 +75,7 @@ module _ (p : LinearProgram) (s : List Status) (z d : Vector) (q : ℕ) (up : Bo
       f7 q k term l h.names (is, moves_basic moves not_own) out limit (λ vanishes. moves (sym at_q ∙ vanishes))
       (rw at_q h.refuses)
 
-  pub call_refused : StepLengthRefused p z d up q k e → StopperRefused p s z d q up e
+  pub call_refused : StepLengthRefused p z d up q k e → BlockingVariableRefused p s z d q up e
   unfolding tableau
   call_refused h = record {
     of_call = of_call h;
@@ -91,7 +91,7 @@ module _ (p : LinearProgram) (s : List Status) (z d : Vector) (q : ℕ) (up : Bo
           let other : nat_eq term 3 ≡ false = grind arith in rw (h.names.is_formula, h.names.is_term, other) refl
       of_call (of_quotient term l ahead limit moves not_own h) = rw h.names.is_formula refl
 
-      stopped : StepLengthRefused p z d up q k e → IsSome (stopper_of p z d up)
+      stopped : StepLengthRefused p z d up q k e → IsSome (blocking_variable_of p z d up)
       stopped (of_distance term l low ahead limit h) = is_stopped p z d up k l is ahead
       stopped (of_quotient term l ahead limit moves not_own h) = is_stopped p z d up k l is ahead
 

@@ -3,17 +3,17 @@ use Rattle.lp_definitions.specs.LinearProgram.{value_at, size}
 use Rattle.simplex_definitions.specs.Moves.{step_length}
 use Rattle.basis_values.specs.Motions.{motion}
 use Rattle.basis_values.proofs.Nearest.{found_within}
-use Rattle.bounded_primal.proofs.StopperFacts.{stop_found, nothing_found}
-use Rattle.bounded_primal.proofs.stopping.stopper_from.Goals as goal
+use Rattle.bounded_primal.proofs.BlockingVariableFacts.{stop_found, nothing_found}
+use Rattle.bounded_primal.proofs.stopping.blocking_variable_from.Goals as goal
 use Rattle.lp_laws.proofs.Places.{value_read}
 
-pub returns-in-None-clause-stopper : goal.returns-in-None-clause-stopper
-returns-in-None-clause-stopper c =
+pub returns-in-None-clause-blocking_variable : goal.returns-in-None-clause-blocking_variable
+returns-in-None-clause-blocking_variable c =
     nothing_found c.args.lp.now (value_at c.args.point.now)
     (value_at c.args.direction.now) c.args.up c.in_ok-found.found c.in_ok-found.ensures.nearest c.in-None.is
 
-pub returns-in-Some-clause-stopper : goal.returns-in-Some-clause-stopper
-returns-in-Some-clause-stopper c =
+pub returns-in-Some-clause-blocking_variable : goal.returns-in-Some-clause-blocking_variable
+returns-in-Some-clause-blocking_variable c =
     let within =
     found_within (step_length c.args.lp.now (value_at c.args.point.now) (motion (value_at c.args.direction.now) c.args.up))
     (size c.args.lp.now.matrix) c.in_ok-found.found c.in-Some.nearest c.in_ok-found.ensures.nearest c.in-Some.is in

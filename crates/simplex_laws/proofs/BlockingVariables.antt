@@ -6,7 +6,7 @@ use Rattle.exact_values.proofs.Order.{le_refl, le_trans, le_total}
 use Rattle.exact_values.proofs.TestsLaws.{le_from_test, test_from_le}
 use Rattle.lp_definitions.specs.LinearProgram.{LinearProgram, Vector, IsVariable, size}
 use Rattle.lp_laws.proofs.Values.{clash}
-use Rattle.simplex_definitions.specs.Moves.{is_no_later, reaches_first, step_length, stopper}
+use Rattle.simplex_definitions.specs.Moves.{is_no_later, reaches_first, step_length, blocking_variable}
 use Rattle.simplex_laws.proofs.Numbered.{find_none, find_some, list_all_from, list_all_true, from_first}
 
 no_later-trans : (a b c : Option ℚ) → is_no_later a b ≡ true → is_no_later b c ≡ true → is_no_later a c ≡ true
@@ -79,9 +79,9 @@ module _ (f : ℕ → Option ℚ) where
       by_first (Some a) is (inr one) = by_second a is one.0 one.1 (value_of one.0 one.1)
 
 -- where nothing stops a motion, no variable has a limit ahead
-pub stopper_none : (p : LinearProgram) (z v : Vector) → stopper p z v ≡ None → (k : ℕ) → IsVariable p.matrix k → step_length p z v k ≡ None
+pub blocking_variable_none : (p : LinearProgram) (z v : Vector) → blocking_variable p z v ≡ None → (k : ℕ) → IsVariable p.matrix k → step_length p z v k ≡ None
 unfolding NoneReaches
-stopper_none p z v none k is = by_least (least_of (step_length p z v) (size p.matrix) 1)
+blocking_variable_none p z v none k is = by_least (least_of (step_length p z v) (size p.matrix) 1)
   where
     by_least : ((NoneReaches (step_length p z v) (size p.matrix) 1) ⊎ ((k : ℕ) × IsLeastOf (step_length p z v) (size p.matrix) 1 k)) →
         step_length p z v k ≡ None
@@ -93,9 +93,9 @@ stopper_none p z v none k is = by_least (least_of (step_length p z v) (size p.ma
         absurd (clash (sym passes ∙ fails))
 
 -- what stops a motion reaches its limit, and no variable reaches one sooner
-pub stopper_some : (p : LinearProgram) (z v : Vector) (k : ℕ) → stopper p z v ≡ Some k →
+pub blocking_variable_some : (p : LinearProgram) (z v : Vector) (k : ℕ) → blocking_variable p z v ≡ Some k →
     IsVariable p.matrix k × ((i : ℕ) → IsVariable p.matrix i → is_no_later (step_length p z v k) (step_length p z v i) ≡ true)
-stopper_some p z v k e =
+blocking_variable_some p z v k e =
     let found = find_some (reaches_first p z v) (size p.matrix) 1 k e in (
       (found.low, omega (arith, found.high)),
       λ i is. list_all_true (λ i. is_no_later (step_length p z v k) (step_length p z v i)) (size p.matrix) 1 found.passes i is.0 (omega (arith, is.1)),
