@@ -17,8 +17,8 @@ use Rattle.bounded_primal.specs.Complete.{RuleEndsOverflowFree, IsEndOr}
 use Rattle.bounded_primal.specs.Outcomes.{IsTrueOutcome}
 use Rattle.bounded_primal.proofs.CompletePaths.{answers_end}
 use Rattle.bounded_primal.proofs.TrueOutcomes.{true_end}
-use Rattle.dual_laws.proofs.DualTurns.{dual_end, never_unbounded, not_both_prices}
-use Rattle.dual_laws.proofs.OneDualPath.{dual_path_leads, path_right, one_path, not_both}
+use Rattle.simplex_laws.proofs.DualTurns.{dual_end, never_unbounded, not_both_prices}
+use Rattle.simplex_laws.proofs.OneDualPath.{dual_path_leads, path_right, one_path, not_both}
 use Rattle.bounded_dual.specs.Stops.{DualEnds, DualStopsAlong, IsNotUnbounded}
 use Rattle.bounded_dual.specs.declared.moves.DualStop.{DualStop}
 use Rattle.bounded_dual.specs.declared.moves.DualStop.TheVariants.{NotDualFeasible, Limit, Overflow, NoMemory}

@@ -33,7 +33,7 @@ use Rattle.bounded_primal.proofs.Agreement.{basis_point, outside_same, below_sam
 use Rattle.bounded_primal.proofs.SameChoices.{listed_is, row_ray}
 use Rattle.bounded_primal.proofs.TurnCalls.{outside_basic}
 use Rattle.bounded_primal.proofs.TurnChoices.{limit_some, return_step}
-use Rattle.dual_laws.proofs.EnteringVariables.{is_entering_variable}
+use Rattle.simplex_laws.proofs.EnteringVariables.{is_entering_variable}
 use Rattle.dual_step.specs.Cheapest.{brings, cheapest_by, SomeRatioRefused}
 use Rattle.dual_step.proofs.BestRatio.{brings_apart}
 use Rattle.dual_step.proofs.RatioChoice.{row_at, brings_is, cheapest_is}

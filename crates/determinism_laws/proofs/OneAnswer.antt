@@ -10,8 +10,8 @@ use Rattle.simplex_laws.specs.Laws.{IsNonsingularBasis}
 use Rattle.simplex_laws.proofs.Numbered.{map_same}
 use Rattle.simplex_laws.proofs.UnboundedEnds.{objective_value-same}
 use Rattle.simplex_laws.proofs.OnePath.{one_path, not_both}
-use Rattle.dual_laws.proofs.DualTurns.{not_both_prices, one_wrong}
-use Rattle.dual_laws.proofs.OneDualPath.{one_path as one_dual_path, not_both as dual_not_both}
+use Rattle.simplex_laws.proofs.DualTurns.{not_both_prices, one_wrong}
+use Rattle.simplex_laws.proofs.OneDualPath.{one_path as one_dual_path, not_both as dual_not_both}
 use Rattle.basis_deck_laws.proofs.Dependencies.{one_dependency, dependency_singular}
 use Rattle.listing_definitions.specs.Report.{Value, Code, Number, limit_value, Line, SolutionLines, PathVerdict, Check}
 use Rattle.question_definitions.specs.Answers.{Basis, Sheet, PathEnd, Reached, PathLimit, PricesWrong, InstallEnd, Installed, DependsBy}

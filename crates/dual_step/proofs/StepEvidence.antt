@@ -31,7 +31,7 @@ use Rattle.bounded_primal.specs.Steps.{ReturnRefused, of_distance, of_quotient}
 use Rattle.bounded_primal.specs.declared.moves.BlockingVariable.{BlockingVariable}
 use Rattle.bounded_primal.proofs.StatementEvidence.{evidence_here, evidence_ahead, evidence_own, step_number, step_moves}
 use Rattle.bounded_primal.proofs.TurnEvidence.{step_brings_not}
-use Rattle.dual_laws.proofs.EnteringVariables.{is_entering_variable}
+use Rattle.simplex_laws.proofs.EnteringVariables.{is_entering_variable}
 use Rattle.dual_step.specs.Cheapest.{SomeRatioRefused}
 use Rattle.dual_step.proofs.BestRatio.{brings_apart}
 use Rattle.dual_step.proofs.RatioChoice.{row_at, price_at}

@@ -21,8 +21,8 @@ use Rattle.simplex_laws.proofs.UnboundedEnds.{crossed_end, unbounded_end}
 use Rattle.simplex_laws.proofs.Rays.{infeasible_end}
 use Rattle.simplex_laws.proofs.OnePath.{path_leads}
 use Rattle.simplex_laws.proofs.Goes.{ends_or_goes_on}
-use Rattle.dual_laws.proofs.DualTurns.{dual_end}
-use Rattle.dual_laws.proofs.OneDualPath.{dual_path_leads, path_right, right_or_wrong, ends_or_goes_on as dual_ends_or_goes_on}
+use Rattle.simplex_laws.proofs.DualTurns.{dual_end}
+use Rattle.simplex_laws.proofs.OneDualPath.{dual_path_leads, path_right, right_or_wrong, ends_or_goes_on as dual_ends_or_goes_on}
 use Rattle.termination_laws.proofs.Ending.{ends, dual_ends}
 use Rattle.existence_laws.proofs.Reaching.{tableau_of, nonsingular_or_dependency}
 use Rattle.existence_laws.proofs.Ranges.{ranges_exist}

@@ -38,7 +38,7 @@ use Rattle.para_rhs.specs.Breaks.{IsFaceLeaver}
 use Rattle.dual_step.specs.Cheapest.{brings as may_bring, cheapest_by}
 use Rattle.para_rhs.specs.Limits.{is_upper}
 use Rattle.para_rhs.specs.declared.breaks.Leaver.{Leaver}
-use Rattle.dual_laws.proofs.DualStep.{enters, pivot, rates_after, right_after}
+use Rattle.simplex_laws.proofs.DualStep.{enters, pivot, rates_after, right_after}
 use Rattle.para_rhs.proofs.RatioChoice.{brings_same, cheapest_same}
 
 stands_on : (y : ℚ) (o : Option ℚ) → on_limit (λ l. eq_ℚ y l) o ≡ true → o ≡ Some y

@@ -28,7 +28,7 @@ use Rattle.sensitivity_laws.specs.Laws.{IsDualFeasibleBasis}
 use Rattle.sensitivity_laws.proofs.RightHandSides.{points, dual_feasible, right_hand_sides}
 use Rattle.sensitivity_laws.proofs.Rows.{lawful_rows}
 use Rattle.sensitivity_laws.proofs.Tableaus.{by_tableau}
-use Rattle.dual_laws.proofs.DualStep.{enters, rates_after, right_after}
+use Rattle.simplex_laws.proofs.DualStep.{enters, rates_after, right_after}
 use Rattle.parametric_laws.proofs.Rhs.{to_rhs, rhs_leads}
 use Rattle.parametric_laws.proofs.OneRhs.{lawful_rhs}
 use Rattle.parametric_laws.proofs.RhsGrowth.{rhs_grows}

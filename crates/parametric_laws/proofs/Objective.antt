@@ -13,7 +13,7 @@ use Rattle.simplex_laws.specs.Laws.{IsNonsingularBasis}
 use Rattle.simplex_laws.proofs.Searches.{found_passes}
 use Rattle.simplex_definitions.specs.Chain.{FaceMoves}
 use Rattle.simplex_definitions.specs.ObjectiveRun.{objective_family, change_rate, face_entering_variable, face_until, face_by, objective_face, IsObjectiveFace}
-use Rattle.dual_laws.proofs.EnteringVariables.{is_entering_variable}
+use Rattle.simplex_laws.proofs.EnteringVariables.{is_entering_variable}
 use Rattle.parametric_laws.proofs.Leads.{stopped_leads}
 
 -- the change row is added to the objective; matrix and limits are as they were

@@ -25,7 +25,7 @@ use Rattle.simplex_laws.proofs.Ends.{IsFeasible-same}
 use Rattle.simplex_laws.proofs.Searches.{found_passes}
 use Rattle.simplex_definitions.specs.Chain.{ChainEnd, UnboundedPast, FaceMoves, FaceEnds}
 use Rattle.simplex_definitions.specs.ObjectiveRun.{objective_family, change_rate, face_entering_variable, face_until, face_by, objective_face, IsObjectiveFace}
-use Rattle.dual_laws.proofs.EnteringVariables.{IsEnteringVariable, is_entering_variable}
+use Rattle.simplex_laws.proofs.EnteringVariables.{IsEnteringVariable, is_entering_variable}
 use Rattle.parametric_laws.proofs.Objective.{to_objective}
 use Rattle.parametric_laws.proofs.OneObjective.{lawful_objective}
 use Rattle.parametric_laws.specs.Truth.{IsUnboundedBy, IsTrueEnd}

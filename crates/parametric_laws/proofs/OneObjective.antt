@@ -17,7 +17,7 @@ use Rattle.simplex_laws.proofs.OneTurn.{SameTableau}
 use Rattle.simplex_laws.proofs.Searches.{found_passes}
 use Rattle.simplex_definitions.specs.Chain.{FaceTurn, FaceMoves, FaceEnds, UnboundedPast}
 use Rattle.simplex_definitions.specs.ObjectiveRun.{objective_family, change_rate, face_entering_variable, face_until, face_by, objective_face, IsObjectiveFace}
-use Rattle.dual_laws.proofs.EnteringVariables.{is_entering_variable}
+use Rattle.simplex_laws.proofs.EnteringVariables.{is_entering_variable}
 use Rattle.parametric_laws.proofs.Objective.{to_objective}
 use Rattle.simplex_laws.proofs.OneTurn.{listed_same, lowers_idle, lowers_same, blocking_variable_same}
 use Rattle.simplex_laws.proofs.OnePath.{same_tableau}

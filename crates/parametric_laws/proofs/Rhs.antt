@@ -17,7 +17,7 @@ use Rattle.simplex_definitions.specs.DualRatio.{restores_feasibility, is_cheapes
 use Rattle.simplex_definitions.specs.RhsRun.{shift_of, rhs_family, leaves_below, leaves_above, leaving, face_exchange, face_at, rhs_face, IsRhsFace}
 use Rattle.sensitivity_laws.proofs.MovedLimits.{basis_to, basis_from}
 use Rattle.simplex_laws.proofs.Steps.{MayStand, signed_zero, lower_apart, upper_apart, exchange_leads}
-use Rattle.dual_laws.proofs.EnteringVariables.{IsEnteringVariable, is_entering_variable}
+use Rattle.simplex_laws.proofs.EnteringVariables.{IsEnteringVariable, is_entering_variable}
 
 -- the programs have the same nonsingular bases
 module _ (p : LinearProgram) (shift : List ℚ) (theta : ℚ) (s : List Status) where

@@ -29,7 +29,7 @@ use Rattle.simplex_definitions.specs.RhsRun.{shift_of, rhs_family, IsSlope, leav
 use Rattle.sensitivity_laws.proofs.MovedLimits.{moved, lower_is, upper_is, fixed_at, free_unshifted}
 use Rattle.parametric_laws.proofs.Rhs.{to_rhs}
 use Rattle.parametric_laws.specs.Truth.{IsRefutedBy, IsTrueEnd}
-use Rattle.dual_laws.proofs.Cheapest.{cheapest_none}
+use Rattle.simplex_laws.proofs.Cheapest.{cheapest_none}
 
 -- ---- what is done at a breakpoint
 

@@ -12,3 +12,10 @@ pub mod OnePath
 pub mod Second
 pub mod Goes
 pub mod Searches
+pub mod Magnitudes
+pub mod EnteringVariables
+pub mod Cheapest
+pub mod DualStep
+pub mod OneRatio
+pub mod DualTurns
+pub mod OneDualPath

@@ -7,7 +7,7 @@ use Rattle.simplex_definitions.specs.Path.{PathEnding, Rule, turn, RuleEnd, Rule
 use Rattle.simplex_definitions.specs.DualPath.{dual_turn}
 use Rattle.simplex_laws.specs.Laws.{IsNonsingularBasis, SameEnds}
 use Rattle.simplex_laws.proofs.OnePath.{one_path}
-use Rattle.dual_laws.proofs.OneDualPath.{one_path as one_dual_path}
+use Rattle.simplex_laws.proofs.OneDualPath.{one_path as one_dual_path}
 use Rattle.listing_definitions.specs.declared.Solver.TheVariants as solvers
 use Rattle.problem_definitions.specs.Problem.{Problem}
 use Rattle.problem_file.specs.Filed.{Filed, filed_under}

@@ -13,8 +13,8 @@ use Rattle.simplex_definitions.specs.DualPath.{HasRightPrices, DualEndsAt}
 use Rattle.simplex_definitions.specs.Statements.{SolvingStatement}
 use Rattle.simplex_laws.specs.Laws.{IsNonsingularBasis}
 use Rattle.simplex_laws.proofs.Ends.{optimal_end}
-use Rattle.dual_laws.proofs.DualTurns.{dual_end}
-use Rattle.dual_laws.proofs.OneDualPath.{path_right}
+use Rattle.simplex_laws.proofs.DualTurns.{dual_end}
+use Rattle.simplex_laws.proofs.OneDualPath.{path_right}
 use Rattle.problem_definitions.specs.Problem.{Problem}
 use Rattle.problem_file.specs.Filed.{Filed, filed_under}
 use Rattle.control_definitions.specs.Cells.{Cells}

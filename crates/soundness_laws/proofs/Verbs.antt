@@ -21,8 +21,8 @@ use Rattle.control_definitions.specs.declared.Demand.TheVariants.{Xdonfs, Xdounb
 use Rattle.control_definitions.specs.Program.{SetupOptions, Verb, Initialz, Title, MoveName, MoveNumber, MoveLimit, Mvadr, Goto, Convert, Setup, Primal, Dual, Revise, Ranging, Paraobj, Pararhs, Solution as SolutionVerb, Bcdout, Punch, Insert, Exit}
 use Rattle.simplex_definitions.specs.Path.{PathEnding, EndsOptimal, EndsCrossed, EndsInfeasible, EndsUnbounded, EndsAt, last_of}
 use Rattle.simplex_definitions.specs.DualPath.{DualEndsAt}
-use Rattle.dual_laws.proofs.DualTurns.{dual_end, never_unbounded}
-use Rattle.dual_laws.proofs.OneDualPath.{dual_path_leads, path_right}
+use Rattle.simplex_laws.proofs.DualTurns.{dual_end, never_unbounded}
+use Rattle.simplex_laws.proofs.OneDualPath.{dual_path_leads, path_right}
 use Rattle.selection_definitions.specs.Selection.{selected}
 use Rattle.listing_definitions.specs.declared.Mark.{Mark}
 use Rattle.listing_definitions.specs.declared.Mark.TheVariants.{Optimal, Infeasible, Unbounded}

@@ -32,9 +32,9 @@ use Rattle.simplex_laws.proofs.Numbered.{list_all_from}
 use Rattle.simplex_laws.proofs.OnePath.{same_tableau}
 use Rattle.simplex_laws.proofs.Rays.{broken_basic, broken_limit}
 use Rattle.simplex_laws.proofs.Steps.{signed_zero}
-use Rattle.dual_laws.proofs.DualStep.{own, some, enters, rates_after}
-use Rattle.dual_laws.proofs.DualTurns.{IsReturn, return_of, cheapest_passes, brings, least_ratio, right_at, wrong_same, dual_leads_to, keeps_right}
-use Rattle.dual_laws.proofs.Magnitudes.{zero_first}
+use Rattle.simplex_laws.proofs.DualStep.{own, some, enters, rates_after}
+use Rattle.simplex_laws.proofs.DualTurns.{IsReturn, return_of, cheapest_passes, brings, least_ratio, right_at, wrong_same, dual_leads_to, keeps_right}
+use Rattle.simplex_laws.proofs.Magnitudes.{zero_first}
 use Rattle.termination_laws.proofs.Walks.{Visit, In, IsWalk, Turned, turn_to, IsVisitBy, visit_step, visits, is_walk, are_visits}
 use Rattle.termination_laws.proofs.Numbers.{find_before}
 use Rattle.termination_laws.proofs.Resting.{StopsAt, idle_stops}

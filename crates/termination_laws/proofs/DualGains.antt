@@ -24,7 +24,7 @@ use Rattle.simplex_definitions.specs.Moves.{signed}
 use Rattle.simplex_definitions.specs.Path.{after}
 use Rattle.simplex_laws.specs.Laws.{IsNonsingularBasis}
 use Rattle.simplex_laws.proofs.Rays.{Breaks, breaks_lower, breaks_upper}
-use Rattle.dual_laws.proofs.DualStep.{for_min_times}
+use Rattle.simplex_laws.proofs.DualStep.{for_min_times}
 
 -- a combination of the directions of which only that of q counts
 only_direction : (a : Matrix) (b : Basics) (rate : ℕ → ℕ → ℚ) (x : Vector) (i q : ℕ) → IsNonbasic a b q → ((k : ℕ) → IsNonbasic a b k → k ≢ q → x k ≡ zero_ℚ) →

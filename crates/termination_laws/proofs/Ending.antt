@@ -13,7 +13,7 @@ use Rattle.simplex_laws.proofs.Goes.{opening_has, ends_or_goes_on}
 use Rattle.termination_laws.specs.Laws.{lists_of, basis_at, NeverReturns}
 use Rattle.termination_laws.proofs.Walks.{IsWalk, visits, is_walk, are_visits}
 use Rattle.termination_laws.proofs.Phases.{no_cycle}
-use Rattle.dual_laws.proofs.OneDualPath.{ends_or_goes_on as dual_ends_or_goes_on}
+use Rattle.simplex_laws.proofs.OneDualPath.{ends_or_goes_on as dual_ends_or_goes_on}
 use Rattle.termination_laws.proofs.DualCycles.{IsRightBasis, right_leads, no_dual_return}
 use Rattle.termination_laws.proofs.Counts.{pigeonhole, code, code_below, code_tells}
 

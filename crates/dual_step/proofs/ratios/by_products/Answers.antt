@@ -2,7 +2,7 @@ use Rattle.std.proofs.Common.{sym, ◌∙◌, ap₂}
 use Rattle.exact_values.specs.Rational.{ℚ, ◌*ℚ◌}
 use Rattle.exact_values.specs.Tests.{le_ℚ}
 use Rattle.lp_laws.proofs.Values.{clash}
-use Rattle.dual_laws.proofs.Magnitudes.{ratios_by_products, zero_first, zero_last}
+use Rattle.simplex_laws.proofs.Magnitudes.{ratios_by_products, zero_first, zero_last}
 use Rattle.dual_step.proofs.ratios.by_products.Goals as goal
 
 pub returns-then-is_zero : goal.returns-then-is_zero

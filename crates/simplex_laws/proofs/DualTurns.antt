@@ -26,9 +26,9 @@ use Rattle.simplex_laws.proofs.Turns.{IsFirstPhase}
 use Rattle.lp_laws.specs.Points.{standing}
 use Rattle.lp_laws.specs.Rates.{exchanged_rate, combination}
 use Rattle.lp_laws.proofs.Points.{IsPointOf-combination}
-use Rattle.dual_laws.proofs.Cheapest.{cheapest_none}
-use Rattle.dual_laws.proofs.DualStep.{right_after, rates_after}
-use Rattle.dual_laws.proofs.OneRatio.{cheapest_same}
+use Rattle.simplex_laws.proofs.Cheapest.{cheapest_none}
+use Rattle.simplex_laws.proofs.DualStep.{right_after, rates_after}
+use Rattle.simplex_laws.proofs.OneRatio.{cheapest_same}
 
 -- ---- two tableaus of a basis
 

@@ -27,8 +27,8 @@ use Rattle.simplex_definitions.specs.Path.{after, worth_rate, excess_rate}
 use Rattle.simplex_laws.specs.Laws.{IsNonsingularBasis}
 use Rattle.simplex_laws.proofs.OneTurn.{lowers_idle}
 use Rattle.simplex_laws.proofs.Steps.{signed_zero}
-use Rattle.dual_laws.proofs.EnteringVariables.{IsEnteringVariable, is_entering_variable}
-use Rattle.dual_laws.proofs.Magnitudes.{ratio_times, magnitude_least, magnitude_above, magnitude_below, magnitude-neg}
+use Rattle.simplex_laws.proofs.EnteringVariables.{IsEnteringVariable, is_entering_variable}
+use Rattle.simplex_laws.proofs.Magnitudes.{ratio_times, magnitude_least, magnitude_above, magnitude_below, magnitude-neg}
 
 -- ---- numbers
 

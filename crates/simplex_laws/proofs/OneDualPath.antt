@@ -14,7 +14,7 @@ use Rattle.simplex_laws.proofs.Goes.{rule_ends_or_goes_on}
 use Rattle.simplex_laws.proofs.OnePath.{same_tableau, rule_path_leads, rule_one_step, rule_one_end, rule_step_or_end, rule_one_path, rule_not_both}
 use Rattle.simplex_laws.proofs.Searches.{least_none}
 use Rattle.simplex_laws.proofs.Booleans.{right_improves_not}
-use Rattle.dual_laws.proofs.DualTurns.{dual_turn_same, dual_leads_to, keeps_right}
+use Rattle.simplex_laws.proofs.DualTurns.{dual_turn_same, dual_leads_to, keeps_right}
 
 pub dual_leads : (p : LinearProgram) (s next : List Status) → IsNonsingularBasis p s → IsDualStep p s next → IsNonsingularBasis p next
 dual_leads p s next at step = (dual_leads_to p s next at step).at
