@@ -82,7 +82,8 @@ pub fn set_up<'a>(
 ) -> Result<WalkStep<'a>, NoMemory>
     requires { place.old.reports < max_count }
     ensures walks { (C : Checker) (cards : List (List ℕ)) → IfOk result
-        (Walks C (program.Setup options.now) card cards machine.old machine.new place.old place.new) }
+        (Walks C (program.Setup options.now) card cards
+        machine.old machine.new place.old place.new) }
     ensures sound { (cards : List (List ℕ)) → IsSound cards machine.old →
         IsSound cards machine.new }
     ensures few { place.new.reports ≤ place.old.reports + 1 }
