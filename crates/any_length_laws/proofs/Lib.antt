@@ -1,4 +1,4 @@
-mod Short
+pub mod Short
 mod Readers
 mod Grammar
 mod Tests

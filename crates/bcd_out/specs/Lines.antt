@@ -18,33 +18,31 @@ abbrev pub columns_of : List ℕ → Name → Name → List ℕ → List ℕ
 columns_of kind name1 name2 value =
     codes " " ++ padded 2 kind ++ codes " " ++ padded 8 name1 ++ codes "  " ++ padded 8 name2 ++ codes "  " ++ value
 
--- a plain row by its type and its name
-abbrev pub plain_line : RowKind → Name → List ℕ
-plain_line kind name = line (data_card (row_kind_text kind) name [] [])
+-- a row without parts, by the word of its type and its name
+abbrev pub bare_line : List ℕ → Name → List ℕ
+bare_line word name = line (data_card word name [] [])
 
--- a part of a combination, where these are the problem's rows
-abbrev pub part_line : List Name → RowKind → Name → Entry ℕ → List ℕ
-part_line rows kind name part = line (data_card (combination_text kind) name (name_at rows part.row) part.value.text)
+-- A number on a row, where these are the problem's rows: a part of the combination of this word and name, or, with no word, an entry or item of a column
+-- or set of this name.
+abbrev pub item_line : List Name → List ℕ → Name → Entry ℕ → List ℕ
+item_line rows word name item = line (data_card word name (name_at rows item.row) item.value.text)
 
 -- a combination: a line for each part, or one without a part
 abbrev pub combination_lines : List Name → RowKind → Name → List (Entry ℕ) → List ℕ
 combination_lines rows kind name parts =
-    if is_empty parts then line (data_card (combination_text kind) name [] [])
-    else flat_map (part_line rows kind name) parts
+    if is_empty parts then bare_line (combination_text kind) name
+    else flat_map (item_line rows (combination_text kind) name) parts
 
 abbrev pub row_lines : List Name → Row ℕ → List ℕ
-row_lines rows row = elim row.parts [ None ↦ plain_line row.kind row.name | Some parts ↦ combination_lines rows row.kind row.name parts ]
+row_lines rows row = elim row.parts [ None ↦ bare_line (row_kind_text row.kind) row.name | Some parts ↦ combination_lines rows row.kind row.name parts ]
 
 -- the first plain row, if there is one
 abbrev pub first_plain : {R : Type 0} → List (Row R) → Option (Row R)
 first_plain rows = find (λ row. is_none row.parts) rows
 
--- an entry or item of this column or set, where these are the problem's rows
-abbrev pub entry_line : List Name → Name → Entry ℕ → List ℕ
-entry_line rows name entry = line (data_card [] name (name_at rows entry.row) entry.value.text)
-
+-- the entries or items of a column or set
 abbrev pub entry_lines : List Name → Group (Entry ℕ) → List ℕ
-entry_lines rows group = flat_map (entry_line rows group.name) group.items
+entry_lines rows group = flat_map (item_line rows [] group.name) group.items
 
 -- the number 0 on a row
 abbrev pub zero_line : Name → Row ℕ → List ℕ

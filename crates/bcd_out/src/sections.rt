@@ -1,13 +1,12 @@
 // The sections of a deck.
-ghost use Rattle.std.specs.Prelude.{◌≡◌, ◌≤◌, ◌++◌, [], codes, map, length};
+ghost use Rattle.std.specs.Prelude.{◌≡◌, ◌≤◌, ◌++◌, codes, map, length};
 ghost use Rattle.std.specs.List.{flat_map};
 ghost use Rattle.std.specs.Option.{option_copied, option_to_list};
 ghost use Rattle.problem_definitions.specs.Names.{name_at};
 ghost use Rattle.problem_definitions.specs.Problem.{group_names};
-ghost use Rattle.deck_definitions.specs.DataCards.{combination_text};
-ghost use Rattle.deck_definitions.specs.Written.{data_card, row_kind_text, bound_kind_text};
+ghost use Rattle.deck_definitions.specs.Written.{row_kind_text, bound_kind_text};
 ghost use Rattle.job_devices.specs.Text.{Writes};
-ghost use Rattle.bcd_out.specs.Lines.{line, plain_line, part_line, combination_lines, row_lines, first_plain, entry_line, zero_line, entry_lines, column_lines, bound_line, number_text, bound_lines, section_lines};
+ghost use Rattle.bcd_out.specs.Lines.{line, bare_line, item_line, combination_lines, row_lines, first_plain, zero_line, entry_lines, column_lines, bound_line, number_text, bound_lines, section_lines};
 
 use crate::card::{WrittenCard, put_card};
 use deck_fields::combination_word;
@@ -67,11 +66,13 @@ pub fn column_name(columns: &[ColumnDecl], number: u32) -> &[u8]
     }
 }
 
-fn put_plain_row<P: Sink>(punch: &mut P, kind: RowKind, name: Name) -> Result<(), WriteStop>
-    ensures { Writes (P.taken punch.old) (P.taken punch.new) result (plain_line kind name) }
+// A row without parts, by the word of its type.
+fn put_bare_row<P: Sink>(punch: &mut P, word: &[u8], name: Name) -> Result<(), WriteStop>
+    requires { length word.now ≤ 2 }
+    ensures { Writes (P.taken punch.old) (P.taken punch.new) result (bare_line word.now name) }
 {
     let card = WrittenCard {
-        kind: row_kind_word(kind),
+        kind: word,
         name1: name.bytes(),
         name2: b"",
         value: b"",
@@ -79,51 +80,40 @@ fn put_plain_row<P: Sink>(punch: &mut P, kind: RowKind, name: Name) -> Result<()
     put_card(punch, card)
 }
 
-// A combination without parts.
-fn put_bare_combination<P: Sink>(punch: &mut P, kind: RowKind, name: Name) -> Result<(), WriteStop>
+// A part of the combination of this word and name, or, with no word, an entry or item of a column or set of this name.
+fn put_item<P: Sink>(
+    punch: &mut P,
+    rows: &[RowDecl],
+    word: &[u8],
+    name: Name,
+    item: DeckEntry,
+) -> Result<(), WriteStop>
+    requires { length word.now ≤ 2 }
     ensures { Writes (P.taken punch.old) (P.taken punch.new) result
-        (line (data_card (combination_text kind) name [] [])) }
+        (item_line (map (λ row. row.name) rows.now) word.now name item) }
 {
     let card = WrittenCard {
-        kind: combination_word(kind),
+        kind: word,
         name1: name.bytes(),
-        name2: b"",
-        value: b"",
+        name2: row_name(rows, item.row),
+        value: item.value.text(),
     };
     put_card(punch, card)
 }
 
-fn put_part<P: Sink>(
+fn put_items<P: Sink>(
     punch: &mut P,
     rows: &[RowDecl],
-    kind: RowKind,
+    word: &[u8],
     name: Name,
-    part: DeckEntry,
+    items: &[DeckEntry],
 ) -> Result<(), WriteStop>
+    requires { length word.now ≤ 2 }
     ensures { Writes (P.taken punch.old) (P.taken punch.new) result
-        (part_line (map (λ row. row.name) rows.now) kind name part) }
+        (flat_map (item_line (map (λ row. row.name) rows.now) word.now name) items.now) }
 {
-    let card = WrittenCard {
-        kind: combination_word(kind),
-        name1: name.bytes(),
-        name2: row_name(rows, part.row),
-        value: part.value.text(),
-    };
-    put_card(punch, card)
-}
-
-fn put_parts<P: Sink>(
-    punch: &mut P,
-    rows: &[RowDecl],
-    kind: RowKind,
-    name: Name,
-    parts: &[DeckEntry],
-) -> Result<(), WriteStop>
-    ensures { Writes (P.taken punch.old) (P.taken punch.new) result
-        (flat_map (part_line (map (λ row. row.name) rows.now) kind name) parts.now) }
-{
-    for part in parts {
-        put_part(punch, rows, kind, name, *part)?;
+    for item in items {
+        put_item(punch, rows, word, name, *item)?;
     }
     Ok(())
 }
@@ -139,9 +129,9 @@ fn put_combination<P: Sink>(
         (combination_lines (map (λ row. row.name) rows.now) kind name parts.now) }
 {
     if parts.is_empty() {
-        put_bare_combination(punch, kind, name)
+        put_bare_row(punch, combination_word(kind), name)
     } else {
-        put_parts(punch, rows, kind, name, parts)
+        put_items(punch, rows, combination_word(kind), name, parts)
     }
 }
 
@@ -150,7 +140,7 @@ fn put_row<P: Sink>(punch: &mut P, rows: &[RowDecl], row: &RowDecl) -> Result<()
         (row_lines (map (λ row. row.name) rows.now) row.now) }
 {
     match &row.parts {
-        None => put_plain_row(punch, row.kind, row.name),
+        None => put_bare_row(punch, row_kind_word(row.kind), row.name),
         Some(parts) => put_combination(punch, rows, row.kind, row.name, parts),
     }
 }
@@ -161,40 +151,6 @@ fn put_row_cards<P: Sink>(punch: &mut P, rows: &[RowDecl]) -> Result<(), WriteSt
 {
     for row in rows {
         put_row(punch, rows, row)?;
-    }
-    Ok(())
-}
-
-// An entry of a column, or an item of a set.
-fn put_entry<P: Sink>(
-    punch: &mut P,
-    rows: &[RowDecl],
-    name: Name,
-    entry: DeckEntry,
-) -> Result<(), WriteStop>
-    ensures { Writes (P.taken punch.old) (P.taken punch.new) result
-        (entry_line (map (λ row. row.name) rows.now) name entry) }
-{
-    let card = WrittenCard {
-        kind: b"",
-        name1: name.bytes(),
-        name2: row_name(rows, entry.row),
-        value: entry.value.text(),
-    };
-    put_card(punch, card)
-}
-
-fn put_entries<P: Sink>(
-    punch: &mut P,
-    rows: &[RowDecl],
-    name: Name,
-    entries: &[DeckEntry],
-) -> Result<(), WriteStop>
-    ensures { Writes (P.taken punch.old) (P.taken punch.new) result
-        (flat_map (entry_line (map (λ row. row.name) rows.now) name) entries.now) }
-{
-    for entry in entries {
-        put_entry(punch, rows, name, *entry)?;
     }
     Ok(())
 }
@@ -234,7 +190,7 @@ fn put_column<P: Sink>(
     if column.entries.is_empty() {
         put_zero(punch, rows, column.name)
     } else {
-        put_entries(punch, rows, column.name, &column.entries)
+        put_items(punch, rows, b"", column.name, &column.entries)
     }
 }
 
@@ -256,7 +212,7 @@ fn put_value_set<P: Sink>(punch: &mut P, rows: &[RowDecl], set: &ValueSet) -> Re
     ensures { Writes (P.taken punch.old) (P.taken punch.new) result
         (entry_lines (map (λ row. row.name) rows.now) set.now) }
 {
-    put_entries(punch, rows, set.name, &set.entries)
+    put_items(punch, rows, b"", set.name, &set.entries)
 }
 
 fn put_value_sets<P: Sink>(

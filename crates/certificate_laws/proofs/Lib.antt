@@ -1,3 +1,4 @@
 pub mod Products
 pub mod Meaning
 mod Whole
+pub mod Truth

@@ -8,16 +8,17 @@ use Rattle.std.proofs.lemmas.Fmt.{decimal_is_IsNumeral, parse-decimal, first_dec
 use Rattle.std.proofs.lemmas.Bool.{leb-true, le-leb}
 use Rattle.std.proofs.lemmas.Slice.Eq.{bytes_eq-Decides}
 use Rattle.clap.proofs.WalkLemmas.{both}
-use Rattle.command_line.specs.Sizes.{max_size, size_written}
+use Rattle.command_line.specs.declared.size.TheConstants.{MAX_SIZE}
+use Rattle.command_line.specs.Sizes.{size_written}
 
 -- the word is how this size is written
 pub record IsSize (word : List ℕ) (size : ℕ) : Type 0 where
   pub least : 1 ≤ size
-  pub most : size ≤ max_size
+  pub most : size ≤ MAX_SIZE
   pub digits : decimal size ≡ word
 
 abbrev tested : ℕ → List ℕ → Bool
-tested size word = nat_le 1 size && (nat_le size max_size && bytes_eq (decimal size) word)
+tested size word = nat_le 1 size && (nat_le size MAX_SIZE && bytes_eq (decimal size) word)
 
 both_hold : {a b : Bool} → a ≡ true → b ≡ true → (a && b) ≡ true
 both_hold p q = λ i. p i && q i
@@ -25,14 +26,14 @@ both_hold p q = λ i. p i && q i
 reported : (size : ℕ) (word : List ℕ) → tested size word ≡ true → IsSize word size
 reported size word e =
     let p = both (nat_le 1 size) _ e in
-    let q = both (nat_le size max_size) _ p.1 in
-    record { least = leb-true 1 size p.0; most = leb-true size max_size q.0; digits = (bytes_eq-Decides (decimal size) word).0 q.1 }
+    let q = both (nat_le size MAX_SIZE) _ p.1 in
+    record { least = leb-true 1 size p.0; most = leb-true size MAX_SIZE q.0; digits = (bytes_eq-Decides (decimal size) word).0 q.1 }
 
 value_is : {word : List ℕ} {size : ℕ} → IsSize word size → digits_value 10 word ≡ size
 value_is {word} {size} h = ap (digits_value 10) (sym h.digits) ∙ (decimal_is_IsNumeral size (omega (arith, h.most))).1
 
 passes : {word : List ℕ} {size : ℕ} → IsSize word size → tested size word ≡ true
-passes {word} {size} h = both_hold (le-leb 1 size h.least) (both_hold (le-leb size max_size h.most) ((bytes_eq-Decides (decimal size) word).1 h.digits))
+passes {word} {size} h = both_hold (le-leb 1 size h.least) (both_hold (le-leb size MAX_SIZE h.most) ((bytes_eq-Decides (decimal size) word).1 h.digits))
 
 pub written : {word : List ℕ} {size : ℕ} → IsSize word size → size_written word ≡ Some size
 written {word} {size} h = ap (λ n. if tested n word then Some n else None) (value_is h) ∙ ap (λ b. if b then Some size else None) (passes h)

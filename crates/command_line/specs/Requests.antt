@@ -4,14 +4,15 @@
 --     asked words          by all the words
 use Rattle.std.specs.Prelude.{ℕ, ◌==◌, ◌≤◌, Bool, true, false, List, [], ◌∷◌, Option, None, Some, if◌then◌else◌, codes, option_map}
 use Rattle.std.specs.Str.{bytes_eq}
-use Rattle.command_line.specs.Sizes.{max_size, size_written}
+use Rattle.command_line.specs.declared.size.TheConstants.{MAX_SIZE}
+use Rattle.command_line.specs.Sizes.{size_written}
 use Rattle.command_line.specs.declared.request.Request.{Request}
 use Rattle.command_line.specs.declared.request.Request.TheVariants.{Read, Make}
 
--- a job that is made has a size from 1 to 60
+-- a job that is made has a size from 1 to the greatest
 abbrev pub HasSize : Request → Type 0
 HasSize Read = Unit {0}
-HasSize (Make size) = (1 ≤ size) × (size ≤ max_size)
+HasSize (Make size) = (1 ≤ size) × (size ≤ MAX_SIZE)
 
 -- without the option the job is read; with it, it is made, if the value is a size
 abbrev pub asked_with : Option (List ℕ) → Option Request

@@ -4,12 +4,10 @@ use Rattle.std.specs.Prelude.{ℕ, ◌&&◌, List, Option, None, Some, if◌then
 use Rattle.std.specs.Fmt.{decimal}
 use Rattle.std.specs.Str.{bytes_eq}
 use Rattle.std.specs.Str.Parse.{digits_value}
+use Rattle.command_line.specs.declared.size.TheConstants.{MAX_SIZE}
 
-abbrev pub max_size : ℕ
-max_size = 60
-
--- A size goes from 1 to 60, and is written in decimal digits, without a sign or a leading zero.
+-- A size goes from 1 to the greatest, and is written in decimal digits, without a sign or a leading zero.
 abbrev pub size_written : List ℕ → Option ℕ
 size_written word =
     let size = digits_value 10 word in
-    if nat_le 1 size && (nat_le size max_size && bytes_eq (decimal size) word) then Some size else None
+    if nat_le 1 size && (nat_le size MAX_SIZE && bytes_eq (decimal size) word) then Some size else None

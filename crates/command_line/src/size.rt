@@ -1,6 +1,7 @@
 // The size of a generated job, as a word writes it.
 ghost use Rattle.std.specs.Prelude.{◌≡◌, ◌≤◌, IfSome};
-ghost use Rattle.command_line.specs.Sizes.{max_size, size_written};
+ghost use Rattle.command_line.specs.Sizes.{size_written};
+ghost use Rattle.command_line.specs.declared.size.TheConstants.{MAX_SIZE};
 
 use itoa::Buffer;
 
@@ -10,7 +11,7 @@ pub const MAX_SIZE: u32 = 60;
 /// The size that a word writes, if it does.
 pub fn size_of(word: &str) -> Option<u32>
     ensures size { result ≡ size_written word.now }
-    ensures range { IfSome result (λ size. (1 ≤ size) × (size ≤ max_size)) }
+    ensures range { IfSome result (λ size. (1 ≤ size) × (size ≤ MAX_SIZE)) }
 {
     let size = word.parse::<u32>().ok()?;
     if size == 0 || size > MAX_SIZE {

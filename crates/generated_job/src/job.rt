@@ -1,5 +1,5 @@
 // The whole job.
-ghost use Rattle.std.specs.Prelude.{◌≡◌, ◌≤◌, ◌<◌, IfOk};
+ghost use Rattle.std.specs.Prelude.{◌≡◌, ◌<◌, IfOk};
 ghost use Rattle.deck_definitions.specs.Written.{card_text};
 ghost use Rattle.deck_definitions.specs.Transport.{deck_fields, made_job, program_cards};
 ghost use Rattle.job_devices.specs.Text.{Writes};
@@ -46,8 +46,7 @@ fn put_job<P: Sink>(text: &mut P, n: u32) -> Result<(), WriteStop>
 
 /// The job of n sources and n destinations, each of which has or wants 10.
 pub fn make_job(alloc: Global, n: u32) -> Result<Vec<u8>, NoMemory>
-    requires least { 1 ≤ n }
-    requires most { n ≤ 60 }
+    requires { n < 1000 }
     ensures { IfOk result (λ job. job.items ≡ made_job n) }
 {
     let mut text = SureSink::new(alloc)?;

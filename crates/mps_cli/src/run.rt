@@ -11,7 +11,7 @@ ghost use Rattle.run_definitions.specs.Answer.{Job, Made, IsAnswered};
 ghost use Rattle.one_run_laws.specs.Laws.{IsAnsweredOnce};
 ghost use Rattle.soundness_laws.specs.Headline.{IsTrueAnswer};
 ghost use Rattle.determinism_laws.specs.Stands.{StandsAfter};
-ghost use Rattle.command_line.specs.Sizes.{max_size};
+ghost use Rattle.command_line.specs.declared.size.TheConstants.{MAX_SIZE};
 ghost use Rattle.command_line.specs.Requests.{HasSize};
 ghost use Rattle.command_line.specs.Requests as requests;
 ghost use Rattle.control_run.specs.Statuses.{code_of};
@@ -55,8 +55,7 @@ fn run_source<S: Source, P: Sink, U: Sink>(
 
 // A source of the generated job of a size.
 fn made_source(alloc: Global, size: u32) -> Result<SureSource, NoMemory>
-    requires least { 1 ≤ size }
-    requires most { size ≤ max_size }
+    requires { size ≤ MAX_SIZE }
     ensures { IfOk result (λ source. sure_left source ≡ made_job size) }
 {
     let job = make_job(alloc, size)?;
@@ -65,8 +64,7 @@ fn made_source(alloc: Global, size: u32) -> Result<SureSource, NoMemory>
 
 // Runs the generated job of a size. No source is read: it is as one that tells nothing and whose reads never fail.
 fn run_made<P: Sink, U: Sink>(alloc: Global, size: u32, print: &mut P, punch: &mut U) -> RunStatus
-    requires least { 1 ≤ size }
-    requires most { size ≤ max_size }
+    requires { size ≤ MAX_SIZE }
     ensures answer { let before = devices (untold_source 0)
         (P.taken print.old) (U.taken punch.old) in
         let after = devices (untold_source 0) (P.taken print.new) (U.taken punch.new) in

@@ -1,5 +1,4 @@
 -- A chain of intervals lands: each interval is read back and passes its test, and so does the close.
---     IsFine x rest judged         this is read, with this left, or an operation of a test is refused
 use Rattle.std.proofs.Common.{◌≡◌, ℕ, ◌+◌, ◌<◌, ◌≤◌, true, false, List, [], ◌∷◌, ◌++◌, length, map, Option, Some, None, codes, drop, if◌then◌else◌, refl, sym, ap, subst, ◌∙◌, ◌⊎◌, inl, inr, arith, append_assoc, append-nil}
 use Rattle.std.specs.Prelude.{All, nat_eq}
 use Rattle.std.specs.List.{flat_map, enumerate_from}
@@ -22,62 +21,45 @@ use Rattle.listing_definitions.specs.Numbers.{rational_text}
 use Rattle.listing_definitions.specs.Report.{ParametricInterval, ChainEnd, EndsAt, UnboundedPast, InfeasiblePast}
 use Rattle.listing_definitions.specs.Text.{solver_text, interval_text, chain_end_text, chain_text}
 use Rattle.question_definitions.specs.Answers.{Basis, Sheet, Changing, Row, Set, changing_name, parametric_solver, ParametricRun, OfParametricRun, ParametricRunEnd, Chained}
-use Rattle.answer_definitions.specs.ParametricRuns.{row_of, shifts_of, family_of, IsFace, sheet_at, interval_of, end_of, IsChained}
+use Rattle.answer_definitions.specs.ParametricRuns.{family_of, IsFace, sheet_at, interval_of, end_of, IsChained}
 use Rattle.soundness_laws.specs.ParametricRuns.{ChangesFreely}
 use Rattle.simplex_laws.specs.Laws.{IsNonsingularBasis}
 use Rattle.run_definitions.specs.State.{Present, present_basis, State}
 use Rattle.run_definitions.specs.Moves.{StatementOutcome}
 use Rattle.run_definitions.specs.Verbs.{after_parametric_run}
 use Rattle.run_definitions.specs.Run.{counted}
-use Rattle.parametric_laws.specs.Laws.{HasTrueRuns}
 use Rattle.parametric_laws.specs.Truth.{IsTruePart, AreLongPast, last_end, IsTrueEnd, IsTrueRun}
-use Rattle.parametric_laws.proofs.TrueRuns.{objective_runs, rhs_runs}
 use Rattle.control_definitions.specs.Cells.{steps_allowed}
-use Rattle.walk_definitions.specs.Checkers.{checker_of_128_bits}
+use Rattle.walk_definitions.specs.Checkers.{Checker}
 use Rattle.walk_definitions.specs.Words.{Parsed, left_after, max_count, fraction_in}
 use Rattle.walk_definitions.specs.Tables.{begins_table_line}
 use Rattle.walk_definitions.specs.Tests.{interval_test, close_test}
-use Rattle.walk_definitions.specs.Reading.{Judged, Right, Fails, Refuses, by_verdict, tested, judged_map, interval_in, close_in, Run, onward, part_in, run_in, parametric_run_head, parametric_run_in, judged}
+use Rattle.walk_definitions.specs.Reading.{Judged, Fails, by_verdict, unread, tested_or, judged_map, interval_in, close_in, Run, onward, part_in, run_in, parametric_run_head, parametric_run_in, judged}
 use Rattle.walk_definitions.specs.Walker.{Walker, answered}
 use Rattle.walk_definitions.proofs.Texts.{stands}
 use Rattle.own_listing_laws.specs.Laws.{IsNoFailure, chain_of}
 use Rattle.fitting_answers.specs.Fitting.{IntervalsFit, EndFits, LinesFit}
 use Rattle.own_listing_laws.specs.Printed.{IsEndOf, of_end, of_direction, of_ray}
 use Rattle.own_listing_laws.proofs.Sections.{interval_read, close_read}
+use Rattle.own_listing_laws.proofs.Suiting.{SuitsRuns}
 use Rattle.own_listing_laws.proofs.Tests.{Passes}
-use Rattle.own_listing_laws.proofs.Pace.{rebased, Lands}
-use Rattle.own_listing_laws.proofs.Openings.{ParametricRunLands}
+use Rattle.own_listing_laws.proofs.Pace.{rebased, RefusesTest, Lands}
+use Rattle.own_listing_laws.proofs.Openings.{IsFine, fine_right, fine_refused, fine_map, fine_tested, true_run, ParametricRunLands}
 use Rattle.own_listing_laws.proofs.Parts.{part_passes, IsKind, face_kind, close_passes}
-
-pub data IsFine {X : Type 0} (x : X) (rest : List ℕ) : Judged X → Type 0 where
-  fine_right : IsFine x rest (Right x rest)
-  fine_refused : IsFine x rest Refuses
-
-fine_map : {X Y : Type 0} (f : X → Y) (x : X) (rest : List ℕ) (j : Judged X) → IsFine x rest j → IsFine (f x) rest (judged_map f j)
-fine_map f x rest _ fine_right = fine_right
-fine_map f x rest _ fine_refused = fine_refused
-
-fine_tested : {X : Type 0} (test : X → Verdict) (x : X) (rest : List ℕ) → Passes (test x) → IsFine x rest (tested test (Some (x, rest)))
-fine_tested test x rest passes = by (test x) passes
-  where
-    by : (v : Verdict) → Passes v → IsFine x rest (by_verdict v x rest)
-    by Checked passes = fine_right
-    by (Failed part number) passes = absurd (passes.never part number refl)
-    by (Unchecked refused) passes = fine_refused
 
 -- ---- readers of the linear program at a value are those of the linear program
 
-same_interval_in : (sheet : Sheet) (changing : Changing) (theta : ℚ) (number : ℕ) (from : ℚ) (rest : List ℕ) →
-    interval_in (fraction_in checker_of_128_bits) sheet number from rest ≡ interval_in (fraction_in checker_of_128_bits)
+same_interval_in : (of : List ℕ → Option ℚ) (sheet : Sheet) (changing : Changing) (theta : ℚ) (number : ℕ) (from : ℚ) (rest : List ℕ) →
+    interval_in of sheet number from rest ≡ interval_in of
     (sheet_at sheet changing theta) number from rest
-same_interval_in sheet (Row name) theta number from rest = refl
-same_interval_in sheet (Set name) theta number from rest = refl
+same_interval_in of sheet (Row name) theta number from rest = refl
+same_interval_in of sheet (Set name) theta number from rest = refl
 
-same_close_in : (sheet : Sheet) (changing : Changing) (theta : ℚ) (rest : List ℕ) →
-    close_in (fraction_in checker_of_128_bits) sheet (parametric_solver changing) rest ≡ close_in (fraction_in checker_of_128_bits)
+same_close_in : (of : List ℕ → Option ℚ) (sheet : Sheet) (changing : Changing) (theta : ℚ) (rest : List ℕ) →
+    close_in of sheet (parametric_solver changing) rest ≡ close_in of
     (sheet_at sheet changing theta) (parametric_solver changing) rest
-same_close_in sheet (Row name) theta rest = refl
-same_close_in sheet (Set name) theta rest = refl
+same_close_in of sheet (Row name) theta rest = refl
+same_close_in of sheet (Set name) theta rest = refl
 
 is_end_of : (sheet : Sheet) (changing : Changing) (max : ℚ) (past : PastBreakpoint) → IsKind changing past →
     IsEndOf sheet (parametric_solver changing) (end_of sheet max past)
@@ -108,7 +90,7 @@ some_close (Set name) (InfeasiblePast value lines) more = omega arith
 later_number : (number : ℕ) → 0 < number → nat_eq (number + 1) 1 ≡ false
 later_number number some = grind (arith, nat_tests, some)
 
-module _ (problem : Problem ℕ) (lp : LinearProgram) (parametric_run : ParametricRun) (lawful : IsLinearProgram lp)
+module _ (C : Checker) (suits : SuitsRuns C) (problem : Problem ℕ) (lp : LinearProgram) (parametric_run : ParametricRun) (lawful : IsLinearProgram lp)
     (free : ChangesFreely (record { problem = problem; lp = lp }) parametric_run.changing) (more : List ℕ) (plain : begins_table_line more ≡ false) where
   abbrev sheet : Sheet
   sheet = record { problem = problem; lp = lp }
@@ -131,24 +113,19 @@ module _ (problem : Problem ℕ) (lp : LinearProgram) (parametric_run : Parametr
   close_fine : (room : List ℕ) (number : ℕ) (last : ℚ) (v : Vector) (past : PastBreakpoint) → 1 ≤ length room → nat_eq number 1 ≡ false →
       IsBest (family last) v → IsKind parametric_run.changing past →
       IsTrueEnd family parametric_run.to last past → EndFits (end_of first parametric_run.to past) →
-      IsFine ([], end_of first parametric_run.to past) more
-      (run_in checker_of_128_bits sheet parametric_run room number last (chain_end_text solver (end_of first parametric_run.to past) ++ more))
+      IsFine C ([], end_of first parametric_run.to past) more
+      (run_in C sheet parametric_run room number last (chain_end_text solver (end_of first parametric_run.to past) ++ more))
   close_fine [] number last v past some later best kind is fit = absurd (omega (arith, some))
   close_fine (byte ∷ room) number last v past some later best kind is fit =
-      subst (λ (o : Option (List ℕ)). IsFine ([], end) more
-      (part_in checker_of_128_bits sheet parametric_run (run_in checker_of_128_bits sheet parametric_run room (number + 1)) number last text o))
+      subst (λ (o : Option (List ℕ)). IsFine C ([], end) more
+      (part_in C sheet parametric_run (run_in C sheet parametric_run room (number + 1)) number last text o))
       (sym (no_interval parametric_run.changing end more))
-      (subst (λ b. IsFine ([], end) more
-      (if b then Fails else judged_map {Y = Run} (λ e. ([], e))
-      (tested (close_test checker_of_128_bits sheet parametric_run.changing parametric_run.to last)
-      (close_in (fraction_in checker_of_128_bits) sheet solver text)))) (sym later)
-      (fine_map {Y = Run} (λ e. ([], e)) end more
-      (tested (close_test checker_of_128_bits sheet parametric_run.changing parametric_run.to last)
-      (close_in (fraction_in checker_of_128_bits) sheet solver text))
-      (subst (λ (parsed : Parsed ChainEnd). IsFine end more
-      (tested (close_test checker_of_128_bits sheet parametric_run.changing parametric_run.to last) parsed)) (sym read)
-      (fine_tested (close_test checker_of_128_bits sheet parametric_run.changing parametric_run.to last) end more
-      (close_passes problem lp parametric_run.changing lawful free parametric_run.from parametric_run.to last v best past kind is)))))
+      (subst (λ b. IsFine C ([], end) more
+      (if b then Fails else judged_map {Y = Run} (λ e. ([], e)) (judges (close_in (fraction_in C) sheet solver text)))) (sym later)
+      (fine_map {Y = Run} C (λ e. ([], e)) end more (judges (close_in (fraction_in C) sheet solver text))
+      (subst (λ (parsed : Parsed ChainEnd). IsFine C end more (judges parsed)) (sym read)
+      (fine_tested C (close_test C sheet parametric_run.changing parametric_run.to last) end more
+      (close_passes C problem lp parametric_run.changing lawful free parametric_run.from parametric_run.to last v best past kind is)))))
     where
       end : ChainEnd
       end = end_of first parametric_run.to past
@@ -156,34 +133,43 @@ module _ (problem : Problem ℕ) (lp : LinearProgram) (parametric_run : Parametr
       text : List ℕ
       text = chain_end_text solver (end_of first parametric_run.to past) ++ more
 
-      read : close_in (fraction_in checker_of_128_bits) sheet solver (chain_end_text solver (end_of first parametric_run.to past) ++ more) ≡ Some
+      judges : Parsed ChainEnd → Judged ChainEnd
+      judges parsed =
+          tested_or (unread C (λ of. close_in of sheet solver) text) (close_test C sheet parametric_run.changing parametric_run.to last) parsed
+
+      read : close_in (fraction_in C) sheet solver (chain_end_text solver (end_of first parametric_run.to past) ++ more) ≡ Some
           (end_of first parametric_run.to past, more)
       read =
-          same_close_in sheet parametric_run.changing parametric_run.from (chain_end_text solver (end_of first parametric_run.to past) ++ more)
-          ∙ close_read first solver (end_of first parametric_run.to past) more (is_end_of first parametric_run.changing parametric_run.to past kind) fit plain
+          same_close_in (fraction_in C) sheet parametric_run.changing parametric_run.from (chain_end_text solver (end_of first parametric_run.to past) ++ more)
+          ∙ close_read (fraction_in C) suits.reads first solver (end_of first parametric_run.to past) more
+          (is_end_of first parametric_run.changing parametric_run.to past kind) fit plain
 
   -- ---- an interval, and what follows it
 
   part_fine : (byte : ℕ) (room : List ℕ) (number : ℕ) (last : ℚ) (part : Part) (rest : List ℕ) (run : Run) → part.from ≡ last →
-      Passes (interval_test checker_of_128_bits sheet parametric_run.changing (nat_eq number 1) parametric_run.to (interval_of first part)) →
+      Passes C (interval_test C sheet parametric_run.changing (nat_eq number 1) parametric_run.to (interval_of first part)) →
       TermsFit part.to → LinesFit (interval_of first part).lines →
-      IsFine run more (run_in checker_of_128_bits sheet parametric_run room (number + 1) part.to rest) →
-      IsFine (interval_of first part ∷ run.0, run.1) more
-      (run_in checker_of_128_bits sheet parametric_run (byte ∷ room) number last (interval_text (number, interval_of first part) ++ rest))
+      IsFine C run more (run_in C sheet parametric_run room (number + 1) part.to rest) →
+      IsFine C (interval_of first part ∷ run.0, run.1) more
+      (run_in C sheet parametric_run (byte ∷ room) number last (interval_text (number, interval_of first part) ++ rest))
   part_fine byte room number last part rest run begins passes fit lines_fit later =
-      subst (λ (o : Option (List ℕ)). IsFine (interval ∷ run.0, run.1) more (part_in checker_of_128_bits sheet parametric_run go number last text o))
+      subst (λ (o : Option (List ℕ)). IsFine C (interval ∷ run.0, run.1) more (part_in C sheet parametric_run go number last text o))
       (sym there)
-      (subst (λ (parsed : Parsed ParametricInterval). IsFine (interval ∷ run.0, run.1) more (onward go (tested test parsed))) (sym read)
+      (subst (λ (parsed : Parsed ParametricInterval). IsFine C (interval ∷ run.0, run.1) more (onward go (tested_or
+      (unread C reads text) test parsed))) (sym read)
       (by (test interval) passes))
     where
       interval : ParametricInterval
       interval = interval_of first part
 
       go : ℚ → List ℕ → Judged Run
-      go = run_in checker_of_128_bits sheet parametric_run room (number + 1)
+      go = run_in C sheet parametric_run room (number + 1)
 
       test : ParametricInterval → Verdict
-      test = interval_test checker_of_128_bits sheet parametric_run.changing (nat_eq number 1) parametric_run.to
+      test = interval_test C sheet parametric_run.changing (nat_eq number 1) parametric_run.to
+
+      reads : (List ℕ → Option ℚ) → List ℕ → Parsed ParametricInterval
+      reads of = interval_in of sheet number last
 
       text : List ℕ
       text = interval_text (number, interval_of first part) ++ rest
@@ -192,21 +178,23 @@ module _ (problem : Problem ℕ) (lp : LinearProgram) (parametric_run : Parametr
           (drop 9 (interval_text (number, interval_of first part) ++ rest))
       there = stands (codes "INTERVAL ") (drop 9 (interval_text (number, interval_of first part) ++ rest))
 
-      read : interval_in (fraction_in checker_of_128_bits) sheet number last (interval_text (number, interval_of first part) ++ rest) ≡ Some
+      read : interval_in (fraction_in C) sheet number last (interval_text (number, interval_of first part) ++ rest) ≡ Some
           (interval_of first part, rest)
       read =
-          same_interval_in sheet parametric_run.changing parametric_run.from number last (interval_text (number, interval_of first part) ++ rest)
-          ∙ ap (λ (x : ℚ). interval_in (fraction_in checker_of_128_bits) first number x (interval_text (number, interval_of first part) ++ rest)) (sym begins)
-          ∙ interval_read first number part rest fit lines_fit
+          same_interval_in (fraction_in C) sheet parametric_run.changing parametric_run.from number last (interval_text
+          (number, interval_of first part) ++ rest)
+          ∙ ap (λ (x : ℚ). interval_in (fraction_in C) first number x (interval_text (number, interval_of first part) ++ rest)) (sym begins)
+          ∙ interval_read (fraction_in C) suits.reads first number part rest fit lines_fit
 
-      by : (v : Verdict) → Passes v →
-          IsFine (interval_of first part ∷ run.0, run.1) more
-          (onward (run_in checker_of_128_bits sheet parametric_run room (number + 1)) (by_verdict v (interval_of first part) rest))
+      by : (v : Verdict) → Passes C v →
+          IsFine C (interval_of first part ∷ run.0, run.1) more
+          (onward (run_in C sheet parametric_run room (number + 1)) (by_verdict v (interval_of first part) rest))
       by Checked passes =
-          fine_map {Y = Run} (λ (r : Run). (interval_of first part ∷ r.0, r.1)) run more
-          (run_in checker_of_128_bits sheet parametric_run room (number + 1) part.to rest) later
-      by (Failed one two) passes = absurd (passes.never one two refl)
-      by (Unchecked refused) passes = fine_refused
+          fine_map {Y = Run} C (λ (r : Run). (interval_of first part ∷ r.0, r.1)) run more
+          (run_in C sheet parametric_run room (number + 1) part.to rest) later
+      by (Failed one two) passes = absurd passes.of
+      by (Unchecked refused) passes =
+          fine_refused (record { op = refused.op; left = refused.left; right = refused.right; refuses = passes.of })
 
   -- ---- the chain
 
@@ -234,8 +222,8 @@ module _ (problem : Problem ℕ) (lp : LinearProgram) (parametric_run : Parametr
 
   abbrev Fine : List ℕ → ℕ → ℚ → List Part → PastBreakpoint → Type 0
   Fine room number last parts past =
-      IsFine (run_of parts past) more
-      (run_in checker_of_128_bits sheet parametric_run room number last (body number parts (end_of first parametric_run.to past)))
+      IsFine C (run_of parts past) more
+      (run_in C sheet parametric_run room number last (body number parts (end_of first parametric_run.to past)))
 
   -- an interval before a run that is fine
   one_more : (room : List ℕ) (number : ℕ) (last : ℚ) (s : List Status) (part : Part) (parts : List Part) (past : PastBreakpoint) →
@@ -245,10 +233,10 @@ module _ (problem : Problem ℕ) (lp : LinearProgram) (parametric_run : Parametr
       Fine room number last (part ∷ parts) past
   one_more [] number last s part parts past enough is truth long fit lines_fit later = absurd (omega (arith, enough))
   one_more (byte ∷ room) number last s part parts past enough is truth long fit lines_fit later =
-      subst (λ (text : List ℕ). IsFine (run_of (part ∷ parts) past) more (run_in checker_of_128_bits sheet parametric_run (byte ∷ room) number last text))
+      subst (λ (text : List ℕ). IsFine C (run_of (part ∷ parts) past) more (run_in C sheet parametric_run (byte ∷ room) number last text))
       (sym (body_more number part parts (end_of first parametric_run.to past)))
       (part_fine byte room number last part (body (number + 1) parts (end_of first parametric_run.to past)) (run_of parts past) is.begins
-      (part_passes sheet parametric_run.changing lawful free parametric_run.to part truth last s is parametric_run.from (nat_eq number 1) long) fit lines_fit
+      (part_passes sheet parametric_run.changing lawful free parametric_run.to part truth last s is parametric_run.from C (nat_eq number 1) long) fit lines_fit
       (later room (omega (arith, enough))))
 
   pub chain_fine : (room : List ℕ) (number : ℕ) (last : ℚ) (s : List Status) (parts : List Part) (past : PastBreakpoint) (path : List (List Status)) →
@@ -304,12 +292,7 @@ same_end own (Set name) theta max AtMax = refl
 same_end own (Set name) theta max (PastUnbounded past z d) = refl
 same_end own (Set name) theta max (PastInfeasible past w) = refl
 
-true_run : (sheet : Sheet) (changing : Changing) → IsLinearProgram sheet.lp → ChangesFreely sheet changing →
-    HasTrueRuns sheet.lp (family_of sheet changing) (IsFace sheet changing)
-true_run sheet (Row name) lawful free = objective_runs sheet.lp (row_of sheet.problem name) lawful free.0 free.1
-true_run sheet (Set name) lawful free = rhs_runs sheet.lp (shifts_of sheet.problem name) lawful
-
-module _ (problem : Problem ℕ) (lp : LinearProgram) (parametric_run : ParametricRun) (lawful : IsLinearProgram lp)
+module _ (C : Checker) (suits : SuitsRuns C) (problem : Problem ℕ) (lp : LinearProgram) (parametric_run : ParametricRun) (lawful : IsLinearProgram lp)
     (free : ChangesFreely (record { problem = problem; lp = lp }) parametric_run.changing) (basis : Basis) (at : IsNonsingularBasis lp basis)
     (bases : List Basis) (intervals : List ParametricInterval) (end : ChainEnd) (more : List ℕ) where
   abbrev sheet_here : Sheet
@@ -319,15 +302,15 @@ module _ (problem : Problem ℕ) (lp : LinearProgram) (parametric_run : Parametr
   body_here = flat_map interval_text (enumerate_from 1 intervals) ++ (chain_end_text (parametric_solver parametric_run.changing) end ++ more)
 
   run_fine : IsChained sheet_here basis parametric_run bases intervals end → begins_table_line more ≡ false → IntervalsFit intervals → EndFits end →
-      IsFine (intervals, end) more (run_in checker_of_128_bits sheet_here parametric_run body_here 1 parametric_run.from body_here)
+      IsFine C (intervals, end) more (run_in C sheet_here parametric_run body_here 1 parametric_run.from body_here)
   run_fine chained plain fits end_fits =
-      subst (λ (is : List ParametricInterval). IsFine (is, end) more
-      (run_in checker_of_128_bits sheet_here parametric_run (text_of is end) 1 parametric_run.from (text_of is end))) (sym chained.are_intervals)
-      (subst (λ (e : ChainEnd). IsFine (all, e) more
-      (run_in checker_of_128_bits sheet_here parametric_run (text_of all e) 1 parametric_run.from (text_of all e))) (sym end_is)
-      (chain_fine problem lp parametric_run lawful free more plain (text_of all close) 1 parametric_run.from
+      subst (λ (is : List ParametricInterval). IsFine C (is, end) more
+      (run_in C sheet_here parametric_run (text_of is end) 1 parametric_run.from (text_of is end))) (sym chained.are_intervals)
+      (subst (λ (e : ChainEnd). IsFine C (all, e) more
+      (run_in C sheet_here parametric_run (text_of all e) 1 parametric_run.from (text_of all e))) (sym end_is)
+      (chain_fine C suits problem lp parametric_run lawful free more plain (text_of all close) 1 parametric_run.from
       (last_of basis chained.is_run.opening) chained.parts chained.past chained.is_run.faces
-      (room_enough problem lp parametric_run lawful free more plain 1 chained.parts close) (omega arith) chained.is_run.chain truth.intervals
+      (room_enough C suits problem lp parametric_run lawful free more plain 1 chained.parts close) (omega arith) chained.is_run.chain truth.intervals
       (first_long chained.parts) truth.long truth.closes
       (subst IntervalsFit chained.are_intervals fits) (subst EndFits end_is end_fits)))
     where
@@ -352,7 +335,7 @@ module _ (problem : Problem ℕ) (lp : LinearProgram) (parametric_run : Parametr
           true_run (record { problem = problem; lp = lp }) parametric_run.changing lawful free parametric_run.from parametric_run.to basis
           (Chain chained.parts chained.past) bases at chained.is_run
 
-      first_long : (parts : List Part) → IsLongEnough problem lp parametric_run lawful free more plain 1 parts
+      first_long : (parts : List Part) → IsLongEnough C suits problem lp parametric_run lawful free more plain 1 parts
       first_long [] = tt
       first_long (part ∷ parts) = inl refl
 
@@ -360,11 +343,11 @@ module _ (problem : Problem ℕ) (lp : LinearProgram) (parametric_run : Parametr
   pub answer_fine : (rest : List ℕ) → rest ≡ chain_text (parametric_solver parametric_run.changing) (chain_of parametric_run intervals end) ++ more →
       IsChained sheet_here basis parametric_run bases intervals end → begins_table_line more ≡ false →
       IntervalsFit intervals → EndFits end →
-      IsFine (Chained [] intervals end) more (judged checker_of_128_bits (OfParametricRun parametric_run) sheet_here rest)
+      IsFine C (Chained [] intervals end) more (judged C (OfParametricRun parametric_run) sheet_here rest)
   answer_fine rest is chained plain fits end_fits =
-      subst (λ (o : Option (List ℕ)). IsFine (Chained [] intervals end) more (parametric_run_in checker_of_128_bits sheet_here parametric_run rest o))
+      subst (λ (o : Option (List ℕ)). IsFine C (Chained [] intervals end) more (parametric_run_in C sheet_here parametric_run rest o))
       (sym head)
-      (fine_map f (intervals, end) more (run_in checker_of_128_bits sheet_here parametric_run body_here 1 parametric_run.from body_here)
+      (fine_map C f (intervals, end) more (run_in C sheet_here parametric_run body_here 1 parametric_run.from body_here)
       (run_fine chained plain fits end_fits))
     where
       f : Run → ParametricRunEnd
@@ -379,11 +362,12 @@ module _ (problem : Problem ℕ) (lp : LinearProgram) (parametric_run : Parametr
           ∙ stands (parametric_run_head parametric_run) body_here
 
 -- no test fails
-pub fine_passes : {X : Type 0} (x : X) (rest : List ℕ) (j : Judged X) → IsFine x rest j → IsNoFailure j
-fine_passes x rest _ fine_right = tt
-fine_passes x rest _ fine_refused = tt
+pub fine_passes : {X : Type 0} (C : Checker) (x : X) (rest : List ℕ) (j : Judged X) → IsFine C x rest j → IsNoFailure j
+fine_passes C x rest _ fine_right = tt
+fine_passes C x rest _ (fine_refused can) = tt
 
-module _ (w : Walker) (s : State) (opening : Basis) (steps : List Basis) (limits : steps_allowed s.cells ≤ max_count) (card : ℕ)
+module _ (C : Checker) (suits : SuitsRuns C) (w : Walker) (s : State) (opening : Basis) (steps : List Basis)
+    (limits : steps_allowed s.cells ≤ max_count) (card : ℕ)
     (parametric_run : ParametricRun) (present : Present) (lp : LinearProgram) (lawful : IsLinearProgram lp)
     (free : ChangesFreely (record { problem = present.problem; lp = lp }) parametric_run.changing) (at : IsNonsingularBasis lp (present_basis present)) where
   abbrev sheet_walked : Sheet
@@ -402,14 +386,14 @@ module _ (w : Walker) (s : State) (opening : Basis) (steps : List Basis) (limits
   own = after_parametric_run card parametric_run present (counted s)
 
   module _ (bases : List Basis) (intervals : List ParametricInterval) (end : ChainEnd) (more : List ℕ) where
-    fine_lands : (j : Judged ParametricRunEnd) → IsFine (Chained [] intervals end) more j →
-        Lands (own (Chained bases intervals end)) more (answered checker_of_128_bits w (OfParametricRun parametric_run) sheet_walked go j)
+    fine_lands : (j : Judged ParametricRunEnd) → IsFine C (Chained [] intervals end) more j →
+        Lands (RefusesTest C w) (own (Chained bases intervals end)) more (answered C w (OfParametricRun parametric_run) sheet_walked go j)
     fine_lands _ fine_right = record { like = record { opening = opening; steps = steps ++ []; is = refl; limits = limits }; is_rest = refl; waits = tt }
-    fine_lands _ fine_refused = tt
+    fine_lands _ (fine_refused can) = record { is_rest = refl; can = can }
 
     pub chain_lands : IsChained sheet_walked (present_basis present) parametric_run bases intervals end →
-        ParametricRunLands w s opening steps limits card parametric_run present lp (Chained bases intervals end) more
+        ParametricRunLands C suits w s opening steps limits card parametric_run present lp lawful free at (Chained bases intervals end) more
     chain_lands chained given =
-        fine_lands (judged checker_of_128_bits (OfParametricRun parametric_run) sheet_walked w.rest)
-        (answer_fine present.problem lp parametric_run lawful free
+        fine_lands (judged C (OfParametricRun parametric_run) sheet_walked w.rest)
+        (answer_fine C suits present.problem lp parametric_run lawful free
         (present_basis present) at bases intervals end more w.rest given.text chained given.plain given.fits.0 given.fits.1)

@@ -17,9 +17,9 @@ use Rattle.lp_laws.proofs.Duality.{infeasible_by_ray, unbounded_by_direction}
 use Rattle.lp_laws.proofs.Equations.{KeepsEquations-same}
 use Rattle.lp_laws.proofs.Rays.{limit_of_positive, limit_of_negative}
 use Rattle.check_definitions.specs.declared.Verdict.{Verdict}
-use Rattle.check_definitions.specs.Steps.{verdict_of, in_turn, sum_steps, sum_of}
+use Rattle.check_definitions.specs.Steps.{in_turn, sum_steps, sum_of}
 use Rattle.check_definitions.specs.Checks.{feasible_point, equations, free_direction, ray_columns, ray_limits, multiplied, limit_product}
-use Rattle.certificate_check.proofs.TrueClaims.{never_point, never_equations, never_free, never_columns, never_limits_met}
+use Rattle.certificate_laws.proofs.Truth.{sum_holds, point_holds, equations_hold, free_holds, columns_hold, limits_met_hold}
 use Rattle.certificate_laws.proofs.Meaning.{sum_of_met}
 use Rattle.certificate_laws.proofs.Products.{sum_of-all}
 use Rattle.sensitivity_laws.proofs.MovedLimits.{moved, lower_is, upper_is}
@@ -34,10 +34,10 @@ use Rattle.problem_definitions.specs.Names.{Name}
 use Rattle.problem_definitions.specs.Problem.{Problem}
 use Rattle.question_definitions.specs.Answers.{Sheet, Changing, Set}
 use Rattle.answer_definitions.specs.ParametricRuns.{shifts_of}
-use Rattle.walk_definitions.specs.Checkers.{checker_of_128_bits}
-use Rattle.walk_definitions.specs.Tests.{asked, making_steps, unbounded_past, shift_products, infeasible_past}
-use Rattle.own_listing_laws.proofs.Tests.{Passes, pass_none, pass_then, passes_steps, passes_asked, never_sum}
-use Rattle.own_listing_laws.proofs.Openings.{never_making}
+use Rattle.walk_definitions.specs.Checkers.{Checker}
+use Rattle.walk_definitions.specs.Tests.{asked, says, making_steps, unbounded_past, shift_products, infeasible_past}
+use Rattle.own_listing_laws.proofs.Tests.{Passes, pass_none, pass_then, pass_steps, passes_asked}
+use Rattle.own_listing_laws.proofs.Openings.{making_holds}
 
 -- ---- numbers
 
@@ -143,25 +143,24 @@ module _ (p : LinearProgram) (h : ℕ) (lawful : IsLinearProgram p) (row : IsRow
   improves : for_min p.sense (printed_direction h) <ℚ zero_ℚ
   improves = subst (λ (y : ℚ). y <ℚ zero_ℚ) (sym (ap (for_min p.sense) change_is)) at_end.1
 
-  pub unbounded_passes : (problem : Problem ℕ) (changed : Changing) →
-      Passes (unbounded_past checker_of_128_bits (record { problem = problem; lp = p }) changed h t printed_point printed_direction)
-  unbounded_passes problem changed =
-      (pass_then (verdict_of (feasible_point p printed_point)) _ (passes_steps _ (never_point p printed_point
+  pub unbounded_passes : (C : Checker) (problem : Problem ℕ) (changed : Changing) →
+      Passes C (unbounded_past C (record { problem = problem; lp = p }) changed h t printed_point printed_direction)
+  unbounded_passes C problem changed =
+      (pass_steps C (feasible_point p printed_point) _ (point_holds p printed_point
       (IsFeasible-same p (value_at point) printed_point (λ k is. sym (same point k is))
-      (record { keeps = proof.feasible.keeps; within = proof.feasible.within }))))
-      (pass_then (verdict_of (equations p 3 printed_direction)) _
-      (passes_steps _
-      (never_equations p 3 printed_direction
-      (KeepsEquations-same p.matrix (value_at direction) printed_direction (λ k is. sym (same direction k is)) proof.keeps)))
-      (pass_then (verdict_of (free_direction p printed_direction)) _ (passes_steps _ (never_free p printed_direction (record {
+      (record { keeps = proof.feasible.keeps; within = proof.feasible.within })))
+      (pass_steps C (equations p 3 printed_direction) _
+      (equations_hold p 3 printed_direction
+      (KeepsEquations-same p.matrix (value_at direction) printed_direction (λ k is. sym (same direction k is)) proof.keeps))
+      (pass_steps C (free_direction p printed_direction) _ (free_holds p printed_direction (record {
         falls = λ k is below. proof.falls k is (subst (λ (y : ℚ). y <ℚ zero_ℚ) (same direction k is) below);
         rises = λ k is above. proof.rises k is (subst (λ (y : ℚ). zero_ℚ <ℚ y) (same direction k is) above);
-      })))
-      (pass_then (verdict_of (sum_steps (printed_direction p.objective) (record { left = t; right = printed_direction h } ∷ []))) _
-      (passes_steps _ (never_sum (printed_direction p.objective) (record { left = t; right = printed_direction h } ∷ [])))
-      (pass_then (asked (le_ℚ (for_min p.sense (printed_direction p.objective +ℚ t *ℚ printed_direction h)) zero_ℚ)) _
-      (passes_asked _ (test_from_le _ _ not_worse))
-      (pass_then (asked (lt_ℚ (for_min p.sense (printed_direction h)) zero_ℚ)) [] (passes_asked _ (test_from_lt _ _ improves)) pass_none)))))).passes
+      }))
+      (pass_steps C (sum_steps (printed_direction p.objective) (record { left = t; right = printed_direction h } ∷ [])) _
+      (sum_holds (printed_direction p.objective) (record { left = t; right = printed_direction h } ∷ []))
+      (pass_then C (asked (le_ℚ (for_min p.sense (printed_direction p.objective +ℚ t *ℚ printed_direction h)) zero_ℚ)) _
+      (passes_asked C _ (test_from_le _ _ not_worse))
+      (pass_then C (asked (lt_ℚ (for_min p.sense (printed_direction h)) zero_ℚ)) [] (passes_asked C _ (test_from_lt _ _ improves)) (pass_none C))))))).passes
 
 -- ---- a ray
 
@@ -304,15 +303,17 @@ module _ (p : LinearProgram) (shift : List ℚ) (lawful : (theta : ℚ) → IsLi
   shift_sum : sum_of zero_ℚ (map (λ i. record { left = printed_ray i; right = value_at shift i }) (numbers_from 1 p.rows)) <ℚ zero_ℚ
   shift_sum = subst (λ (y : ℚ). y <ℚ zero_ℚ) (sym (sum_of-all (λ i. record { left = printed_ray i; right = value_at shift i }) p.rows)) at_end_too.1
 
-  pub infeasible_passes : (problem : Problem ℕ) (name : Name) → shifts_of problem name ≡ shift →
-      Passes (infeasible_past checker_of_128_bits (record { problem = problem; lp = p }) (Set name) shift t printed_ray)
-  infeasible_passes problem name is = subst (λ (own : LinearProgram). Passes (test_at own)) (ap (λ (own : List ℚ). rhs_family p own t) (sym is))
-      (pass_then _ _ (passes_steps _ (never_making sheet (Set name) t))
-      (pass_then (verdict_of (ray_columns here printed_ray)) _ (passes_steps _ (never_columns here (lawful t).is_matrix printed_ray later.vanishes))
-      (pass_then _ _ (passes_steps _ (never_limits_met here printed_ray (record { meets_upper = upper_here; meets_lower = lower_here })))
-      (pass_then (asked _) _ (passes_asked _ (test_from_le _ _ met_sum))
-      (pass_then _ _ (passes_steps _ (never_sum zero_ℚ (shift_products sheet (Set name) shift printed_ray)))
-      (pass_then (asked _) [] (passes_asked _ (test_from_lt _ _ shift_sum)) pass_none)))))).passes
+  pub infeasible_passes : (C : Checker) (problem : Problem ℕ) (name : Name) → shifts_of problem name ≡ shift →
+      Passes C (infeasible_past C (record { problem = problem; lp = p }) (Set name) shift t printed_ray)
+  infeasible_passes C problem name is = subst (λ (own : LinearProgram). Passes C (test_at own)) (ap (λ (own : List ℚ). rhs_family p own t) (sym is))
+      (pass_steps C (making_steps sheet (Set name) t) _ (making_holds sheet (Set name) t)
+      (pass_steps C (ray_columns here printed_ray) _ (columns_hold here (lawful t).is_matrix printed_ray later.vanishes)
+      (pass_steps C (ray_limits here printed_ray zero_ℚ (multiplied here printed_ray)) _
+      (limits_met_hold here printed_ray (record { meets_upper = upper_here; meets_lower = lower_here }))
+      (pass_then C (asked _) _ (passes_asked C _ (test_from_le _ _ met_sum))
+      (pass_steps C (sum_steps zero_ℚ (shift_products sheet (Set name) shift printed_ray)) _
+      (sum_holds zero_ℚ (shift_products sheet (Set name) shift printed_ray))
+      (pass_then C (asked _) [] (passes_asked C _ (test_from_lt _ _ shift_sum)) (pass_none C))))))).passes
     where
       sheet : Sheet
       sheet = record { problem = problem; lp = p }
@@ -322,8 +323,8 @@ module _ (p : LinearProgram) (shift : List ℚ) (lawful : (theta : ℚ) → IsLi
 
       test_at : LinearProgram → Verdict
       test_at own = in_turn (
-          verdict_of (making_steps sheet (Set name) t) ∷ verdict_of (ray_columns own printed_ray) ∷ verdict_of
+          says C (making_steps sheet (Set name) t) ∷ says C (ray_columns own printed_ray) ∷ says C
           (ray_limits own printed_ray zero_ℚ (multiplied own printed_ray)) ∷
           asked (le_ℚ (sum_of zero_ℚ (map (limit_product own printed_ray) (multiplied own printed_ray))) zero_ℚ) ∷
-          verdict_of (sum_steps zero_ℚ (shift_products sheet (Set name) shift printed_ray)) ∷ asked
+          says C (sum_steps zero_ℚ (shift_products sheet (Set name) shift printed_ray)) ∷ asked
           (lt_ℚ (sum_of zero_ℚ (shift_products sheet (Set name) shift printed_ray)) zero_ℚ) ∷ [])

@@ -1,14 +1,23 @@
--- The lists in which a path's end tells its vectors have a value for each variable.
+-- What a path's end tells: its lists have a value for each variable, and it is true, so each comparison of its check holds.
+--     claim_steps p ending         the steps of the check of an end
 use Rattle.std.proofs.Common.{◌≡◌, ℕ, List, length, Option, Some, None, refl, subst, arith}
 use Rattle.exact_values.specs.Rational.{ℚ}
-use Rattle.lp_definitions.specs.LinearProgram.{LinearProgram, Vector, size, IsVariable}
+use Rattle.lp_definitions.specs.LinearProgram.{LinearProgram, Vector, value_at, size, IsVariable, IsLinearProgram}
 use Rattle.lp_definitions.specs.declared.Status.{Status}
 use Rattle.lp_definitions.specs.Basis.{basics_of, Tableau, price_at}
+use Rattle.check_definitions.specs.Steps.{Step, AllHold}
+use Rattle.check_definitions.specs.Checks.{optimal_steps, crossed_steps, infeasible_steps, unbounded_steps}
+use Rattle.certificate_laws.proofs.Truth.{optimal_holds, crossed_holds, infeasible_holds, unbounded_holds}
 use Rattle.simplex_definitions.specs.Moves.{is_crossed, goes_up, blocking_variable, is_below}
-use Rattle.simplex_definitions.specs.Path.{PathEnding, EndsOptimal, EndsCrossed, EndsInfeasible, EndsUnbounded, Turn, Moves, Ends, listed, speeds, crossed, outside, worth_rate, entering_variable, restore_feasibility, run_until, improve, turn_for, turn}
+use Rattle.simplex_definitions.specs.Path.{PathEnding, EndsOptimal, EndsCrossed, EndsInfeasible, EndsUnbounded, EndsAt, Turn, Moves, Ends, listed, speeds, crossed, outside, worth_rate, entering_variable, restore_feasibility, run_until, improve, turn_for, turn}
 use Rattle.simplex_definitions.specs.DualPath.{dual_for, dual_turn}
 use Rattle.simplex_definitions.specs.DualRatio.{cheapest}
+use Rattle.simplex_laws.specs.Laws.{IsNonsingularBasis}
 use Rattle.simplex_laws.proofs.Numbered.{find_some}
+use Rattle.simplex_laws.proofs.Ends.{optimal_end}
+use Rattle.simplex_laws.proofs.UnboundedEnds.{crossed_end, unbounded_end}
+use Rattle.simplex_laws.proofs.Rays.{infeasible_end}
+use Rattle.parametric_laws.specs.Truth.{IsTrueFailure}
 use Rattle.own_listing_laws.proofs.Columns.{sized}
 
 module _ (p : LinearProgram) (s : List Status) (t : Tableau) where
@@ -79,3 +88,28 @@ module _ (p : LinearProgram) (s : List Status) (t : Tableau) where
   pub dual_never_unbounded : (z d : List ℚ) → dual_turn p s t ≡ Ends (EndsUnbounded z d) → ⊥
   unfolding dual_turn
   dual_never_unbounded z d e = subst NeverUnbounded e (dual_bounded (crossed p s t) (outside p s t))
+
+-- ---- what is checked of an end
+
+abbrev pub claim_steps : LinearProgram → PathEnding → List Step
+claim_steps p (EndsOptimal z y) = optimal_steps p (value_at z) (value_at y)
+claim_steps p (EndsCrossed k) = crossed_steps p k
+claim_steps p (EndsInfeasible w) = infeasible_steps p (value_at w)
+claim_steps p (EndsUnbounded z d) = unbounded_steps p (value_at z) (value_at d)
+
+pub end_holds : (p : LinearProgram) → IsLinearProgram p → (s : List Status) (ending : PathEnding) → IsNonsingularBasis p s → EndsAt p s ending →
+    AllHold (claim_steps p ending)
+end_holds p lawful s (EndsOptimal z y) at end =
+    let proved = optimal_end p s z y lawful at end in
+    optimal_holds p lawful.is_matrix (value_at z) (value_at y) proved.best.feasible proved.certificate
+end_holds p lawful s (EndsCrossed k) at end = crossed_holds p k (crossed_end p s k end)
+end_holds p lawful s (EndsInfeasible w) at end =
+    infeasible_holds p lawful.is_matrix (value_at w) (infeasible_end p s w at.is_basis at.nonsingular end)
+end_holds p lawful s (EndsUnbounded z d) at end = unbounded_holds p (value_at z) (value_at d) (unbounded_end p s z d lawful at.is_basis end)
+
+-- the end of an opening path that isn't optimal
+pub failure_holds : (p : LinearProgram) → IsLinearProgram p → (ending : PathEnding) → IsTrueFailure p ending → AllHold (claim_steps p ending)
+failure_holds p lawful (EndsOptimal z y) true_so = absurd true_so
+failure_holds p lawful (EndsCrossed k) true_so = crossed_holds p k true_so.0
+failure_holds p lawful (EndsInfeasible w) true_so = infeasible_holds p lawful.is_matrix (value_at w) true_so.ray
+failure_holds p lawful (EndsUnbounded z d) true_so = unbounded_holds p (value_at z) (value_at d) true_so.proof

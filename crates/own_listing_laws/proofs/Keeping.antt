@@ -1,14 +1,11 @@
 -- Along an interval of a parametric run a price that isn't 0 is that of a nonbasic, which stands at its limit at every value. So the prices
--- of both ends keep the limits of both, and the tests of an interval never fail.
+-- of both ends keep the limits of both, as the test of an interval asks.
 --     TiesLimits family a          where both limits of a variable are equal at one value, they are at every value
-use Rattle.std.proofs.Common.{◌≡◌, ℕ, Bool, true, List, ◌++◌, Option, Some, Less, Equal, Greater, if◌then◌else◌, refl, sym, ap, subst, ◌∙◌, arith}
+use Rattle.std.proofs.Common.{◌≡◌, ℕ, true, List, ◌++◌, Option, Some, if◌then◌else◌, refl, sym, ap, subst, ◌∙◌, arith}
 use Rattle.std.specs.List.{flat_map}
-use Rattle.std.specs.declared.cmp.Ordering.{Ordering}
 use Rattle.std.proofs.lemmas.Bool.{and_from}
-use Rattle.exact_values.specs.Rational.{ℚ, zero_ℚ, ◌≤ℚ◌, ◌<ℚ◌, compare_ℚ}
-use Rattle.exact_values.proofs.Compare.{lt_from_compare, gt_from_compare}
+use Rattle.exact_values.specs.Rational.{ℚ, zero_ℚ, ◌≤ℚ◌, ◌<ℚ◌}
 use Rattle.exact_values.proofs.Order.{lt_irrefl, le_refl}
-use Rattle.exact_values.proofs.TestsLaws.{test_from_same}
 use Rattle.lp_definitions.specs.declared.Sense.{Sense}
 use Rattle.lp_definitions.specs.declared.Status.{Status}
 use Rattle.lp_definitions.specs.declared.Status.TheVariants.{Bs, Ll, Ul, Fr}
@@ -16,27 +13,11 @@ use Rattle.lp_definitions.specs.LinearProgram.{Matrix, LinearProgram, Vector, si
 use Rattle.lp_definitions.specs.Basis.{is_in, is_basic, basics_of, status_of, StandsAt, IsAllowed, IsFixed, IsOptimalBasis, objective_rate}
 use Rattle.lp_laws.proofs.Optimal.{for_min-zero}
 use Rattle.lp_laws.proofs.Uniqueness.{is_in-basics_of}
-use Rattle.check_definitions.specs.Steps.{Step}
-use Rattle.check_definitions.specs.Checks.{is_at, by_sign}
-use Rattle.certificate_check.proofs.TrueClaims.{NeverFails}
+use Rattle.check_definitions.specs.Steps.{Step, AllHold}
+use Rattle.certificate_laws.proofs.Truth.{both_hold, all_hold, stands, sign_holds}
 use Rattle.simplex_definitions.specs.Chain.{Part, along, IsPart}
 use Rattle.parametric_laws.specs.Truth.{IsTruePart}
 use Rattle.walk_definitions.specs.Tests.{keeps_limit}
-use Rattle.own_listing_laws.proofs.Tests.{never-append, never_comparison, never_each}
-
--- ---- tests
-
-stands_there : (limit : Option ℚ) (v : ℚ) → limit ≡ Some v → is_at limit v ≡ true
-stands_there limit v e = ap (λ (o : Option ℚ). is_at o v) e ∙ test_from_same v v refl
-
-sign_holds : (x : ℚ) (negative positive : Bool) → (x <ℚ zero_ℚ → negative ≡ true) → (zero_ℚ <ℚ x → positive ≡ true) →
-    by_sign (compare_ℚ x zero_ℚ) negative positive ≡ true
-sign_holds x negative positive below above = at (compare_ℚ x zero_ℚ) (λ less. below (lt_from_compare less)) (λ greater. above (gt_from_compare greater))
-  where
-    at : (o : Ordering) → (o ≡ Less → negative ≡ true) → (o ≡ Greater → positive ≡ true) → by_sign o negative positive ≡ true
-    at Less less greater = less refl
-    at Equal less greater = refl
-    at Greater less greater = greater refl
 
 -- ---- a nonbasic stands at the same limit
 
@@ -110,12 +91,15 @@ module _ (family : ℚ → LinearProgram) (a : Matrix) (sense : Sense) (matrix_i
   abbrev keeps_at : ℚ → ℕ → List Step
   keeps_at theta k = keeps_limit (family part.from) (family part.to) (z part.from) (z part.to) (y theta k) k
 
-  at_first : (k : ℕ) → IsVariable a k → NeverFails (keeps_at part.from k)
-  at_first k var = never_comparison 6 k _ (sign_holds (for_min (family part.from).sense (y part.from k)) _ _
-      (λ negative. let both = upper_at_both part.from (le_refl part.from) truth.forward k var part.to (own_sense negative) in
-      and_from _ _ (stands_there (upper_of (family part.from) k) (z part.from k) both.0) (stands_there (upper_of (family part.to) k) (z part.to k) both.1))
-      (λ positive. let both = lower_at_both part.from (le_refl part.from) truth.forward k var part.to (own_positive positive) in
-      and_from _ _ (stands_there (lower_of (family part.from) k) (z part.from k) both.0) (stands_there (lower_of (family part.to) k) (z part.to k) both.1)))
+  at_first : (k : ℕ) → IsVariable a k → AllHold (keeps_at part.from k)
+  at_first k var = (
+    sign_holds (for_min (family part.from).sense (y part.from k)) _ _
+        (λ negative. let both = upper_at_both part.from (le_refl part.from) truth.forward k var part.to (own_sense negative) in
+        and_from _ _ (stands (upper_of (family part.from) k) (z part.from k) both.0) (stands (upper_of (family part.to) k) (z part.to k) both.1))
+        (λ positive. let both = lower_at_both part.from (le_refl part.from) truth.forward k var part.to (own_positive positive) in
+        and_from _ _ (stands (lower_of (family part.from) k) (z part.from k) both.0) (stands (lower_of (family part.to) k) (z part.to k) both.1)),
+    tt,
+  )
     where
       own_sense : for_min (family part.from).sense (y part.from k) <ℚ zero_ℚ → for_min sense (y part.from k) <ℚ zero_ℚ
       own_sense negative = subst (λ (own : Sense). for_min own (y part.from k) <ℚ zero_ℚ) (sense_is part.from) negative
@@ -123,12 +107,15 @@ module _ (family : ℚ → LinearProgram) (a : Matrix) (sense : Sense) (matrix_i
       own_positive : zero_ℚ <ℚ for_min (family part.from).sense (y part.from k) → zero_ℚ <ℚ for_min sense (y part.from k)
       own_positive positive = subst (λ (own : Sense). zero_ℚ <ℚ for_min own (y part.from k)) (sense_is part.from) positive
 
-  at_last : (k : ℕ) → IsVariable a k → NeverFails (keeps_at part.to k)
-  at_last k var = never_comparison 6 k _ (sign_holds (for_min (family part.from).sense (y part.to k)) _ _
-      (λ negative. let both = upper_at_both part.to truth.forward (le_refl part.to) k var part.from (own_sense negative) in
-      and_from _ _ (stands_there (upper_of (family part.from) k) (z part.from k) both.1) (stands_there (upper_of (family part.to) k) (z part.to k) both.0))
-      (λ positive. let both = lower_at_both part.to truth.forward (le_refl part.to) k var part.from (own_positive positive) in
-      and_from _ _ (stands_there (lower_of (family part.from) k) (z part.from k) both.1) (stands_there (lower_of (family part.to) k) (z part.to k) both.0)))
+  at_last : (k : ℕ) → IsVariable a k → AllHold (keeps_at part.to k)
+  at_last k var = (
+    sign_holds (for_min (family part.from).sense (y part.to k)) _ _
+        (λ negative. let both = upper_at_both part.to truth.forward (le_refl part.to) k var part.from (own_sense negative) in
+        and_from _ _ (stands (upper_of (family part.from) k) (z part.from k) both.1) (stands (upper_of (family part.to) k) (z part.to k) both.0))
+        (λ positive. let both = lower_at_both part.to truth.forward (le_refl part.to) k var part.from (own_positive positive) in
+        and_from _ _ (stands (lower_of (family part.from) k) (z part.from k) both.1) (stands (lower_of (family part.to) k) (z part.to k) both.0)),
+    tt,
+  )
     where
       own_sense : for_min (family part.from).sense (y part.to k) <ℚ zero_ℚ → for_min sense (y part.to k) <ℚ zero_ℚ
       own_sense negative = subst (λ (own : Sense). for_min own (y part.to k) <ℚ zero_ℚ) (sense_is part.from) negative
@@ -136,6 +123,6 @@ module _ (family : ℚ → LinearProgram) (a : Matrix) (sense : Sense) (matrix_i
       own_positive : zero_ℚ <ℚ for_min (family part.from).sense (y part.to k) → zero_ℚ <ℚ for_min sense (y part.to k)
       own_positive positive = subst (λ (own : Sense). zero_ℚ <ℚ for_min own (y part.to k)) (sense_is part.from) positive
 
-  pub never_keeping : NeverFails (flat_map (λ k. keeps_at part.from k ++ keeps_at part.to k) (variables a))
-  never_keeping = never_each (λ k. keeps_at part.from k ++ keeps_at part.to k) 1 (size a) (λ k low high.
-      never-append (keeps_at part.from k) (keeps_at part.to k) (at_first k (low, omega (arith, high))) (at_last k (low, omega (arith, high))))
+  pub keeping_holds : AllHold (flat_map (λ k. keeps_at part.from k ++ keeps_at part.to k) (variables a))
+  keeping_holds = all_hold (λ k. keeps_at part.from k ++ keeps_at part.to k) 1 (size a) (λ k low high.
+      both_hold (keeps_at part.from k) (keeps_at part.to k) (at_first k (low, omega (arith, high))) (at_last k (low, omega (arith, high))))

@@ -4,6 +4,7 @@ mod Claims
 mod Sections
 mod Columns
 mod Ended
+mod Suiting
 mod Tests
 mod Stops
 mod Pace

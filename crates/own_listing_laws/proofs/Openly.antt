@@ -5,7 +5,7 @@ use Rattle.std.specs.Option.{option_or}
 use Rattle.lp_definitions.specs.LinearProgram.{LinearProgram, size, numbers_from}
 use Rattle.lp_definitions.specs.Basis.{is_basic, status_of}
 use Rattle.lp_laws.proofs.Opening.{length-numbers_from}
-use Rattle.walk_definitions.specs.Checkers.{checker_of_128_bits}
+use Rattle.walk_definitions.specs.Checkers.{Checker}
 use Rattle.walk_definitions.specs.Words.{max_count}
 use Rattle.own_listing_laws.proofs.Counted.{filter_short}
 use Rattle.card_definitions.specs.Cards.{Card, live}
@@ -24,7 +24,7 @@ use Rattle.walk_definitions.specs.Forms.{is_open_stop, is_ranges, is_punched, is
 use Rattle.walk_definitions.specs.Walker.{Walker, Found, open_if, open_stop, open_pending, open_question, answered}
 use Rattle.walk_definitions.specs.Reading.{judged}
 use Rattle.own_listing_laws.proofs.Stops.{ranges_stand, punched_stands, inserted_stands, open_singular}
-use Rattle.own_listing_laws.proofs.Pace.{rebased, Lands, IsFollowed, IsDue, may_stop, asked_lands, never_stopped}
+use Rattle.own_listing_laws.proofs.Pace.{rebased, Lands, RefusesTest, IsFollowed, IsDue, may_stop, asked_lands, never_stopped}
 
 -- what stands there is open
 stands_open : (w : Walker) (b : Bool) (o : Option Found) → b ≡ true → option_or (open_stop w) (option_or (open_if b w) o) ≡ None → ⊥
@@ -41,7 +41,7 @@ alone_open w b is none = by (open_stop w) (ap (λ c. option_or (open_stop w) (op
     by None e = cc e
     by (Some found) e = cc e
 
-module _ (w : Walker) (s : State) (opening : Basis) (steps : List Basis) (card : ℕ) (present : Present) (lp : LinearProgram) where
+module _ (C : Checker) (w : Walker) (s : State) (opening : Basis) (steps : List Basis) (card : ℕ) (present : Present) (lp : LinearProgram) where
   abbrev sheet : Sheet
   sheet = record { problem = present.problem; lp = lp }
 
@@ -54,11 +54,11 @@ module _ (w : Walker) (s : State) (opening : Basis) (steps : List Basis) (card :
   abbrev ranges_at : State → RangeLines → StatementOutcome
   ranges_at state lines = next (Prints (Ranges lines)) (counted state)
 
-  pub ranges_followed : IsFollowed w card (asks OfRanges sheet set_up (ranges_at walked)) (asks OfRanges sheet present (ranges_at s))
+  pub ranges_followed : IsFollowed C w card (asks OfRanges sheet set_up (ranges_at walked)) (asks OfRanges sheet present (ranges_at s))
   ranges_followed =
-      may_stop w card (Asks OfRanges sheet (present_basis set_up) (ranges_at walked)) (Asks OfRanges sheet (present_basis present) (ranges_at s))
+      may_stop C w card (Asks OfRanges sheet (present_basis set_up) (ranges_at walked)) (Asks OfRanges sheet (present_basis present) (ranges_at s))
       (InAnswer OfRanges sheet (path_of set_up)) (InAnswer OfRanges sheet (path_of present)) tt
-      (asked_lands w card OfRanges sheet (present_basis set_up) (present_basis present) (ranges_at walked) (ranges_at s)
+      (asked_lands C w card OfRanges sheet (present_basis set_up) (present_basis present) (ranges_at walked) (ranges_at s)
       (λ small answer more right given none. absurd (alone_open w (is_ranges w.rest) (ap is_ranges given.text ∙ ranges_stand answer more) none)))
 
   abbrev punch_at : State → List (List ℕ) → StatementOutcome
@@ -67,9 +67,10 @@ module _ (w : Walker) (s : State) (opening : Basis) (steps : List Basis) (card :
   least_count : (n : ℕ) → min n 4294967295 ≤ 4294967295
   least_count n = omega arith
 
-  pub punch_followed : IsFollowed w card (Asks OfPunch sheet (present_basis set_up) (punch_at walked)) (Asks OfPunch sheet (present_basis present) (punch_at s))
+  pub punch_followed : IsFollowed C w card (Asks OfPunch sheet (present_basis set_up) (punch_at walked)) (Asks OfPunch sheet (present_basis present)
+      (punch_at s))
   punch_followed =
-      asked_lands w card OfPunch sheet (present_basis set_up) (present_basis present) (punch_at walked) (punch_at s) (λ small answer more right given none.
+      asked_lands C w card OfPunch sheet (present_basis set_up) (present_basis present) (punch_at walked) (punch_at s) (λ small answer more right given none.
       absurd (alone_open w (is_punched present.problem.name w.rest)
       (ap (is_punched present.problem.name) given.text
       ∙ punched_stands present.problem.name (min (length answer) max_counted) more (least_count (length answer))) none))
@@ -81,11 +82,11 @@ module _ (w : Walker) (s : State) (opening : Basis) (steps : List Basis) (card :
     abbrev install_own : InstallEnd → StatementOutcome
     install_own = after_install card lp t taken present (counted s)
 
-    pub install_followed : IsFollowed w card (asks (OfInstall t) sheet set_up install_go) (asks (OfInstall t) sheet present install_own)
+    pub install_followed : IsFollowed C w card (asks (OfInstall t) sheet set_up install_go) (asks (OfInstall t) sheet present install_own)
     install_followed =
-        may_stop w card (Asks (OfInstall t) sheet (present_basis set_up) install_go) (Asks (OfInstall t) sheet (present_basis present) install_own)
+        may_stop C w card (Asks (OfInstall t) sheet (present_basis set_up) install_go) (Asks (OfInstall t) sheet (present_basis present) install_own)
         (InAnswer (OfInstall t) sheet (path_of set_up)) (InAnswer (OfInstall t) sheet (path_of present)) tt
-        (asked_lands w card (OfInstall t) sheet (present_basis set_up) (present_basis present) install_go install_own lands)
+        (asked_lands C w card (OfInstall t) sheet (present_basis set_up) (present_basis present) install_go install_own lands)
       where
         few_basic : length (basic_columns lp t) ≤ max_count
         few_basic =
@@ -98,11 +99,11 @@ module _ (w : Walker) (s : State) (opening : Basis) (steps : List Basis) (card :
 
         lands : card ≤ max_count → (answer : InstallEnd) (more : List ℕ) → IsRight linear_programming (OfInstall t) sheet (present_basis present) answer →
             IsDue w (install_own answer) more → open_question w (OfInstall t) sheet install_go ≡ None →
-            Lands (install_own answer) more
-            (answered checker_of_128_bits w (OfInstall t) sheet install_go (judged checker_of_128_bits (OfInstall t) sheet w.rest))
+            Lands (RefusesTest C w) (install_own answer) more
+            (answered C w (OfInstall t) sheet install_go (judged C (OfInstall t) sheet w.rest))
         lands small Installed more right given none =
             absurd (stands_open w (is_inserted name w.rest) (open_pending w)
             (ap (is_inserted name) given.text ∙ inserted_stands name (length (basic_columns lp t)) more few_basic) none)
         lands small (DependsBy lines) more right given none =
-            absurd (never_stopped w card (OfInstall t) sheet (present_basis set_up) (present_basis present) install_go install_own none
+            absurd (never_stopped C w card (OfInstall t) sheet (present_basis set_up) (present_basis present) install_go install_own none
             (ap is_open_stop (given.text ∙ given.ends) ∙ open_singular _ small))

@@ -3,9 +3,10 @@
 --     IsLike v s                   the state of the walk, and that of the run
 --     WaitsFor pending s           an optimal verdict that is pending is that of the present basis
 --     KeepsPace w s more           the walk keeps pace with a run that has come to a state
---     Lands outcome more turn      what a turn of the walk may come to, where the run comes to this
---     IsMatched w card walked run  a move of the walk lands so, where this is the move of the run
-use Rattle.std.proofs.Common.{◌≡◌, ◌≤◌, ℕ, Bool, true, false, not, ◌||◌, List, [], ◌++◌, length, Option, Some, None, Result, Ok, Err, if◌then◌else◌, refl, sym, ap, subst, ◌∙◌, inl, inr, append-nil}
+--     IsRightly Refused found      what is found isn't wrong, and an operation is refused only where this holds
+--     Lands Refused outcome ..     what a turn of the walk may come to, where the run comes to this
+--     IsMatched C w card ..        a move of the walk lands so, where this is the move of the run
+use Rattle.std.proofs.Common.{◌≡◌, ◌≤◌, ℕ, Bool, true, false, not, ◌||◌, List, [], ◌++◌, length, Option, Some, None, Result, Ok, Err, if◌then◌else◌, refl, sym, ap, subst, ◌∙◌, ◌⊎◌, inl, inr, append-nil}
 use Rattle.std.specs.Prelude.{is_none}
 use Rattle.std.specs.Option.{option_or}
 use Rattle.lp_definitions.specs.LinearProgram.{LinearProgram, value_at}
@@ -31,12 +32,12 @@ use Rattle.run_definitions.specs.State.{Present, present_basis, State}
 use Rattle.run_definitions.specs.Moves.{Gain, Nothing, Prints, Punches, printed_by, gain_text, StatementOutcome, Goes, Ends, gain_of, stops, Refusals, InSelection, InAnswer, StatementMove, Does, MayStop, Asks, Shows, Gives, or_fault}
 use Rattle.run_definitions.specs.Verbs.{or_deck_fault, or_selection_fault, selects}
 use Rattle.control_definitions.specs.Cells.{steps_allowed}
-use Rattle.walk_definitions.specs.Checkers.{checker_of_128_bits}
+use Rattle.walk_definitions.specs.Checkers.{Checker}
 use Rattle.walk_definitions.specs.Words.{left_after, max_count}
 use Rattle.walk_definitions.specs.Forms.{is_open_stop, is_ranges, is_punched}
 use Rattle.walk_definitions.specs.Tables.{begins_table_line}
 use Rattle.walk_definitions.specs.Reading.{judged}
-use Rattle.walk_definitions.specs.Walker.{Pending, Walker, Found, Open, Unchecked, WalkTurn, Walks, Finds, open_if, open_stop, pending_found, open_pending, open_outcome, is_inserted_by, open_question, opened, refuses_selection, ended, unless_found, closes, follows, passed, taken, answered, due, walk_move}
+use Rattle.walk_definitions.specs.Walker.{Pending, Walker, Found, Attested, Wrong, Open, Unchecked, WalkTurn, Walks, Finds, open_if, open_stop, pending_found, open_pending, open_outcome, is_inserted_by, open_question, opened, refuses_selection, ended, unless_found, closes, follows, passed, taken, answered, due, walk_move}
 use Rattle.walk_definitions.proofs.Texts.{stands}
 use Rattle.fitting_answers.specs.Fitting.{GainFits, EvidenceFits}
 use Rattle.fitting_answers.specs.Real.{linear_programming_of_128_bits}
@@ -45,6 +46,7 @@ use Rattle.selection_definitions.specs.Refusals.{IsSelectionRefusal}
 use Rattle.selection_definitions.proofs.Making.{made_iff}
 use Rattle.lp_definitions.specs.declared.Evidence.{Evidence}
 use Rattle.own_listing_laws.specs.Laws.{IsNotWrong}
+use Rattle.own_listing_laws.proofs.Suiting.{CanRefuse}
 use Rattle.own_listing_laws.proofs.Stops.{open_overflow}
 
 -- ---- states
@@ -86,19 +88,46 @@ pub record KeepsPace (w : Walker) (s : State) (more : List ℕ) : Type 0 where
 
 -- ---- turns
 
-abbrev pub Lands : StatementOutcome → List ℕ → WalkTurn → Type 0
-Lands outcome more (Finds found) = IsNotWrong found
-Lands (Goes gain after) more (Walks v) = KeepsPace v after more
-Lands (Ends gain ending) more (Walks v) = ⊥
+-- what is found isn't wrong, and that an operation is refused is found only where this holds
+abbrev pub IsRightly : (List ℕ → Type 0) → Found → Type 0
+IsRightly Refused (Attested count) = Unit {0}
+IsRightly Refused (Wrong rest) = ⊥
+IsRightly Refused (Open rest) = Unit {0}
+IsRightly Refused (Unchecked rest) = Refused rest
 
--- found, and not wrong
-abbrev pub IsFoundRight : WalkTurn → Type 0
-IsFoundRight (Walks v) = ⊥
-IsFoundRight (Finds found) = IsNotWrong found
+pub rightly_more : (Refused More : List ℕ → Type 0) → ((rest : List ℕ) → Refused rest → More rest) → (found : Found) → IsRightly Refused found →
+    IsRightly More found
+rightly_more Refused More more (Attested count) right = tt
+rightly_more Refused More more (Wrong rest) right = right
+rightly_more Refused More more (Open rest) right = tt
+rightly_more Refused More more (Unchecked rest) right = more rest right
 
-pub lands_right : (outcome : StatementOutcome) (more : List ℕ) (turn : WalkTurn) → IsFoundRight turn → Lands outcome more turn
-lands_right outcome more (Walks v) right = absurd right
-lands_right outcome more (Finds found) right = right
+pub rightly_not_wrong : (Refused : List ℕ → Type 0) (found : Found) → IsRightly Refused found → IsNotWrong found
+rightly_not_wrong Refused (Attested count) right = tt
+rightly_not_wrong Refused (Wrong rest) right = right
+rightly_not_wrong Refused (Open rest) right = tt
+rightly_not_wrong Refused (Unchecked rest) right = tt
+
+abbrev pub Lands : (List ℕ → Type 0) → StatementOutcome → List ℕ → WalkTurn → Type 0
+Lands Refused outcome more (Finds found) = IsRightly Refused found
+Lands Refused (Goes gain after) more (Walks v) = KeepsPace v after more
+Lands Refused (Ends gain ending) more (Walks v) = ⊥
+
+pub lands_more : (Refused More : List ℕ → Type 0) → ((rest : List ℕ) → Refused rest → More rest) → (outcome : StatementOutcome) (more : List ℕ)
+    (turn : WalkTurn) → Lands Refused outcome more turn → Lands More outcome more turn
+lands_more Refused More weaker outcome more (Finds found) lands = rightly_more Refused More weaker found lands
+lands_more Refused More weaker (Goes gain after) more (Walks v) lands = lands
+lands_more Refused More weaker (Ends gain ending) more (Walks v) lands = lands
+
+-- found, and rightly
+abbrev pub IsFoundRight : (List ℕ → Type 0) → WalkTurn → Type 0
+IsFoundRight Refused (Walks v) = ⊥
+IsFoundRight Refused (Finds found) = IsRightly Refused found
+
+pub lands_right : (Refused : List ℕ → Type 0) (outcome : StatementOutcome) (more : List ℕ) (turn : WalkTurn) → IsFoundRight Refused turn →
+    Lands Refused outcome more turn
+lands_right Refused outcome more (Walks v) right = absurd right
+lands_right Refused outcome more (Finds found) right = right
 
 abbrev pub EndsSo : StatementOutcome → List ℕ → Type 0
 EndsSo (Goes gain after) more = Unit {0}
@@ -111,32 +140,39 @@ pub record IsDue (w : Walker) (outcome : StatementOutcome) (more : List ℕ) : T
   pub fits : GainFits (gain_of outcome)
   pub ends : EndsSo outcome more
 
--- ---- what is open is never wrong
+-- ---- what is found open
 
-abbrev IsNeverWrong : Option Found → Type 0
-IsNeverWrong None = Unit {0}
-IsNeverWrong (Some found) = IsNotWrong found
+abbrev IsOpened : Option Found → Type 0
+IsOpened None = Unit {0}
+IsOpened (Some (Open rest)) = Unit {0}
+IsOpened (Some found) = ⊥
 
-never_either : (a b : Option Found) → IsNeverWrong a → IsNeverWrong b → IsNeverWrong (option_or a b)
+opened_rightly : (Refused : List ℕ → Type 0) (found : Found) → IsOpened (Some found) → IsRightly Refused found
+opened_rightly Refused (Attested count) never = tt
+opened_rightly Refused (Wrong rest) never = never
+opened_rightly Refused (Open rest) never = tt
+opened_rightly Refused (Unchecked rest) never = absurd never
+
+never_either : (a b : Option Found) → IsOpened a → IsOpened b → IsOpened (option_or a b)
 never_either None b first second = second
 never_either (Some found) b first second = first
 
-never_if : (stands : Bool) (w : Walker) → IsNeverWrong (open_if stands w)
+never_if : (stands : Bool) (w : Walker) → IsOpened (open_if stands w)
 never_if true w = tt
 never_if false w = tt
 
-never_pending : (pending : Option Pending) → IsNeverWrong (pending_found pending)
+never_pending : (pending : Option Pending) → IsOpened (pending_found pending)
 never_pending None = tt
 never_pending (Some pending) = tt
 
-never_unmarked : (b : Bool) (pending : Option Pending) → IsNeverWrong (if b then pending_found pending else None)
+never_unmarked : (b : Bool) (pending : Option Pending) → IsOpened (if b then pending_found pending else None)
 never_unmarked true pending = never_pending pending
 never_unmarked false pending = tt
 
-never_stop : (w : Walker) → IsNeverWrong (open_stop w)
+never_stop : (w : Walker) → IsOpened (open_stop w)
 never_stop w = never_if (is_open_stop w.rest) w
 
-never_outcome : (w : Walker) (outcome : StatementOutcome) → IsNeverWrong (open_outcome w outcome)
+never_outcome : (w : Walker) (outcome : StatementOutcome) → IsOpened (open_outcome w outcome)
 never_outcome w (Ends gain ending) = never_either (open_stop w) (open_pending w) (never_stop w) (never_pending w.pending)
 never_outcome w (Goes Nothing after) = never_unmarked (is_none after.mark) w.pending
 never_outcome w (Goes (Prints report) after) =
@@ -145,7 +181,7 @@ never_outcome w (Goes (Punches report cards) after) =
     never_either (open_stop w) (if is_none after.mark then open_pending w else None) (never_stop w) (never_unmarked (is_none after.mark) w.pending)
 
 never_question : (w : Walker) (question : Question) (sheet : Sheet) (go : AnswerTo question → StatementOutcome) →
-    IsNeverWrong (open_question w question sheet go)
+    IsOpened (open_question w question sheet go)
 never_question w (OfSolution mark) sheet go = never_stop w
 never_question w OfRanges sheet go = never_either (open_stop w) (open_if (is_ranges w.rest) w) (never_stop w) (never_if (is_ranges w.rest) w)
 never_question w OfPunch sheet go =
@@ -157,7 +193,7 @@ never_question w (OfInstall basis) sheet go =
 never_question w (OfPath solver limit) sheet go = never_either (open_stop w) (open_pending w) (never_stop w) (never_pending w.pending)
 never_question w (OfParametricRun parametric_run) sheet go = never_either (open_stop w) (open_pending w) (never_stop w) (never_pending w.pending)
 
-never_opened : (w : Walker) (move : StatementMove) → IsNeverWrong (opened w move)
+never_opened : (w : Walker) (move : StatementMove) → IsOpened (opened w move)
 never_opened w (Does outcome) = never_outcome w outcome
 never_opened w (MayStop refusals move) = never_opened w move
 never_opened w (Asks question sheet s go) = never_question w question sheet go
@@ -182,15 +218,16 @@ stays_marked w (Punches report cards) after p is none =
 
 -- ---- ends and reports
 
-pub closes_right : (u : Walker) (ending : Ending) → u.rest ≡ ending_text ending → IsFoundRight (closes u ending)
-closes_right u ending is = by (option_or (open_stop u) (open_pending u)) (never_either (open_stop u) (open_pending u) (never_stop u) (never_pending u.pending))
+pub closes_right : (Refused : List ℕ → Type 0) (u : Walker) (ending : Ending) → u.rest ≡ ending_text ending → IsFoundRight Refused (closes u ending)
+closes_right Refused u ending is =
+    by (option_or (open_stop u) (open_pending u)) (never_either (open_stop u) (open_pending u) (never_stop u) (never_pending u.pending))
   where
     whole : left_after (ending_text ending) u.rest ≡ Some []
     whole = ap (left_after (ending_text ending)) (is ∙ sym (append-nil (ending_text ending))) ∙ stands (ending_text ending) []
 
-    by : (o : Option Found) → IsNeverWrong o → IsFoundRight (unless_found o (Finds (ended u (left_after (ending_text ending) u.rest))))
-    by (Some found) never = never
-    by None never = subst (λ left. IsFoundRight (Finds (ended u left))) (sym whole) tt
+    by : (o : Option Found) → IsOpened o → IsFoundRight Refused (unless_found o (Finds (ended u (left_after (ending_text ending) u.rest))))
+    by (Some found) never = opened_rightly Refused found never
+    by None never = subst (λ left. IsFoundRight Refused (Finds (ended u left))) (sym whole) tt
 
 -- the two go on alike, or end so
 abbrev pub AreAlike : StatementOutcome → StatementOutcome → Type 0
@@ -202,13 +239,13 @@ abbrev pub WaitsAfter : Option Pending → StatementOutcome → Type 0
 WaitsAfter pending (Goes gain after) = WaitsAt pending after
 WaitsAfter pending (Ends gain ending) = Unit {0}
 
-pub follows_lands : (u : Walker) (walked run : StatementOutcome) (more : List ℕ) → AreAlike walked run → u.rest ≡ more → EndsSo run more →
-    WaitsAfter u.pending run → Lands run more (follows u walked)
-follows_lands u (Goes gain after) (Goes own other) more alike is ends waits = record { like = alike.1; is_rest = is; waits = waits }
-follows_lands u (Ends gain ending) (Ends own other) more alike is ends waits =
-    lands_right (Ends own other) more (closes u ending) (closes_right u ending (is ∙ ends ∙ ap ending_text (sym alike.1)))
-follows_lands u (Goes gain after) (Ends own other) more alike is ends waits = absurd alike
-follows_lands u (Ends gain ending) (Goes own other) more alike is ends waits = absurd alike
+pub follows_lands : (Refused : List ℕ → Type 0) (u : Walker) (walked run : StatementOutcome) (more : List ℕ) → AreAlike walked run → u.rest ≡ more →
+    EndsSo run more → WaitsAfter u.pending run → Lands Refused run more (follows u walked)
+follows_lands Refused u (Goes gain after) (Goes own other) more alike is ends waits = record { like = alike.1; is_rest = is; waits = waits }
+follows_lands Refused u (Ends gain ending) (Ends own other) more alike is ends waits =
+    lands_right Refused (Ends own other) more (closes u ending) (closes_right Refused u ending (is ∙ ends ∙ ap ending_text (sym alike.1)))
+follows_lands Refused u (Goes gain after) (Ends own other) more alike is ends waits = absurd alike
+follows_lands Refused u (Ends gain ending) (Goes own other) more alike is ends waits = absurd alike
 
 gain_alike : (walked run : StatementOutcome) → AreAlike walked run → gain_of walked ≡ gain_of run
 gain_alike (Goes gain after) (Goes own other) alike = alike.0
@@ -230,10 +267,23 @@ shown_fits question sheet bases e place shown = shown.1
 
 -- ---- moves
 
-module _ (w : Walker) where
+or_true : (b : Bool) → (b || true) ≡ true
+or_true true = refl
+or_true false = refl
+
+module _ (C : Checker) (w : Walker) where
+  -- where the walk stands an operation is refused: of a test, or of a selection of the move
+  pub record RefusesTest (rest : List ℕ) : Type 0 where
+    pub is_rest : w.rest ≡ rest
+    pub can : CanRefuse C
+
+  pub record RefusesMove (move : StatementMove) (rest : List ℕ) : Type 0 where
+    pub is_rest : w.rest ≡ rest
+    pub why : (refuses_selection move ≡ true) ⊎ CanRefuse C
+
   pub record IsMatched (card : ℕ) (walked run : StatementMove) : Type 0 where
     pub by : (outcome : StatementOutcome) (more : List ℕ) → Gives linear_programming_of_128_bits card run outcome → IsDue w outcome more →
-        Lands outcome more (walk_move checker_of_128_bits w walked)
+        Lands (RefusesMove walked) outcome more (walk_move C w walked)
 
   -- and it looks for stop texts first
   pub record IsFollowed (card : ℕ) (walked run : StatementMove) : Type 0 where
@@ -244,47 +294,66 @@ module _ (w : Walker) where
   stop_first o is = ap (λ b. option_or (open_if b w) o) is
 
   opened_lands : (outcome : StatementOutcome) (more : List ℕ) (walked : StatementMove) → opened w walked ≡ Some (Open w.rest) →
-      Lands outcome more (walk_move checker_of_128_bits w walked)
+      Lands (RefusesMove walked) outcome more (walk_move C w walked)
   opened_lands outcome more walked is =
-      subst (λ (o : Option Found). Lands outcome more
-      (unless_found o (if refuses_selection walked then Finds (Unchecked w.rest) else due checker_of_128_bits w walked))) (sym is) tt
+      subst (λ (o : Option Found). Lands (RefusesMove walked) outcome more
+      (unless_found o (if refuses_selection walked then Finds (Unchecked w.rest) else due C w walked))) (sym is) tt
 
   -- ---- an operation may be refused
 
   module _ (card : ℕ) (walked run : StatementMove) (refusals others : Refusals) (alike : AreAlikeRefused refusals others)
       (followed : IsFollowed card walked run) where
-    refused_too : (outcome : StatementOutcome) (more : List ℕ) (o : Option Found) (refused other : Bool) (turn : WalkTurn) →
-        Lands outcome more (unless_found o (if other then Finds (Unchecked w.rest) else turn)) →
-        Lands outcome more (unless_found o (if refused || other then Finds (Unchecked w.rest) else turn))
-    refused_too outcome more (Some found) refused other turn lands = lands
-    refused_too outcome more None true other turn lands = tt
-    refused_too outcome more None false other turn lands = lands
+    refused_too : (Refused : List ℕ → Type 0) (outcome : StatementOutcome) (more : List ℕ) (o : Option Found) (refused other : Bool) (turn : WalkTurn) →
+        (refused ≡ true → Refused w.rest) → Lands Refused outcome more (unless_found o (if other then Finds (Unchecked w.rest) else turn)) →
+        Lands Refused outcome more (unless_found o (if refused || other then Finds (Unchecked w.rest) else turn))
+    refused_too Refused outcome more (Some found) refused other turn why lands = lands
+    refused_too Refused outcome more None true other turn why lands = why refl
+    refused_too Refused outcome more None false other turn why lands = lands
 
-    stops_too : (outcome : StatementOutcome) (more : List ℕ) → Lands outcome more (walk_move checker_of_128_bits w walked) → (r : Refusals) →
-        Lands outcome more (walk_move checker_of_128_bits w (MayStop r walked))
+    of_selection : (problem : Problem ℕ) (choice : Choice) (b : Bool) → is_made problem choice ≡ b → not b ≡ true →
+        RefusesMove (MayStop (InSelection problem choice) walked) w.rest
+    of_selection problem choice b is unmade =
+        record { is_rest = refl; why = inl (ap (λ c. not c || refuses_selection walked) is ∙ ap (λ c. c || refuses_selection walked) unmade) }
+
+    still_refused : (r : Refusals) (rest : List ℕ) → RefusesMove walked rest → RefusesMove (MayStop r walked) rest
+    still_refused (InSelection problem choice) rest refused = record { is_rest = refused.is_rest; why = by refused.why }
+      where
+        by : (refuses_selection walked ≡ true) ⊎ CanRefuse C → (refuses_selection (MayStop (InSelection problem choice) walked) ≡ true) ⊎ CanRefuse C
+        by (inl e) = inl (ap (λ b. not (is_made problem choice) || b) e ∙ or_true (not (is_made problem choice)))
+        by (inr can) = inr can
+    still_refused (InAnswer question sheet bases) rest refused = record { is_rest = refused.is_rest; why = refused.why }
+
+    stops_too : (outcome : StatementOutcome) (more : List ℕ) → Lands (RefusesMove walked) outcome more (walk_move C w walked) → (r : Refusals) →
+        Lands (RefusesMove (MayStop r walked)) outcome more (walk_move C w (MayStop r walked))
     stops_too outcome more lands (InSelection problem choice) =
-        refused_too outcome more (opened w walked) (not (is_made problem choice)) (refuses_selection walked) (due checker_of_128_bits w walked) lands
-    stops_too outcome more lands (InAnswer question sheet bases) = lands
+        refused_too (RefusesMove (MayStop (InSelection problem choice) walked)) outcome more (opened w walked) (not (is_made problem choice))
+        (refuses_selection walked) (due C w walked) (of_selection problem choice (is_made problem choice) refl)
+        (lands_more (RefusesMove walked) (RefusesMove (MayStop (InSelection problem choice) walked)) (still_refused (InSelection problem choice)) outcome more
+        (walk_move C w walked) lands)
+    stops_too outcome more lands (InAnswer question sheet bases) =
+        lands_more (RefusesMove walked) (RefusesMove (MayStop (InAnswer question sheet bases) walked)) (still_refused (InAnswer question sheet bases))
+        outcome more (walk_move C w walked) lands
 
     -- where an operation of a selection is refused, the walk finds just that
     refused_lands : (problem : Problem ℕ) (choice : Choice) (e : Evidence) → IsSelectionRefusal problem choice e →
         (outcome : StatementOutcome) (more : List ℕ) →
-        Lands outcome more (walk_move checker_of_128_bits w (MayStop (InSelection problem choice) walked))
+        Lands (RefusesMove (MayStop (InSelection problem choice) walked)) outcome more (walk_move C w (MayStop (InSelection problem choice) walked))
     refused_lands problem choice e refused outcome more =
-        by (is_made problem choice) (λ is. (made_iff problem choice).0 is e refused) (opened w walked) (never_opened w walked)
+        by (is_made problem choice) refl (λ is. (made_iff problem choice).0 is e refused) (opened w walked) (never_opened w walked)
       where
-        by : (made : Bool) → (made ≡ true → ⊥) → (o : Option Found) → IsNeverWrong o →
-            Lands outcome more (unless_found o (if not made || refuses_selection walked then Finds (Unchecked w.rest) else due checker_of_128_bits w walked))
-        by true unmade o never = absurd (unmade refl)
-        by false unmade (Some found) never = never
-        by false unmade None never = tt
+        by : (made : Bool) → is_made problem choice ≡ made → (made ≡ true → ⊥) → (o : Option Found) → IsOpened o →
+            Lands (RefusesMove (MayStop (InSelection problem choice) walked)) outcome more
+            (unless_found o (if not made || refuses_selection walked then Finds (Unchecked w.rest) else due C w walked))
+        by true is unmade o never = absurd (unmade refl)
+        by false is unmade (Some found) never = opened_rightly (RefusesMove (MayStop (InSelection problem choice) walked)) found never
+        by false is unmade None never = of_selection problem choice false is refl
 
     shown_lands : card ≤ max_count → (outcome : StatementOutcome) (more : List ℕ) (evidence : Evidence) (place : Option Place) →
         outcome ≡ stops (OverflowStop (record { evidence = evidence; place = place; card = card })) → IsDue w outcome more →
         (r : Refusals) → AreAlikeRefused refusals r → Shows linear_programming_of_128_bits r evidence place →
-        Lands outcome more (walk_move checker_of_128_bits w (MayStop refusals walked))
+        Lands (RefusesMove (MayStop refusals walked)) outcome more (walk_move C w (MayStop refusals walked))
     shown_lands small outcome more evidence place is given (InSelection problem choice) same shown =
-        subst (λ (q : Refusals). Lands outcome more (walk_move checker_of_128_bits w (MayStop q walked))) (sym same)
+        subst (λ (q : Refusals). Lands (RefusesMove (MayStop q walked)) outcome more (walk_move C w (MayStop q walked))) (sym same)
         (refused_lands problem choice evidence shown.0 outcome more)
     shown_lands small outcome more evidence place is given (InAnswer question sheet bases) same shown =
         let own : Overflow = record { evidence = evidence; place = place; card = card } in
@@ -296,7 +365,7 @@ module _ (w : Walker) where
     may_stop = record { matched = λ small. record { by = lands small }; looks = followed.looks }
       where
         lands : card ≤ max_count → (outcome : StatementOutcome) (more : List ℕ) → Gives linear_programming_of_128_bits card (MayStop others run) outcome →
-            IsDue w outcome more → Lands outcome more (walk_move checker_of_128_bits w (MayStop refusals walked))
+            IsDue w outcome more → Lands (RefusesMove (MayStop refusals walked)) outcome more (walk_move C w (MayStop refusals walked))
         lands small outcome more (inl gives) given = stops_too outcome more ((followed.matched small).by outcome more gives given) refusals
         lands small outcome more (inr (evidence, place, shown, is)) given = shown_lands small outcome more evidence place is given others alike shown
 
@@ -304,23 +373,23 @@ module _ (w : Walker) where
 
   module _ (card : ℕ) (walked run : StatementOutcome) (alike : AreAlike walked run) (waits : open_outcome w walked ≡ None → WaitsAfter w.pending run) where
     taken_lands : (more : List ℕ) → IsDue w run more → open_outcome w walked ≡ None →
-        Lands run more (taken w walked (left_after (gain_text (gain_of walked)) w.rest))
+        Lands (RefusesMove (Does walked)) run more (taken w walked (left_after (gain_text (gain_of walked)) w.rest))
     taken_lands more given none =
         let there : left_after (gain_text (gain_of walked)) w.rest ≡ Some more =
         ap (λ (gain : Gain). left_after (gain_text gain) w.rest) (gain_alike walked run alike) ∙ ap (left_after (gain_text (gain_of run))) given.text
         ∙ stands (gain_text (gain_of run)) more in
-        subst (λ (left : Option (List ℕ)). Lands run more (taken w walked left)) (sym there)
-        (follows_lands (passed more (length (printed_by (gain_of walked))) w) walked run more alike refl given.ends (waits none))
+        subst (λ (left : Option (List ℕ)). Lands (RefusesMove (Does walked)) run more (taken w walked left)) (sym there)
+        (follows_lands (RefusesMove (Does walked)) (passed more (length (printed_by (gain_of walked))) w) walked run more alike refl given.ends (waits none))
 
-    does_by : (more : List ℕ) → IsDue w run more → (o : Option Found) → open_outcome w walked ≡ o → IsNeverWrong o →
-        Lands run more (unless_found o (taken w walked (left_after (gain_text (gain_of walked)) w.rest)))
-    does_by more given (Some found) is never = never
+    does_by : (more : List ℕ) → IsDue w run more → (o : Option Found) → open_outcome w walked ≡ o → IsOpened o →
+        Lands (RefusesMove (Does walked)) run more (unless_found o (taken w walked (left_after (gain_text (gain_of walked)) w.rest)))
+    does_by more given (Some found) is never = opened_rightly (RefusesMove (Does walked)) found never
     does_by more given None is never = taken_lands more given is
 
     pub does : IsMatched card (Does walked) (Does run)
     does = record {
       by = λ outcome more gives given.
-          subst (λ (o : StatementOutcome). Lands o more (walk_move checker_of_128_bits w (Does walked))) (sym gives)
+          subst (λ (o : StatementOutcome). Lands (RefusesMove (Does walked)) o more (walk_move C w (Does walked))) (sym gives)
           (does_by more (subst (λ (o : StatementOutcome). IsDue w o more) gives given) (open_outcome w walked) refl (never_outcome w walked));
     }
 
@@ -386,7 +455,7 @@ module _ (w : Walker) where
 
   module _ (card : ℕ) (question : Question) (sheet : Sheet) (s t : Basis) (go own : AnswerTo question → StatementOutcome) where
     abbrev pub LandsAnswered : AnswerTo question → List ℕ → Type 0
-    LandsAnswered answer more = Lands (own answer) more (answered checker_of_128_bits w question sheet go (judged checker_of_128_bits question sheet w.rest))
+    LandsAnswered answer more = Lands RefusesTest (own answer) more (answered C w question sheet go (judged C question sheet w.rest))
 
     pub asked_lands :
         (card ≤ max_count → (answer : AnswerTo question) (more : List ℕ) → IsRight linear_programming question sheet t answer → IsDue w (own answer) more →
@@ -395,18 +464,24 @@ module _ (w : Walker) where
     asked_lands lands = record {
       matched = λ small. record {
         by = λ outcome more (answer, right, is) given.
-            subst (λ (o : StatementOutcome). Lands o more (walk_move checker_of_128_bits w (Asks question sheet s go))) (sym is)
+            subst (λ (o : StatementOutcome). Lands (RefusesMove (Asks question sheet s go)) o more (walk_move C w (Asks question sheet s go))) (sym is)
             (by small answer more (right_too question sheet t answer right) (subst (λ (o : StatementOutcome). IsDue w o more) is given)
             (open_question w question sheet go) refl (never_question w question sheet go));
       };
       looks = question_looks question sheet go;
     }
       where
+        as_move : (rest : List ℕ) → RefusesTest rest → RefusesMove (Asks question sheet s go) rest
+        as_move rest refused = record { is_rest = refused.is_rest; why = inr refused.can }
+
         by : card ≤ max_count → (answer : AnswerTo question) (more : List ℕ) → IsRight linear_programming question sheet t answer → IsDue w (own answer) more →
-            (o : Option Found) → open_question w question sheet go ≡ o → IsNeverWrong o →
-            Lands (own answer) more (unless_found o (answered checker_of_128_bits w question sheet go (judged checker_of_128_bits question sheet w.rest)))
-        by small answer more right given (Some what) is never = never
-        by small answer more right given None is never = lands small answer more right given is
+            (o : Option Found) → open_question w question sheet go ≡ o → IsOpened o →
+            Lands (RefusesMove (Asks question sheet s go)) (own answer) more
+            (unless_found o (answered C w question sheet go (judged C question sheet w.rest)))
+        by small answer more right given (Some what) is never = opened_rightly (RefusesMove (Asks question sheet s go)) what never
+        by small answer more right given None is never =
+            lands_more RefusesTest (RefusesMove (Asks question sheet s go)) as_move (own answer) more
+            (answered C w question sheet go (judged C question sheet w.rest)) (lands small answer more right given is)
 
     -- a stop text is open
     pub never_stopped : open_question w question sheet go ≡ None → is_open_stop w.rest ≡ true → ⊥

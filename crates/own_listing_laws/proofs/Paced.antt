@@ -39,7 +39,9 @@ use Rattle.soundness_laws.proofs.ChangeRow.{changes_freely, row_named, set_named
 use Rattle.soundness_laws.proofs.Moves.{HasProblem, EndsOptimally, Knows}
 use Rattle.soundness_laws.proofs.Ends.{IsProvedBest, reported_is_best}
 use Rattle.selection_laws.proofs.Selected.{selected_is_lawful}
+use Rattle.walk_definitions.specs.Checkers.{Checker}
 use Rattle.walk_definitions.specs.Walker.{Pending, Walker}
+use Rattle.own_listing_laws.proofs.Suiting.{SuitsRuns}
 use Rattle.own_listing_laws.proofs.Pace.{rebased, IsLike, WaitsFor, WaitsAt, IsMatched, IsFollowed, does, does_stop, prints_looks, punches_looks, waits_on, unless_fault, unless_no_setup, unless_deck_fault, unless_selection_fault, selecting}
 use Rattle.own_listing_laws.proofs.Paths.{IsPathSolver, path_followed}
 use Rattle.own_listing_laws.proofs.Views.{reported_followed}
@@ -120,7 +122,8 @@ best_here s present lp set is lawful knows mark marked optimal t tab =
     ((knows.bases present set).in_each s.cells.xobj s.cells.xrhs lp is)
     (selected_is_lawful present.problem (choice_of s.cells present.options) lp (lawful present set) is)
 
-module _ (w : Walker) (s : State) (opening : Basis) (steps : List Basis) (limits : steps_allowed s.cells ≤ max_count) (waits : WaitsAt w.pending s)
+module _ (C : Checker) (suits : SuitsRuns C) (w : Walker) (s : State) (opening : Basis) (steps : List Basis)
+    (limits : steps_allowed s.cells ≤ max_count) (waits : WaitsAt w.pending s)
     (lawful : HasProblem s.setup) (knows : Knows s) where
   abbrev walked : State
   walked = record s { setup = rebased opening steps s.setup }
@@ -131,111 +134,114 @@ module _ (w : Walker) (s : State) (opening : Basis) (steps : List Basis) (limits
 
   -- the run goes on, with other cells or a setup
   goes : (card : ℕ) (gain : Gain) (after own : State) → IsLike after own → (is_none after.mark ≡ false → WaitsAt w.pending own) →
-      IsMatched w card (Does (Goes gain after)) (Does (Goes gain own))
+      IsMatched C w card (Does (Goes gain after)) (Does (Goes gain own))
   goes card gain after own like still =
-      does w card (Goes gain after) (Goes gain own) (refl, like)
-      (λ none. waits_on w gain after own.setup own.cells.xobj own.cells.xrhs w.pending refl none still)
+      does C w card (Goes gain after) (Goes gain own) (refl, like)
+      (λ none. waits_on C w gain after own.setup own.cells.xobj own.cells.xrhs w.pending refl none still)
 
   prints : (card : ℕ) (report : Report) (after own : State) → IsLike after own → (is_none after.mark ≡ false → WaitsAt w.pending own) →
-      IsFollowed w card (Does (Goes (Prints report) after)) (Does (Goes (Prints report) own))
-  prints card report after own like still = record { matched = λ small. goes card (Prints report) after own like still; looks = prints_looks w report after }
+      IsFollowed C w card (Does (Goes (Prints report) after)) (Does (Goes (Prints report) own))
+  prints card report after own like still = record { matched = λ small. goes card (Prints report) after own like still; looks = prints_looks C w report after }
 
   punched : (card : ℕ) (report : Report) (cards : List (List ℕ)) (after own : State) → IsLike after own → (is_none after.mark ≡ false → WaitsAt w.pending own) →
-      IsFollowed w card (Does (Goes (Punches report cards) after)) (Does (Goes (Punches report cards) own))
+      IsFollowed C w card (Does (Goes (Punches report cards) after)) (Does (Goes (Punches report cards) own))
   punched card report cards after own like still =
-      record { matched = λ small. goes card (Punches report cards) after own like still; looks = punches_looks w report cards after }
+      record { matched = λ small. goes card (Punches report cards) after own like still; looks = punches_looks C w report cards after }
 
   -- ---- problems
 
   files_followed : (card : ℕ) (report : Filed → Report) (decks : List (List Card)) (problem : Problem ℕ) →
-      IsFollowed w card (files report decks (counted walked) problem) (files report decks (counted s) problem)
+      IsFollowed C w card (files report decks (counted walked) problem) (files report decks (counted s) problem)
   files_followed card report decks problem =
       prints card (report (size_of problem)) _ _ (record { opening = []; steps = []; is = refl; limits = limits }) (λ stands. absurd (cc stands))
 
-  converts_followed : (card : ℕ) → IsFollowed w card (converts card (counted walked)) (converts card (counted s))
+  converts_followed : (card : ℕ) → IsFollowed C w card (converts card (counted walked)) (converts card (counted s))
   converts_followed card =
-      unless_fault w {X = List Card × List (List Card)} card VerbFault.DeckNotFound (deck_taken s.cells.xdata s.decks) _ _ (λ taken e.
-      unless_deck_fault w card (conversion taken.0 s.cells.xpbname) (files Converted taken.1 (counted walked)) (files Converted taken.1 (counted s))
+      unless_fault C w {X = List Card × List (List Card)} card VerbFault.DeckNotFound (deck_taken s.cells.xdata s.decks) _ _ (λ taken e.
+      unless_deck_fault C w card (conversion taken.0 s.cells.xpbname) (files Converted taken.1 (counted walked)) (files Converted taken.1 (counted s))
       (λ problem is. files_followed card Converted taken.1 problem))
 
-  revises_followed : (card : ℕ) → IsFollowed w card (revises card (counted walked)) (revises card (counted s))
+  revises_followed : (card : ℕ) → IsFollowed C w card (revises card (counted walked)) (revises card (counted s))
   revises_followed card =
-      unless_fault w card VerbFault.NoProblem (problem_of s.cells.xoldname s.file) _ _ (λ old o.
-      unless_fault w {X = List Card × List (List Card)} card VerbFault.DeckNotFound (deck_taken s.cells.xdata s.decks) _ _ (λ taken e.
-      unless_deck_fault w card (revision old taken.0 s.cells.xpbname) (files Revised taken.1 (counted walked)) (files Revised taken.1 (counted s))
+      unless_fault C w card VerbFault.NoProblem (problem_of s.cells.xoldname s.file) _ _ (λ old o.
+      unless_fault C w {X = List Card × List (List Card)} card VerbFault.DeckNotFound (deck_taken s.cells.xdata s.decks) _ _ (λ taken e.
+      unless_deck_fault C w card (revision old taken.0 s.cells.xpbname) (files Revised taken.1 (counted walked)) (files Revised taken.1 (counted s))
       (λ problem is. files_followed card Revised taken.1 problem)))
 
-  sets_up_followed : (card : ℕ) (options : SetupOptions) → IsFollowed w card (sets_up card options (counted walked)) (sets_up card options (counted s))
+  sets_up_followed : (card : ℕ) (options : SetupOptions) → IsFollowed C w card (sets_up card options (counted walked)) (sets_up card options (counted s))
   sets_up_followed card options =
-      unless_fault w card VerbFault.NoProblem (problem_of s.cells.xpbname s.file) _ _ (λ problem e.
-      selecting w card problem (choice_of s.cells options) _ _ (λ lp is.
+      unless_fault C w card VerbFault.NoProblem (problem_of s.cells.xpbname s.file) _ _ (λ problem e.
+      selecting C w card problem (choice_of s.cells options) _ _ (λ lp is.
       prints card (SetUp problem.name options.sense) _ _ (record { opening = opening_statuses lp; steps = []; is = refl; limits = limits })
       (λ stands. absurd (cc stands))))
 
-  punches_followed : (card : ℕ) → IsFollowed w card (punches card (counted walked)) (punches card (counted s))
+  punches_followed : (card : ℕ) → IsFollowed C w card (punches card (counted walked)) (punches card (counted s))
   punches_followed card =
-      unless_fault w card VerbFault.NoProblem (problem_of s.cells.xpbname s.file) _ _
+      unless_fault C w card VerbFault.NoProblem (problem_of s.cells.xpbname s.file) _ _
       (λ problem e. punched card _ _ _ _ (record { opening = opening; steps = steps; is = refl; limits = limits }) (λ stands. waits))
 
   -- ---- what is asked
 
   solves_followed : (solver : Solver) → IsPathSolver solver → (limit : Option ℕ) (card : ℕ) →
-      IsFollowed w card (solves solver limit card (counted walked)) (solves solver limit card (counted s))
+      IsFollowed C w card (solves solver limit card (counted walked)) (solves solver limit card (counted s))
   solves_followed solver path limit card =
-      unless_no_setup w card VerbFault.NoSetup opening steps s.setup _ _ (λ present set.
-      selecting w card present.problem (choice_of s.cells present.options) _ _
-      (λ lp is. path_followed w s opening steps card solver path limit present lp set is limits (few present lp set is)))
+      unless_no_setup C w card VerbFault.NoSetup opening steps s.setup _ _ (λ present set.
+      selecting C w card present.problem (choice_of s.cells present.options) _ _
+      (λ lp is. path_followed C suits w s opening steps card solver path limit present lp set is limits (few present lp set is)
+      (selected_is_lawful present.problem (choice_of s.cells present.options) lp (lawful present set) is)
+      ((knows.bases present set).in_each s.cells.xobj s.cells.xrhs lp is)))
 
-  shows_followed : (card : ℕ) → IsFollowed w card (shows card (counted walked)) (shows card (counted s))
+  shows_followed : (card : ℕ) → IsFollowed C w card (shows card (counted walked)) (shows card (counted s))
   shows_followed card =
-      unless_no_setup w card VerbFault.NoSetup opening steps s.setup _ _ (λ present set.
-      unless_fault w card VerbFault.NotSolved s.mark _ _ (λ mark m.
-      unless_selection_fault w card (selected present.problem (choice_of s.cells present.options)) _ _ (λ lp is.
-      reported_followed w s opening steps card mark present lp set is waits limits
+      unless_no_setup C w card VerbFault.NoSetup opening steps s.setup _ _ (λ present set.
+      unless_fault C w card VerbFault.NotSolved s.mark _ _ (λ mark m.
+      unless_selection_fault C w card (selected present.problem (choice_of s.cells present.options)) _ _ (λ lp is.
+      reported_followed C suits w s opening steps card mark present lp set is waits limits
       (selected_is_lawful present.problem (choice_of s.cells present.options) lp (lawful present set) is)
       ((knows.bases present set).in_each s.cells.xobj s.cells.xrhs lp is) (best_here s present lp set is lawful knows mark m))))
 
-  ranges_all_followed : (card : ℕ) → IsFollowed w card (ranges card (counted walked)) (ranges card (counted s))
+  ranges_all_followed : (card : ℕ) → IsFollowed C w card (ranges card (counted walked)) (ranges card (counted s))
   ranges_all_followed card =
-      unless_no_setup w card VerbFault.NoSetup opening steps s.setup _ _ (λ present set.
-      unless_fault w card VerbFault.NotSolved s.mark _ _ (λ mark m.
-      unless_fault w {X = Mark} card VerbFault.NotOptimal (if_optimal mark) _ _ (λ optimal o.
-      unless_selection_fault w card (selected present.problem (choice_of s.cells present.options)) _ _
-      (λ lp is. ranges_followed w s opening steps card present lp))))
+      unless_no_setup C w card VerbFault.NoSetup opening steps s.setup _ _ (λ present set.
+      unless_fault C w card VerbFault.NotSolved s.mark _ _ (λ mark m.
+      unless_fault C w {X = Mark} card VerbFault.NotOptimal (if_optimal mark) _ _ (λ optimal o.
+      unless_selection_fault C w card (selected present.problem (choice_of s.cells present.options)) _ _
+      (λ lp is. ranges_followed C w s opening steps card present lp))))
 
-  punches_basis_followed : (card : ℕ) → IsFollowed w card (punches_basis card (counted walked)) (punches_basis card (counted s))
+  punches_basis_followed : (card : ℕ) → IsFollowed C w card (punches_basis card (counted walked)) (punches_basis card (counted s))
   punches_basis_followed card =
-      unless_no_setup w card VerbFault.NoSetup opening steps s.setup _ _ (λ present set.
-      selecting w card present.problem (choice_of s.cells present.options) _ _ (λ lp is. punch_followed w s opening steps card present lp))
+      unless_no_setup C w card VerbFault.NoSetup opening steps s.setup _ _ (λ present set.
+      selecting C w card present.problem (choice_of s.cells present.options) _ _ (λ lp is. punch_followed C w s opening steps card present lp))
 
-  inserts_followed : (card : ℕ) → IsFollowed w card (inserts card (counted walked)) (inserts card (counted s))
+  inserts_followed : (card : ℕ) → IsFollowed C w card (inserts card (counted walked)) (inserts card (counted s))
   inserts_followed card =
-      unless_no_setup w card VerbFault.NoSetup opening steps s.setup _ _ (λ present set.
-      selecting w card present.problem (choice_of s.cells present.options) _ _ (λ lp is.
-      unless_fault w {X = List Card × List (List Card)} card VerbFault.DeckNotFound (deck_taken s.cells.xdata s.decks) _ _ (λ taken t.
-      unless_deck_fault w card (basis_reading present.problem lp taken.0) _ _
-      (λ b read. install_followed w s opening steps card present lp b taken (few present lp set is)))))
+      unless_no_setup C w card VerbFault.NoSetup opening steps s.setup _ _ (λ present set.
+      selecting C w card present.problem (choice_of s.cells present.options) _ _ (λ lp is.
+      unless_fault C w {X = List Card × List (List Card)} card VerbFault.DeckNotFound (deck_taken s.cells.xdata s.decks) _ _ (λ taken t.
+      unless_deck_fault C w card (basis_reading present.problem lp taken.0) _ _
+      (λ b read. install_followed C w s opening steps card present lp b taken (few present lp set is)))))
 
   parametric_runs_followed : (card : ℕ) (fault : VerbFault) (change : Problem ℕ → Name → Option Changing) (moved : Option Name) →
       ((problem : Problem ℕ) (changing : Changing) → option_and_then (change problem) moved ≡ Some changing →
       IsOfProblem changing problem × (named_by s.cells changing ≡ Some (changing_name changing))) →
-      IsFollowed w card (parametric_runs card fault change moved (counted walked)) (parametric_runs card fault change moved (counted s))
+      IsFollowed C w card (parametric_runs card fault change moved (counted walked)) (parametric_runs card fault change moved (counted s))
   parametric_runs_followed card fault change moved part =
-      unless_no_setup w card VerbFault.NoSetup opening steps s.setup _ _ (λ present set.
-      selecting w card present.problem (choice_of s.cells present.options) _ _ (λ lp is.
-      unless_fault w {X = Changing} card fault (option_and_then (change present.problem) moved) _ _ (λ changing c.
-      unless_fault w {X = ℚ} card VerbFault.NoParmax s.cells.xparmax _ _ (λ last l.
-      unless_fault w {X = ℚ} card VerbFault.ParmaxBelow (not_less s.cells.xparam last) _ _ (λ to t.
+      unless_no_setup C w card VerbFault.NoSetup opening steps s.setup _ _ (λ present set.
+      selecting C w card present.problem (choice_of s.cells present.options) _ _ (λ lp is.
+      unless_fault C w {X = Changing} card fault (option_and_then (change present.problem) moved) _ _ (λ changing c.
+      unless_fault C w {X = ℚ} card VerbFault.NoParmax s.cells.xparmax _ _ (λ last l.
+      unless_fault C w {X = ℚ} card VerbFault.ParmaxBelow (not_less s.cells.xparam last) _ _ (λ to t.
       let parametric_run : ParametricRun = record { changing = changing; from = s.cells.xparam; to = to; limit = steps_allowed s.cells } in
-      parametric_run_followed w s opening steps limits card parametric_run present lp
-      (chain_lands w s opening steps limits card parametric_run present lp
-      (selected_is_lawful present.problem (choice_of s.cells present.options) lp (lawful present set) is)
-      (changes_freely (record { problem = present.problem; lp = lp }) (choice_of s.cells present.options) changing (lawful present set) is
-      (part present.problem changing c).0)
-      ((knows.bases present set).in_each s.cells.xobj s.cells.xrhs lp is)))))))
+      let program = selected_is_lawful present.problem (choice_of s.cells present.options) lp (lawful present set) is in
+      let free =
+      changes_freely (record { problem = present.problem; lp = lp }) (choice_of s.cells present.options) changing (lawful present set) is
+      (part present.problem changing c).0 in
+      let at = (knows.bases present set).in_each s.cells.xobj s.cells.xrhs lp is in
+      parametric_run_followed C suits w s opening steps limits card parametric_run present lp program free at
+      (chain_lands C suits w s opening steps limits card parametric_run present lp program free at))))))
 
   pub verb_matched : (verb : Verb ℕ) (card : ℕ) → card ≤ max_count → MovesSmall verb →
-      IsMatched w card (verb_move verb card (counted walked)) (verb_move verb card (counted s))
+      IsMatched C w card (verb_move verb card (counted walked)) (verb_move verb card (counted s))
   unfolding verb_move
   verb_matched Initialz card small moves =
       goes card Nothing _ _ (record { opening = opening; steps = steps; is = refl; limits = default_limits }) (λ stands. absurd (cc stands))
@@ -266,4 +272,4 @@ module _ (w : Walker) (s : State) (opening : Basis) (steps : List Basis) (limits
   verb_matched Bcdout card small moves = (punches_followed card).matched small
   verb_matched Punch card small moves = (punches_basis_followed card).matched small
   verb_matched Insert card small moves = (inserts_followed card).matched small
-  verb_matched Exit card small moves = (does_stop w card (Ended 0)).matched small
+  verb_matched Exit card small moves = (does_stop C w card (Ended 0)).matched small

@@ -10,9 +10,9 @@ use Rattle.lp_definitions.specs.Solutions.{IsBest}
 use Rattle.lp_definitions.specs.Basis.{Tableau}
 use Rattle.lp_definitions.specs.declared.Status.{Status}
 use Rattle.check_definitions.specs.declared.Verdict.{Verdict}
-use Rattle.check_definitions.specs.Steps.{Step, verdict_of, sum_steps}
-use Rattle.check_definitions.specs.Checks.{optimal_check}
-use Rattle.certificate_check.proofs.TrueClaims.{NeverFails, never_optimal}
+use Rattle.check_definitions.specs.Steps.{Step, AllHold, sum_steps}
+use Rattle.check_definitions.specs.Checks.{optimal_steps}
+use Rattle.certificate_laws.proofs.Truth.{sum_holds, all_hold, optimal_holds}
 use Rattle.sensitivity_laws.proofs.MovedLimits.{fixed_at}
 use Rattle.simplex_definitions.specs.Moves.{blocking_variable}
 use Rattle.simplex_definitions.specs.Path.{listed}
@@ -27,15 +27,14 @@ use Rattle.answer_definitions.specs.Lines.{pair_lines, ray_lines}
 use Rattle.answer_definitions.specs.ParametricRuns.{row_of, shifts_of, family_of, IsFace, sheet_at, part_values, interval_of, end_of}
 use Rattle.soundness_laws.specs.ParametricRuns.{ChangesFreely}
 use Rattle.parametric_laws.specs.Truth.{IsTruePart, IsTrueEnd}
-use Rattle.parametric_laws.proofs.OneObjective.{lawful_objective}
 use Rattle.parametric_laws.proofs.OneRhs.{lawful_rhs}
-use Rattle.walk_definitions.specs.Checkers.{checker_of_128_bits}
+use Rattle.walk_definitions.specs.Checkers.{Checker}
 use Rattle.walk_definitions.specs.Tables.{column_of, multipliers}
-use Rattle.walk_definitions.specs.Tests.{asked, making_steps, along_steps, end_test, part_test, interval_test, unbounded_past, infeasible_past, past_test, close_test}
+use Rattle.walk_definitions.specs.Tests.{asked, making_steps, along_steps, keeping_steps, end_test, part_test, interval_test, unbounded_past, infeasible_past, past_test, close_test}
 use Rattle.own_listing_laws.proofs.Columns.{column_is, listed_again, numbers_of_ray}
-use Rattle.own_listing_laws.proofs.Tests.{Passes, pass_none, pass_then, passes_same, passes_steps, passes_asked, never_sum, never_each}
-use Rattle.own_listing_laws.proofs.Openings.{never_making}
-use Rattle.own_listing_laws.proofs.Keeping.{TiesLimits, never_keeping}
+use Rattle.own_listing_laws.proofs.Tests.{Passes, pass_none, pass_then, passes_same, pass_steps, passes_asked}
+use Rattle.own_listing_laws.proofs.Openings.{making_holds, lawful_of}
+use Rattle.own_listing_laws.proofs.Keeping.{TiesLimits, keeping_holds}
 use Rattle.own_listing_laws.proofs.Closing.{unbounded_passes, infeasible_passes}
 
 -- ---- the linear program at each value
@@ -52,33 +51,27 @@ ties_of : (sheet : Sheet) (changing : Changing) → TiesLimits (family_of sheet 
 ties_of sheet (Row name) theta x k var fixed = (fixed.0, fixed.1, fixed.2)
 ties_of sheet (Set name) theta x k var fixed = fixed_at sheet.lp (shifts_of sheet.problem name) theta x k var fixed
 
-pub lawful_of : (sheet : Sheet) (changing : Changing) → IsLinearProgram sheet.lp → ChangesFreely sheet changing → (theta : ℚ) →
-    IsLinearProgram (family_of sheet changing theta)
-lawful_of sheet (Row name) lawful free theta = lawful_objective sheet.lp (row_of sheet.problem name) lawful free.0 free.1 theta
-lawful_of sheet (Set name) lawful free theta = lawful_rhs sheet.lp (shifts_of sheet.problem name) lawful theta
-
 -- ---- intervals
 
 module _ (sheet : Sheet) (changing : Changing) (lawful : IsLinearProgram sheet.lp) (free : ChangesFreely sheet changing) where
-  never_along : (theta : ℚ) (value rate : List ℚ) → NeverFails (along_steps sheet theta value rate)
-  never_along theta value rate =
-      never_each steps 1 (size sheet.lp.matrix) (λ k low high. never_sum (value_at value k) (record { left = theta; right = value_at rate k } ∷ []))
+  along_holds : (theta : ℚ) (value rate : List ℚ) → AllHold (along_steps sheet theta value rate)
+  along_holds theta value rate =
+      all_hold steps 1 (size sheet.lp.matrix) (λ k low high. sum_holds (value_at value k) (record { left = theta; right = value_at rate k } ∷ []))
     where
       steps : ℕ → List Step
       steps k = sum_steps (value_at value k) (record { left = theta; right = value_at rate k } ∷ [])
 
   module _ (max : ℚ) (part : Part) (truth : IsTruePart (family_of sheet changing) max part) where
-    end_passes : (theta : ℚ) → part.from ≤ℚ theta → theta ≤ℚ part.to →
-        Passes (end_test checker_of_128_bits sheet changing theta part.value part.value_rate part.price part.price_rate)
-    end_passes theta low high =
+    end_passes : (C : Checker) (theta : ℚ) → part.from ≤ℚ theta → theta ≤ℚ part.to →
+        Passes C (end_test C sheet changing theta part.value part.value_rate part.price part.price_rate)
+    end_passes C theta low high =
         let solved = truth.solved theta low high in
-        (pass_then (verdict_of (making_steps sheet changing theta)) _ (passes_steps _ (never_making sheet changing theta))
-        (pass_then (verdict_of (along_steps sheet theta part.value part.value_rate)) _ (passes_steps _ (never_along theta part.value part.value_rate))
-        (pass_then (verdict_of (along_steps sheet theta part.price part.price_rate)) _ (passes_steps _ (never_along theta part.price part.price_rate))
-        (pass_then (optimal_check (family_of sheet changing theta) (along theta part.value part.value_rate) (along theta part.price part.price_rate)) []
-        (passes_steps _
-        (never_optimal (family_of sheet changing theta) (lawful_of sheet changing lawful free theta).is_matrix (along theta part.value part.value_rate)
-        (along theta part.price part.price_rate) solved.best.feasible solved.certificate)) pass_none)))).passes
+        (pass_steps C (making_steps sheet changing theta) _ (making_holds sheet changing theta)
+        (pass_steps C (along_steps sheet theta part.value part.value_rate) _ (along_holds theta part.value part.value_rate)
+        (pass_steps C (along_steps sheet theta part.price part.price_rate) _ (along_holds theta part.price part.price_rate)
+        (pass_steps C (optimal_steps (family_of sheet changing theta) (along theta part.value part.value_rate) (along theta part.price part.price_rate)) []
+        (optimal_holds (family_of sheet changing theta) (lawful_of sheet changing lawful free theta).is_matrix (along theta part.value part.value_rate)
+        (along theta part.price part.price_rate) solved.best.feasible solved.certificate) (pass_none C))))).passes
 
     forward_holds : (is_first : Bool) → (is_first ≡ true) ⊎ (part.from <ℚ part.to) → (lt_ℚ part.from part.to || (is_first && eq_ℚ part.from part.to)) ≡ true
     forward_holds is_first (inr longer) = ap (λ b. b || (is_first && eq_ℚ part.from part.to)) (test_from_lt part.from part.to longer)
@@ -131,20 +124,19 @@ module _ (sheet : Sheet) (changing : Changing) (lawful : IsLinearProgram sheet.l
           column_is (sheet_at sheet changing start) values 4 (variables (family_of sheet changing start).matrix)
           ∙ again part.price_rate is.prices_counted.rate_counted
 
-      pub part_passes : (is_first : Bool) → (is_first ≡ true) ⊎ (part.from <ℚ part.to) →
-          Passes (interval_test checker_of_128_bits sheet changing is_first max (interval_of (sheet_at sheet changing start) part))
-      part_passes is_first longer =
-          passes_same (interval_test checker_of_128_bits sheet changing is_first max (interval_of (sheet_at sheet changing start) part))
-          (part_test checker_of_128_bits sheet changing part.from part.to part.value part.value_rate part.price part.price_rate is_first max)
-          (λ i. part_test checker_of_128_bits sheet changing part.from part.to (value_is i) (value_rate_is i) (price_is i) (price_rate_is i) is_first max)
-          (pass_then (asked (lt_ℚ part.from part.to || (is_first && eq_ℚ part.from part.to))) _ (passes_asked _ (forward_holds is_first longer))
-          (pass_then (asked (le_ℚ part.to max)) _ (passes_asked _ (test_from_le part.to max truth.within))
-          (pass_then _ _ (end_passes part.from (le_refl part.from) truth.forward)
-          (pass_then _ _ (end_passes part.to truth.forward (le_refl part.to))
-          (pass_then _ []
-          (passes_steps _
-          (never_keeping (family_of sheet changing) sheet.lp.matrix sheet.lp.sense (matrix_of sheet changing) (sense_of sheet changing)
-          (ties_of sheet changing) from max s part is truth)) pass_none))))).passes
+      pub part_passes : (C : Checker) (is_first : Bool) → (is_first ≡ true) ⊎ (part.from <ℚ part.to) →
+          Passes C (interval_test C sheet changing is_first max (interval_of (sheet_at sheet changing start) part))
+      part_passes C is_first longer =
+          passes_same C (interval_test C sheet changing is_first max (interval_of (sheet_at sheet changing start) part))
+          (part_test C sheet changing part.from part.to part.value part.value_rate part.price part.price_rate is_first max)
+          (λ i. part_test C sheet changing part.from part.to (value_is i) (value_rate_is i) (price_is i) (price_rate_is i) is_first max)
+          (pass_then C (asked (lt_ℚ part.from part.to || (is_first && eq_ℚ part.from part.to))) _ (passes_asked C _ (forward_holds is_first longer))
+          (pass_then C (asked (le_ℚ part.to max)) _ (passes_asked C _ (test_from_le part.to max truth.within))
+          (pass_then C _ _ (end_passes C part.from (le_refl part.from) truth.forward)
+          (pass_then C _ _ (end_passes C part.to truth.forward (le_refl part.to))
+          (pass_steps C (keeping_steps sheet changing part.from part.to part.value part.value_rate part.price part.price_rate) []
+          (keeping_holds (family_of sheet changing) sheet.lp.matrix sheet.lp.sense (matrix_of sheet changing) (sense_of sheet changing)
+          (ties_of sheet changing) from max s part is truth) (pass_none C)))))).passes
 
 -- ---- closes
 
@@ -188,31 +180,31 @@ pub face_kind : (sheet : Sheet) (changing : Changing) (theta : ℚ) (s : List St
 face_kind sheet (Row name) theta s end face = subst (IsKindOf (Row name)) face.2 (objective_kind name _ (row_of sheet.problem name) theta s face.0)
 face_kind sheet (Set name) theta s end face = subst (IsKindOf (Set name)) face.4 (rhs_kind name _ (shifts_of sheet.problem name) theta s face.0 face.1)
 
-pub close_passes : (problem : Problem ℕ) (lp : LinearProgram) (changing : Changing) → IsLinearProgram lp →
+pub close_passes : (C : Checker) (problem : Problem ℕ) (lp : LinearProgram) (changing : Changing) → IsLinearProgram lp →
     ChangesFreely (record { problem = problem; lp = lp }) changing → (start max last : ℚ) (v : Vector) →
     IsBest (family_of (record { problem = problem; lp = lp }) changing last) v → (past : PastBreakpoint) → IsKind changing past →
     IsTrueEnd (family_of (record { problem = problem; lp = lp }) changing) max last past →
-    Passes (close_test checker_of_128_bits (record { problem = problem; lp = lp }) changing max last
+    Passes C (close_test C (record { problem = problem; lp = lp }) changing max last
     (end_of (sheet_at (record { problem = problem; lp = lp }) changing start) max past))
-close_passes problem lp (Row name) lawful free start max last v best AtMax kind is =
-    (pass_then (asked (eq_ℚ max last)) _ (passes_asked _ (test_from_same max last (sym is)))
-    (pass_then (asked (eq_ℚ max max)) [] (passes_asked _ (test_from_same max max refl)) pass_none)).passes
-close_passes problem lp (Set name) lawful free start max last v best AtMax kind is =
-    (pass_then (asked (eq_ℚ max last)) _ (passes_asked _ (test_from_same max last (sym is)))
-    (pass_then (asked (eq_ℚ max max)) [] (passes_asked _ (test_from_same max max refl)) pass_none)).passes
-close_passes problem lp (Row name) lawful free start max last v best (PastUnbounded past z d) kind is =
-    passes_same _ (past_test max last past (test z' d')) (λ i. past_test max last past (test (first_is i) (second_is i)))
-    (pass_then (asked (eq_ℚ past last)) _ (passes_asked _ (test_from_same past last is.at_last))
-    (pass_then (asked (lt_ℚ past max)) _ (passes_asked _ (test_from_lt past max (subst (λ (x : ℚ). x <ℚ max) (sym is.at_last) is.before_max)))
-    (pass_then (test z' d') []
+close_passes C problem lp (Row name) lawful free start max last v best AtMax kind is =
+    (pass_then C (asked (eq_ℚ max last)) _ (passes_asked C _ (test_from_same max last (sym is)))
+    (pass_then C (asked (eq_ℚ max max)) [] (passes_asked C _ (test_from_same max max refl)) (pass_none C))).passes
+close_passes C problem lp (Set name) lawful free start max last v best AtMax kind is =
+    (pass_then C (asked (eq_ℚ max last)) _ (passes_asked C _ (test_from_same max last (sym is)))
+    (pass_then C (asked (eq_ℚ max max)) [] (passes_asked C _ (test_from_same max max refl)) (pass_none C))).passes
+close_passes C problem lp (Row name) lawful free start max last v best (PastUnbounded past z d) kind is =
+    passes_same C _ (past_test max last past (test z' d')) (λ i. past_test max last past (test (first_is i) (second_is i)))
+    (pass_then C (asked (eq_ℚ past last)) _ (passes_asked C _ (test_from_same past last is.at_last))
+    (pass_then C (asked (lt_ℚ past max)) _ (passes_asked C _ (test_from_lt past max (subst (λ (x : ℚ). x <ℚ max) (sym is.at_last) is.before_max)))
+    (pass_then C (test z' d') []
     (unbounded_passes lp (row_of problem name) lawful free.0 past z d v
-    (subst (λ (x : ℚ). IsBest (family_of sheet (Row name) x) v) (sym is.at_last) best) is.proved problem (Row name)) pass_none))).passes
+    (subst (λ (x : ℚ). IsBest (family_of sheet (Row name) x) v) (sym is.at_last) best) is.proved C problem (Row name)) (pass_none C)))).passes
   where
     sheet : Sheet
     sheet = record { problem = problem; lp = lp }
 
     test : List ℚ → List ℚ → Verdict
-    test xs ys = unbounded_past checker_of_128_bits (record { problem = problem; lp = lp }) (Row name) (row_of problem name) past (value_at xs) (value_at ys)
+    test xs ys = unbounded_past C (record { problem = problem; lp = lp }) (Row name) (row_of problem name) past (value_at xs) (value_at ys)
 
     z' : List ℚ
     z' = listed lp.matrix (value_at z)
@@ -225,19 +217,20 @@ close_passes problem lp (Row name) lawful free start max last v best (PastUnboun
 
     second_is : column_of 1 (pair_lines (sheet_at (record { problem = problem; lp = lp }) (Row name) start) z d) ≡ listed lp.matrix (value_at d)
     second_is = column_is (sheet_at (record { problem = problem; lp = lp }) (Row name) start) _ 1 (variables lp.matrix)
-close_passes problem lp (Set name) lawful free start max last v best (PastInfeasible past w) kind is =
-    passes_same _ (past_test max last past (test (listed lp.matrix (value_at w)))) (λ i. past_test max last past (test (ray_is i)))
-    (pass_then (asked (eq_ℚ past last)) _ (passes_asked _ (test_from_same past last is.at_last))
-    (pass_then (asked (lt_ℚ past max)) _ (passes_asked _ (test_from_lt past max (subst (λ (x : ℚ). x <ℚ max) (sym is.at_last) is.before_max)))
-    (pass_then (test (listed lp.matrix (value_at w))) [] (infeasible_passes lp (shifts_of problem name) (lawful_rhs lp (shifts_of problem name) lawful) past w v
+close_passes C problem lp (Set name) lawful free start max last v best (PastInfeasible past w) kind is =
+    passes_same C _ (past_test max last past (test (listed lp.matrix (value_at w)))) (λ i. past_test max last past (test (ray_is i)))
+    (pass_then C (asked (eq_ℚ past last)) _ (passes_asked C _ (test_from_same past last is.at_last))
+    (pass_then C (asked (lt_ℚ past max)) _ (passes_asked C _ (test_from_lt past max (subst (λ (x : ℚ). x <ℚ max) (sym is.at_last) is.before_max)))
+    (pass_then C (test (listed lp.matrix (value_at w))) [] (infeasible_passes lp (shifts_of problem name) (lawful_rhs lp
+    (shifts_of problem name) lawful) past w v
     (subst (λ (x : ℚ). IsBest (family_of (record { problem = problem; lp = lp }) (Set name) x) v)
-    (sym is.at_last) best).feasible is.proved problem name refl) pass_none))).passes
+    (sym is.at_last) best).feasible is.proved C problem name refl) (pass_none C)))).passes
   where
     test : List ℚ → Verdict
-    test xs = infeasible_past checker_of_128_bits (record { problem = problem; lp = lp }) (Set name) (shifts_of problem name) past (value_at xs)
+    test xs = infeasible_past C (record { problem = problem; lp = lp }) (Set name) (shifts_of problem name) past (value_at xs)
 
     ray_is : multipliers (record { problem = problem; lp = lp })
         (ray_lines (sheet_at (record { problem = problem; lp = lp }) (Set name) start) w) ≡ listed lp.matrix (value_at w)
     ray_is = numbers_of_ray (record { problem = problem; lp = lp }) w
-close_passes problem lp (Row name) lawful free start max last v best (PastInfeasible past w) kind is = absurd kind
-close_passes problem lp (Set name) lawful free start max last v best (PastUnbounded past z d) kind is = absurd kind
+close_passes C problem lp (Row name) lawful free start max last v best (PastInfeasible past w) kind is = absurd kind
+close_passes C problem lp (Set name) lawful free start max last v best (PastUnbounded past z d) kind is = absurd kind

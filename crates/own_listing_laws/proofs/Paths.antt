@@ -2,17 +2,24 @@
 use Rattle.std.proofs.Common.{◌≡◌, ℕ, ◌≤◌, List, [], ◌++◌, length, Option, Some, None, Ok, refl, sym, ap, ap₂, subst, ◌∙◌, arith}
 use Rattle.std.specs.Prelude.{min}
 use Rattle.exact_values.specs.Rational.{ℚ}
-use Rattle.lp_definitions.specs.LinearProgram.{LinearProgram, value_at, size}
+use Rattle.lp_definitions.specs.LinearProgram.{LinearProgram, value_at, size, IsLinearProgram}
 use Rattle.lp_definitions.specs.Basis.{Tableau, IsTableau}
 use Rattle.check_definitions.specs.declared.Verdict.{Verdict}
 use Rattle.check_definitions.specs.declared.Verdict.TheVariants.{Checked, Failed, Unchecked}
+use Rattle.check_definitions.specs.Steps.{AllHold}
 use Rattle.check_definitions.specs.Checks.{optimal_check}
+use Rattle.certificate_check.specs.Results.{IsNotFailed}
 use Rattle.simplex_definitions.specs.Path.{PathEnding, EndsOptimal, EndsCrossed, EndsInfeasible, EndsUnbounded, Ends as TurnEnds, last_of, worth_rate}
 use Rattle.simplex_definitions.specs.Moves.{lowers}
 use Rattle.control_definitions.specs.Cells.{steps_allowed}
+use Rattle.simplex_laws.specs.Laws.{IsNonsingularBasis}
 use Rattle.simplex_laws.proofs.Numbered.{find_some}
+use Rattle.simplex_laws.proofs.OnePath.{path_leads}
+use Rattle.simplex_laws.proofs.DualTurns.{dual_end}
+use Rattle.simplex_laws.proofs.OneDualPath.{dual_path_leads, path_right}
 use Rattle.problem_definitions.specs.Names.{Name}
 use Rattle.selection_definitions.specs.Selection.{selected}
+use Rattle.selection_laws.proofs.Selected.{selected_without_change}
 use Rattle.listing_definitions.specs.declared.Mark.{Mark}
 use Rattle.listing_definitions.specs.declared.Mark.TheVariants.{Optimal, Infeasible, Unbounded}
 use Rattle.listing_definitions.specs.declared.Solver.{Solver}
@@ -29,28 +36,29 @@ use Rattle.run_definitions.specs.Verbs.{asks, mark_of, demanded, by_verdict, aft
 use Rattle.run_definitions.specs.Run.{counted}
 use Rattle.soundness_laws.proofs.Runs.{knows_linear_programming}
 use Rattle.parametric_laws.proofs.Runs.{last_of-append}
-use Rattle.walk_definitions.specs.Checkers.{checker_of_128_bits}
+use Rattle.walk_definitions.specs.Checkers.{Checker, checker_of_128_bits}
 use Rattle.walk_definitions.specs.Forms.{is_open_stop}
 use Rattle.walk_definitions.specs.Words.{Parsed, max_count, fraction_in}
 use Rattle.walk_definitions.specs.Tests.{verdict_test}
-use Rattle.walk_definitions.specs.Reading.{Judged, Right, Refuses, by_verdict as judge, tested, judged_map, judged, Claim, verdict_in}
+use Rattle.walk_definitions.specs.Reading.{Judged, Right, Refuses, by_verdict as judge, unread, tested_or, judged_map, judged, Claim, verdict_in}
 use Rattle.walk_definitions.specs.Walker.{Pending, Walker, Unchecked, open_question, passed, pending_after, answered}
 use Rattle.fitting_answers.specs.Fitting.{VerdictFits, CheckFits, GainFits}
 use Rattle.own_listing_laws.specs.Printed.{IsReadable, IsPrinted}
 use Rattle.own_listing_laws.proofs.Claims.{verdict_read}
-use Rattle.own_listing_laws.proofs.Ended.{IsOf, end_is, dual_end_is, dual_never_unbounded}
-use Rattle.own_listing_laws.proofs.Tests.{Passes, verdict_passes}
+use Rattle.own_listing_laws.proofs.Ended.{IsOf, claim_steps, end_holds, end_is, dual_end_is, dual_never_unbounded}
+use Rattle.own_listing_laws.proofs.Suiting.{SuitsRuns, CanRefuse}
+use Rattle.own_listing_laws.proofs.Tests.{Passes, verdict_passes, verdict_never_fails}
 use Rattle.own_listing_laws.proofs.Stops.{open_limit, open_price}
-use Rattle.own_listing_laws.proofs.Pace.{rebased, WaitsFor, WaitsAt, Lands, IsDue, AreAlike, WaitsAfter, follows_lands, IsFollowed, may_stop, asked_lands, never_stopped}
+use Rattle.own_listing_laws.proofs.Pace.{rebased, WaitsFor, WaitsAt, Lands, IsDue, AreAlike, WaitsAfter, follows_lands, RefusesTest, IsFollowed, may_stop, asked_lands, never_stopped}
 
 -- ---- a test that passes
 
 -- what is read is right, or an operation of its test is refused
-pub judged_so : {X : Type 0} (v : Verdict) (x : X) (rest : List ℕ) (P : Judged X → Type 0) → Passes v → (v ≡ Checked → P (Right x rest)) → P Refuses →
-    P (judge v x rest)
-judged_so Checked x rest P passes right refused = right refl
-judged_so (Failed part number) x rest P passes right refused = absurd (passes.never part number refl)
-judged_so (Unchecked r) x rest P passes right refused = refused
+pub judged_so : {X : Type 0} (C : Checker) (v : Verdict) (x : X) (rest : List ℕ) (P : Judged X → Type 0) → Passes C v → (v ≡ Checked → P (Right x rest)) →
+    (CanRefuse C → P Refuses) → P (judge v x rest)
+judged_so C Checked x rest P passes right refused = right refl
+judged_so C (Failed part number) x rest P passes right refused = absurd passes.of
+judged_so C (Unchecked r) x rest P passes right refused = refused (record { op = r.op; left = r.left; right = r.right; refuses = passes.of })
 
 -- ---- the report of a verdict
 
@@ -110,6 +118,8 @@ pub record HasEnded (solver : Solver) (sheet : Sheet) (s : Basis) (bases : List 
   pub is_of : IsOf sheet.lp (last_of s bases) tableau ending
   pub is_verdict : IsVerdict sheet (length bases) ending verdict check
   pub is_readable : IsReadable solver verdict
+  -- from a nonsingular basis its end is true
+  pub holds : IsLinearProgram sheet.lp → IsNonsingularBasis sheet.lp s → sheet.lp.change ≡ None → AllHold (claim_steps sheet.lp ending)
 
 dual_readable : (sheet : Sheet) (n : ℕ) (ending : PathEnding) → ((z d : List ℚ) → ending ≡ EndsUnbounded z d → ⊥) →
     IsReadable ByDual (verdicts.verdict_of sheet n ending)
@@ -134,6 +144,8 @@ has_ended ByPrimal path sheet s limit bases verdict check solved = record {
   is_of = end_is sheet.lp (last_of s bases) solved.ends.ends.tableau solved.ending solved.ends.ends.turns;
   is_verdict = solved.is_verdict;
   is_readable = tt;
+  holds = λ lawful at no_change.
+      end_holds sheet.lp lawful (last_of s bases) solved.ending (path_leads sheet.lp s bases at solved.ends.is_path) solved.ends.ends;
 }
 has_ended ByDual path sheet s limit bases verdict check solved = record {
   tableau = solved.1.ends.ends.tableau;
@@ -143,25 +155,30 @@ has_ended ByDual path sheet s limit bases verdict check solved = record {
   is_verdict = solved.1.is_verdict;
   is_readable = subst (IsReadable ByDual) (sym solved.1.is_verdict.is_verdict) (dual_readable sheet (length bases) solved.1.ending
       (λ z d is. dual_never_unbounded sheet.lp (last_of s bases) solved.1.ends.ends.tableau z d (solved.1.ends.ends.turns ∙ ap TurnEnds is)));
+  holds = λ lawful at no_change.
+      let last = dual_path_leads sheet.lp s bases at solved.1.ends.is_path in
+      end_holds sheet.lp lawful (last_of s bases) solved.1.ending last
+      (dual_end sheet.lp (last_of s bases) solved.1.ending lawful last (path_right sheet.lp lawful no_change s bases at solved.0 solved.1.ends.is_path)
+      solved.1.ends.ends);
 }
 has_ended ByParaobj path sheet s limit bases verdict check solved = absurd path
 has_ended ByPararhs path sheet s limit bases verdict check solved = absurd path
 
-ended_so_passes : (solver : Solver) (sheet : Sheet) (s : Basis) (bases : List Basis) (verdict : PathVerdict) (check : Check) →
-    HasEnded solver sheet s bases verdict check → Passes (verdict_test checker_of_128_bits sheet verdict check)
-ended_so_passes solver sheet s bases verdict check ended =
-    verdict_passes sheet (last_of s bases) ended.tableau (length bases) ended.ending verdict check ended.is_of ended.is_verdict
+ended_never_fails : (solver : Solver) (sheet : Sheet) (s : Basis) (bases : List Basis) (verdict : PathVerdict) (check : Check) →
+    HasEnded solver sheet s bases verdict check → IsNotFailed (verdict_test checker_of_128_bits sheet verdict check)
+ended_never_fails solver sheet s bases verdict check ended =
+    verdict_never_fails sheet (last_of s bases) ended.tableau (length bases) ended.ending verdict ended.is_of check ended.is_verdict
 
--- the test of a path's verdict never fails
-pub path_passes : (solver : Solver) (sheet : Sheet) (s : Basis) (limit : Option ℕ) (bases : List Basis) (verdict : PathVerdict) (check : Check) →
+-- in numbers of 128 bits the test of a path's verdict never fails, from whatever basis
+pub path_never_fails : (solver : Solver) (sheet : Sheet) (s : Basis) (limit : Option ℕ) (bases : List Basis) (verdict : PathVerdict) (check : Check) →
     verdicts.IsSolvedBy solver sheet s limit (Reached bases verdict check) →
-    Passes (verdict_test checker_of_128_bits sheet verdict check)
-path_passes ByPrimal sheet s limit bases verdict check solved =
-    ended_so_passes ByPrimal sheet s bases verdict check (has_ended ByPrimal tt sheet s limit bases verdict check solved)
-path_passes ByDual sheet s limit bases verdict check solved =
-    ended_so_passes ByDual sheet s bases verdict check (has_ended ByDual tt sheet s limit bases verdict check solved)
-path_passes ByParaobj sheet s limit bases verdict check solved = absurd solved
-path_passes ByPararhs sheet s limit bases verdict check solved = absurd solved
+    IsNotFailed (verdict_test checker_of_128_bits sheet verdict check)
+path_never_fails ByPrimal sheet s limit bases verdict check solved =
+    ended_never_fails ByPrimal sheet s bases verdict check (has_ended ByPrimal tt sheet s limit bases verdict check solved)
+path_never_fails ByDual sheet s limit bases verdict check solved =
+    ended_never_fails ByDual sheet s bases verdict check (has_ended ByDual tt sheet s limit bases verdict check solved)
+path_never_fails ByParaobj sheet s limit bases verdict check solved = absurd solved
+path_never_fails ByPararhs sheet s limit bases verdict check solved = absurd solved
 
 -- ---- what is pending after it
 
@@ -191,10 +208,11 @@ pending_of sheet setup objective rhs present rest n t ending verdict check set i
 
 -- ---- the question of a path
 
-module _ (w : Walker) (s : State) (opening : Basis) (steps : List Basis) (card : ℕ) (solver : Solver) (path : IsPathSolver solver) (limit : Option ℕ)
+module _ (C : Checker) (suits : SuitsRuns C) (w : Walker) (s : State) (opening : Basis) (steps : List Basis) (card : ℕ) (solver : Solver)
+    (path : IsPathSolver solver) (limit : Option ℕ)
     (present : Present) (lp : LinearProgram) (set : s.setup ≡ Some present)
     (is : selected present.problem (choice_of s.cells present.options) ≡ Ok lp) (limits : steps_allowed s.cells ≤ max_count)
-    (few : size lp.matrix ≤ max_count) where
+    (few : size lp.matrix ≤ max_count) (lawful : IsLinearProgram lp) (at : IsNonsingularBasis lp (present_basis present)) where
   abbrev sheet : Sheet
   sheet = record { problem = present.problem; lp = lp }
 
@@ -216,16 +234,20 @@ module _ (w : Walker) (s : State) (opening : Basis) (steps : List Basis) (card :
 
   reached_lands : (bases : List Basis) (verdict : PathVerdict) (check : Check) (more : List ℕ) →
       HasEnded solver sheet (present_basis present) bases verdict check → IsDue w (own (Reached bases verdict check)) more →
-      Lands (own (Reached bases verdict check)) more (answered checker_of_128_bits w question sheet go (judged checker_of_128_bits question sheet w.rest))
+      Lands (RefusesTest C w) (own (Reached bases verdict check)) more (answered C w question sheet go (judged C question sheet w.rest))
   reached_lands bases verdict check more ended given =
-      subst (λ (parsed : Parsed Claim). LandsSo (judged_map f (tested test parsed))) (sym read)
-      (judged_so (test (verdict, check)) (verdict, check) more (λ j. LandsSo (judged_map f j)) passes (λ checked. right) tt)
+      subst (λ (parsed : Parsed Claim). LandsSo (judged_map f (tested_or (unread C reads w.rest) test parsed))) (sym read)
+      (judged_so C (test (verdict, check)) (verdict, check) more (λ j. LandsSo (judged_map f j)) passes (λ checked. right)
+      (λ can. record { is_rest = refl; can = can }))
     where
       f : Claim → PathEnd
       f claim = Reached [] claim.0 claim.1
 
       test : Claim → Verdict
-      test claim = verdict_test checker_of_128_bits sheet claim.0 claim.1
+      test claim = verdict_test C sheet claim.0 claim.1
+
+      reads : (List ℕ → Option ℚ) → List ℕ → Parsed Claim
+      reads of = verdict_in of sheet solver
 
       after : State
       after = record (counted s) { setup = Some (gone_through bases present); mark = Some (mark_of verdict) }
@@ -237,17 +259,19 @@ module _ (w : Walker) (s : State) (opening : Basis) (steps : List Basis) (card :
       fits = subst GainFits gain given.fits
 
       LandsSo : Judged PathEnd → Type 0
-      LandsSo j = Lands (own (Reached bases verdict check)) more (answered checker_of_128_bits w question sheet go j)
+      LandsSo j = Lands (RefusesTest C w) (own (Reached bases verdict check)) more (answered C w question sheet go j)
 
-      read : verdict_in (fraction_in checker_of_128_bits) sheet solver w.rest ≡ Some ((verdict, check), more)
+      read : verdict_in (fraction_in C) sheet solver w.rest ≡ Some ((verdict, check), more)
       read =
-          ap (verdict_in (fraction_in checker_of_128_bits) sheet solver) (given.text ∙ ap (λ (g : Gain). gain_text g ++ more) gain)
-          ∙ verdict_read sheet check fits.1 more solver verdict ended.is_readable
+          ap (verdict_in (fraction_in C) sheet solver) (given.text ∙ ap (λ (g : Gain). gain_text g ++ more) gain)
+          ∙ verdict_read (fraction_in C) suits.reads sheet check fits.1 more solver verdict ended.is_readable
           (verdict_printed sheet (last_of (present_basis present) bases) ended.tableau
           (length bases) ended.ending verdict ended.is_of ended.is_verdict.is_verdict) fits.0 given.plain
 
-      passes : Passes (verdict_test checker_of_128_bits sheet verdict check)
-      passes = verdict_passes sheet (last_of (present_basis present) bases) ended.tableau (length bases) ended.ending verdict check ended.is_of ended.is_verdict
+      passes : Passes C (verdict_test C sheet verdict check)
+      passes =
+          verdict_passes sheet (last_of (present_basis present) bases) ended.tableau C suits (length bases) ended.ending verdict check ended.is_of
+          (ended.holds lawful at (selected_without_change present.problem (choice_of s.cells present.options) lp is)) ended.is_verdict
 
       there : present_basis (gone_through bases present) ≡ last_of (present_basis present) bases
       there = last_of-append present.opening present.steps bases
@@ -261,7 +285,7 @@ module _ (w : Walker) (s : State) (opening : Basis) (steps : List Basis) (card :
 
       right : LandsSo (Right (Reached [] verdict check) more)
       right =
-          follows_lands (record (passed more 1 w) { pending = pending_after w.rest verdict check }) (go (Reached [] verdict check))
+          follows_lands (RefusesTest C w) (record (passed more 1 w) { pending = pending_after w.rest verdict check }) (go (Reached [] verdict check))
           (own (Reached bases verdict check)) more
           (verdict_alike (Solved solver verdict check) after opening (steps ++ []) limits (mark_of verdict)) refl given.ends
           (verdict_waits (pending_after w.rest verdict check) (Solved solver verdict check) after waits (mark_of verdict))
@@ -276,24 +300,24 @@ module _ (w : Walker) (s : State) (opening : Basis) (steps : List Basis) (card :
   wrong_variable ByParaobj path limit j wrong = absurd path
   wrong_variable ByPararhs path limit j wrong = absurd path
 
-  pub path_followed : IsFollowed w card (asks question sheet set_up go) (asks question sheet present own)
+  pub path_followed : IsFollowed C w card (asks question sheet set_up go) (asks question sheet present own)
   path_followed =
-      may_stop w card (Asks question sheet (present_basis set_up) go) (Asks question sheet (present_basis present) own)
+      may_stop C w card (Asks question sheet (present_basis set_up) go) (Asks question sheet (present_basis present) own)
       (InAnswer question sheet (path_of set_up)) (InAnswer question sheet (path_of present)) tt
-      (asked_lands w card question sheet (present_basis set_up) (present_basis present) go own lands)
+      (asked_lands C w card question sheet (present_basis set_up) (present_basis present) go own lands)
     where
       lands : card ≤ max_count → (answer : PathEnd) (more : List ℕ) → IsRight linear_programming question sheet (present_basis present) answer →
           IsDue w (own answer) more → open_question w question sheet go ≡ None →
-          Lands (own answer) more (answered checker_of_128_bits w question sheet go (judged checker_of_128_bits question sheet w.rest))
+          Lands (RefusesTest C w) (own answer) more (answered C w question sheet go (judged C question sheet w.rest))
       lands small (Reached bases verdict check) more right given none =
           reached_lands bases verdict check more
           (has_ended solver path sheet (present_basis present) limit bases verdict check
           (knows_linear_programming.solves solver sheet (present_basis present) limit (Reached bases verdict check) right)) given
       lands small PathLimit more right given none =
-          absurd (never_stopped w card question sheet (present_basis set_up) (present_basis present) go own none
+          absurd (never_stopped C w card question sheet (present_basis set_up) (present_basis present) go own none
           (ap is_open_stop (given.text ∙ given.ends) ∙ open_limit _ limits small))
       lands small (PricesWrong j) more right given none =
-          absurd (never_stopped w card question sheet (present_basis set_up) (present_basis present) go own none
+          absurd (never_stopped C w card question sheet (present_basis set_up) (present_basis present) go own none
           (ap is_open_stop (given.text ∙ given.ends)
           ∙ open_price _ small
           (wrong_variable solver path limit j (knows_linear_programming.solves solver sheet (present_basis present) limit (PricesWrong j) right))))

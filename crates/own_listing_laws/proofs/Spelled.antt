@@ -88,12 +88,18 @@ count_of_text most n small =
     ap (λ m. if nat_le m most && bytes_eq (digits m) (digits n) then Some m else None) (digits_spell n)
     ∙ ap₂ (λ a b. if a && b then Some n else None) (le-leb n most small) ((bytes_eq-Decides (digits n) (digits n)).1 refl)
 
+-- the text of a fraction of 128 bits is read so
+pub record ReadsFractions (of : List ℕ → Option ℚ) : Type 0 where
+  pub means : (x : ℚ) → TermsFit x → of (rational_text x) ≡ Some x
+
+pub in_128_bits : ReadsFractions (fraction_in checker_of_128_bits)
+in_128_bits = record { means = fraction_of_text }
+
 module _ {Y : Type 0} where
-  pub fraction_first : (x : ℚ) (byte : ℕ) (rest : List ℕ) (reads : ℚ → List ℕ → Option Y) (got : Option Y) → TermsFit x → ends_word byte ≡ true →
-      Gives (reads x) (byte ∷ rest) got →
-      Gives (with_word (fraction_in checker_of_128_bits) reads) (rational_text x ++ byte ∷ rest) got
-  fraction_first x byte rest reads got fit ends gives =
-      word_first (fraction_in checker_of_128_bits) (rational_text x) x byte rest reads got (rational_word x) ends (fraction_of_text x fit) gives
+  pub fraction_first : (of : List ℕ → Option ℚ) → ReadsFractions of → (x : ℚ) (byte : ℕ) (rest : List ℕ) (reads : ℚ → List ℕ → Option Y) (got : Option Y) →
+      TermsFit x → ends_word byte ≡ true → Gives (reads x) (byte ∷ rest) got → Gives (with_word of reads) (rational_text x ++ byte ∷ rest) got
+  fraction_first of fractions x byte rest reads got fit ends gives =
+      word_first of (rational_text x) x byte rest reads got (rational_word x) ends (fractions.means x fit) gives
 
   pub count_first : (most n byte : ℕ) (rest : List ℕ) (reads : ℕ → List ℕ → Option Y) (got : Option Y) → n ≤ most → ends_word byte ≡ true →
       Gives (reads n) (byte ∷ rest) got →
@@ -147,8 +153,10 @@ check_first {X} (Unchecked refused) reads rest x fit gives =
     (text_first (codes "UNCHECKED ") _ numbers (Some x)
     (word_first (named all_operations) (operation_text refused.op) refused.op 32 _ (after_operation reads) (Some x) (operation_word refused.op) refl
     (operation_named refused.op)
-    (text_first (codes " ") _ _ (Some x) (fraction_first refused.left 32 _ (after_left reads refused.op) (Some x) fit.0 refl
-    (text_first (codes " ") _ _ (Some x) (fraction_first refused.right 10 rest (after_right reads refused.op refused.left) (Some x) fit.1 refl
+    (text_first (codes " ") _ _ (Some x) (fraction_first (fraction_in checker_of_128_bits) in_128_bits refused.left 32 _
+    (after_left reads refused.op) (Some x) fit.0 refl
+    (text_first (codes " ") _ _ (Some x) (fraction_first (fraction_in checker_of_128_bits) in_128_bits refused.right 10 rest
+    (after_right reads refused.op refused.left) (Some x) fit.1 refl
     (text_first (codes "\n") (reads (Unchecked (record { op = refused.op; left = refused.left; right = refused.right }))) rest (Some x) gives))))))))
   where
     numbers : List ℕ

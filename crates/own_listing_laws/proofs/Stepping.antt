@@ -123,10 +123,12 @@ module _ (program : Program) (w : Walker) (s : State) (like : IsRebased w.state 
       is_open_stop (ending_text ending) ≡ false →
       turn checker_of_128_bits program w ≡ Finds (Attested w.reports)
   over_found _ (at_end past) none rest closed =
-      turn_at_end program w (ap (λ n. nat_lt (length program.statements) n) position_is ∙ lt-ltb (length program.statements) s.position past)
+      turn_at_end checker_of_128_bits program w (ap (λ n. nat_lt (length program.statements) n) position_is ∙ lt-ltb
+      (length program.statements) s.position past)
       ∙ walks_on.end w (Ended 0) none rest (ap is_open_stop rest ∙ closed)
   over_found _ (at_limit within limit) none rest closed =
-      turn_at_limit program w (ap (λ n. nat_lt (length program.statements) n) position_is ∙ le-ltb (length program.statements) s.position within)
+      turn_at_limit checker_of_128_bits program w (ap (λ n. nat_lt (length program.statements) n) position_is ∙ le-ltb
+      (length program.statements) s.position within)
       (ap (λ n. nat_lt n max_executed) executed_is ∙ le-ltb s.executed max_executed limit)
       ∙ walks_on.end w StatementLimit none rest (ap is_open_stop rest ∙ closed)
 
@@ -134,7 +136,7 @@ module _ (program : Program) (w : Walker) (s : State) (like : IsRebased w.state 
       turn checker_of_128_bits program w ≡ walk_move checker_of_128_bits w (verb_move step.statement.verb step.statement.card (counted there))
   step_turn outcome step =
       let within : s.position - 1 < length program.statements = slice_get_within program.statements (s.position - 1) step.statement step.is_at_position in
-      turn_at_statement program w step.statement
+      turn_at_statement checker_of_128_bits program w step.statement
       (ap (λ n. nat_lt (length program.statements) n) position_is ∙ le-ltb (length program.statements) s.position (omega (arith, within)))
       (ap (λ n. nat_lt n max_executed) executed_is ∙ lt-ltb s.executed max_executed step.is_within_limit)
       (ap (λ n. slice_get program.statements (n - 1)) position_is ∙ step.is_at_position)

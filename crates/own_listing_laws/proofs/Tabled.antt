@@ -23,14 +23,12 @@ use Rattle.question_definitions.specs.Answers.{Sheet}
 use Rattle.answer_definitions.specs.Lines.{name_of, lines_of}
 use Rattle.listing_laws.proofs.Cutting.{weaker, heads, cut}
 use Rattle.listing_laws.proofs.Digits.{digits_are, digit_there, digits_tell}
-use Rattle.walk_definitions.specs.Checkers.{checker_of_128_bits}
-use Rattle.walk_definitions.specs.Words.{left_after, ends_word, with_word, fraction_in}
+use Rattle.walk_definitions.specs.Words.{left_after, ends_word, with_word}
 use Rattle.walk_definitions.specs.Tables.{Slot, AnyCode, AnyNumber, Known, all_codes, value_in, slot_in, then_more, values_in, begins, begins_table_line, line_head, line_of, line_in, table_in, multiplier_in, ray_in}
 use Rattle.walk_definitions.proofs.Texts.{stands, is_text}
-use Rattle.walk_definitions.proofs.Numbers.{fraction_of_text}
 use Rattle.walk_definitions.proofs.Lines.{whole_line}
 use Rattle.fitting_answers.specs.Fitting.{ValuesFit, LinesFit}
-use Rattle.own_listing_laws.proofs.Spelled.{IsWord, text_first, word_first, done, rational_word}
+use Rattle.own_listing_laws.proofs.Spelled.{IsWord, ReadsFractions, text_first, word_first, done, rational_word}
 
 -- ---- values
 
@@ -67,29 +65,6 @@ value_word (Number x) = rational_word x
 value_word Absent = refl
 value_word Dash = refl
 
-value_means : (slot : Slot) (value : Value) → Matches slot value → value_in (fraction_in checker_of_128_bits) slot (value_text value) ≡ Some value
-value_means AnyCode (Code at) matches = ap (option_map Code) (at_named at)
-value_means AnyCode (Number x) matches = absurd matches
-value_means AnyCode Absent matches = absurd matches
-value_means AnyCode Dash matches = absurd matches
-value_means AnyNumber (Number x) matches = ap (option_map Number) (fraction_of_text x matches)
-value_means AnyNumber (Code at) matches = absurd matches
-value_means AnyNumber Absent matches = absurd matches
-value_means AnyNumber Dash matches = absurd matches
-value_means (Known known) value matches =
-    ap (λ b. if b then Some known else None) ((bytes_eq-Decides (value_text known) (value_text value)).1 (ap value_text matches))
-    ∙ ap (λ (v : Value). Some v) matches
-
-slot_read : (slot : Slot) (value : Value) (byte : ℕ) (rest : List ℕ) → Matches slot value → ends_word byte ≡ true →
-    slot_in (fraction_in checker_of_128_bits) slot (codes " " ++ (value_text value ++ byte ∷ rest)) ≡ Some (value, byte ∷ rest)
-slot_read slot value byte rest matches ends =
-    (text_first (codes " ") (with_word (value_in (fraction_in checker_of_128_bits) slot) keep) (value_text value ++ byte ∷ rest) (Some (value, byte ∷ rest))
-    (word_first (value_in (fraction_in checker_of_128_bits) slot) (value_text value) value byte rest keep (Some (value, byte ∷ rest)) (value_word value) ends
-    (value_means slot value matches) (done (keep value) (byte ∷ rest)))).of
-  where
-    keep : Value → List ℕ → Option (Value × List ℕ)
-    keep value left = Some (value, left)
-
 record Next (text : List ℕ) : Type 0 where
   pub byte : ℕ
   pub left : List ℕ
@@ -101,19 +76,43 @@ next_of : (values : List Value) (rest : List ℕ) → Next (values_text values +
 next_of [] rest = record { byte = 10; left = rest; is = refl; ends = refl }
 next_of (value ∷ values) rest = record { byte = 32; left = (value_text value ++ values_text values) ++ 10 ∷ rest; is = refl; ends = refl }
 
-values_read : (slots : List Slot) (values : List Value) (rest : List ℕ) → AllMatch slots values →
-    values_in (fraction_in checker_of_128_bits) slots (values_text values ++ 10 ∷ rest) ≡ Some (values, 10 ∷ rest)
-values_read [] [] rest match = refl
-values_read [] (value ∷ values) rest match = absurd match
-values_read (slot ∷ slots) [] rest match = absurd match
-values_read (slot ∷ slots) (value ∷ values) rest match =
-    let next = next_of values rest in
-    let first : slot_in (fraction_in checker_of_128_bits) slot (values_text (value ∷ values) ++ 10 ∷ rest) ≡ Some (value, values_text values ++ 10 ∷ rest) =
-    ap (slot_in (fraction_in checker_of_128_bits) slot) (append_assoc (32 ∷ value_text value) (values_text values) (10 ∷ rest))
-    ∙ ap (λ r. slot_in (fraction_in checker_of_128_bits) slot (codes " " ++ (value_text value ++ r))) next.is
-    ∙ slot_read slot value next.byte next.left match.0 next.ends ∙ ap (λ (r : List ℕ). Some (value, r)) (sym next.is) in
-    ap (λ o. then_more o (values_in (fraction_in checker_of_128_bits) slots)) first
-    ∙ ap (option_map (λ more. (value ∷ more.0, more.1))) (values_read slots values rest match.1)
+module _ (of : List ℕ → Option ℚ) (fractions : ReadsFractions of) where
+  value_means : (slot : Slot) (value : Value) → Matches slot value → value_in of slot (value_text value) ≡ Some value
+  value_means AnyCode (Code at) matches = ap (option_map Code) (at_named at)
+  value_means AnyCode (Number x) matches = absurd matches
+  value_means AnyCode Absent matches = absurd matches
+  value_means AnyCode Dash matches = absurd matches
+  value_means AnyNumber (Number x) matches = ap (option_map Number) (fractions.means x matches)
+  value_means AnyNumber (Code at) matches = absurd matches
+  value_means AnyNumber Absent matches = absurd matches
+  value_means AnyNumber Dash matches = absurd matches
+  value_means (Known known) value matches =
+      ap (λ b. if b then Some known else None) ((bytes_eq-Decides (value_text known) (value_text value)).1 (ap value_text matches))
+      ∙ ap (λ (v : Value). Some v) matches
+
+  slot_read : (slot : Slot) (value : Value) (byte : ℕ) (rest : List ℕ) → Matches slot value → ends_word byte ≡ true →
+      slot_in of slot (codes " " ++ (value_text value ++ byte ∷ rest)) ≡ Some (value, byte ∷ rest)
+  slot_read slot value byte rest matches ends =
+      (text_first (codes " ") (with_word (value_in of slot) keep) (value_text value ++ byte ∷ rest) (Some (value, byte ∷ rest))
+      (word_first (value_in of slot) (value_text value) value byte rest keep (Some (value, byte ∷ rest)) (value_word value) ends
+      (value_means slot value matches) (done (keep value) (byte ∷ rest)))).of
+    where
+      keep : Value → List ℕ → Option (Value × List ℕ)
+      keep value left = Some (value, left)
+
+  values_read : (slots : List Slot) (values : List Value) (rest : List ℕ) → AllMatch slots values →
+      values_in of slots (values_text values ++ 10 ∷ rest) ≡ Some (values, 10 ∷ rest)
+  values_read [] [] rest match = refl
+  values_read [] (value ∷ values) rest match = absurd match
+  values_read (slot ∷ slots) [] rest match = absurd match
+  values_read (slot ∷ slots) (value ∷ values) rest match =
+      let next = next_of values rest in
+      let first : slot_in of slot (values_text (value ∷ values) ++ 10 ∷ rest) ≡ Some (value, values_text values ++ 10 ∷ rest) =
+      ap (slot_in of slot) (append_assoc (32 ∷ value_text value) (values_text values) (10 ∷ rest))
+      ∙ ap (λ r. slot_in of slot (codes " " ++ (value_text value ++ r))) next.is
+      ∙ slot_read slot value next.byte next.left match.0 next.ends ∙ ap (λ (r : List ℕ). Some (value, r)) (sym next.is) in
+      ap (λ o. then_more o (values_in of slots)) first
+      ∙ ap (option_map (λ more. (value ∷ more.0, more.1))) (values_read slots values rest match.1)
 
 -- ---- lines
 
@@ -129,12 +128,13 @@ module _ (sheet : Sheet) where
       left_after (line_head sheet k) (line_text (line_of sheet k values) ++ rest) ≡ Some (values_text values ++ 10 ∷ rest)
   line_stands k values rest = ap (left_after (line_head sheet k)) (parted k values rest) ∙ stands (line_head sheet k) (values_text values ++ 10 ∷ rest)
 
-  line_read : (slots : List Slot) (k : ℕ) (values : List Value) (rest : List ℕ) → AllMatch slots values →
-      line_in (fraction_in checker_of_128_bits) sheet slots k (line_text (line_of sheet k values) ++ rest) ≡ Some (line_of sheet k values, rest)
-  line_read slots k values rest match =
-      whole_line (fraction_in checker_of_128_bits) sheet slots k (line_text (line_of sheet k values) ++ rest) (values_text values ++ 10 ∷ rest) values
-      (10 ∷ rest) rest
-      (line_stands k values rest) (values_read slots values rest match) (stands (codes "\n") rest)
+  module _ (of : List ℕ → Option ℚ) (fractions : ReadsFractions of) where
+    line_read : (slots : List Slot) (k : ℕ) (values : List Value) (rest : List ℕ) → AllMatch slots values →
+        line_in of sheet slots k (line_text (line_of sheet k values) ++ rest) ≡ Some (line_of sheet k values, rest)
+    line_read slots k values rest match =
+        whole_line of sheet slots k (line_text (line_of sheet k values) ++ rest) (values_text values ++ 10 ∷ rest) values
+        (10 ∷ rest) rest
+        (line_stands k values rest) (values_read of fractions slots values rest match) (stands (codes "\n") rest)
 
   -- ---- tables
 
@@ -148,16 +148,17 @@ module _ (sheet : Sheet) where
   matched_of slots values each [] fit = tt
   matched_of slots values each (k ∷ ks) fit = (each k fit.0, matched_of slots values each ks fit.1)
 
-  pub table_read : (slots : ℕ → List Slot) (values : ℕ → List Value) (ks : List ℕ) (rest : List ℕ) → AreMatched slots values ks →
-      table_in (fraction_in checker_of_128_bits) sheet slots ks (table_text (lines_of sheet values ks) ++ rest) ≡ Some (lines_of sheet values ks, rest)
-  table_read slots values [] rest match = refl
-  table_read slots values (k ∷ ks) rest match =
-      let line = line_of sheet k (values k) in
-      let more = table_text (lines_of sheet values ks) in
-      ap (λ r. then_more (line_in (fraction_in checker_of_128_bits) sheet (slots k) k r) (table_in (fraction_in checker_of_128_bits) sheet slots ks))
-      (append_assoc (line_text line) more rest)
-      ∙ ap (λ o. then_more o (table_in (fraction_in checker_of_128_bits) sheet slots ks)) (line_read (slots k) k (values k) (more ++ rest) match.0)
-      ∙ ap (option_map (λ got. (line ∷ got.0, got.1))) (table_read slots values ks rest match.1)
+  module _ (of : List ℕ → Option ℚ) (fractions : ReadsFractions of) where
+    pub table_read : (slots : ℕ → List Slot) (values : ℕ → List Value) (ks : List ℕ) (rest : List ℕ) → AreMatched slots values ks →
+        table_in of sheet slots ks (table_text (lines_of sheet values ks) ++ rest) ≡ Some (lines_of sheet values ks, rest)
+    table_read slots values [] rest match = refl
+    table_read slots values (k ∷ ks) rest match =
+        let line = line_of sheet k (values k) in
+        let more = table_text (lines_of sheet values ks) in
+        ap (λ r. then_more (line_in of sheet (slots k) k r) (table_in of sheet slots ks))
+        (append_assoc (line_text line) more rest)
+        ∙ ap (λ o. then_more o (table_in of sheet slots ks)) (line_read of fractions (slots k) k (values k) (more ++ rest) match.0)
+        ∙ ap (option_map (λ got. (line ∷ got.0, got.1))) (table_read slots values ks rest match.1)
 
 -- ---- heads of lines
 
@@ -273,46 +274,47 @@ module _ (sheet : Sheet) where
             ∙ no_head_before j first (one_value w first) (rest_of more) below
         by false later = later
 
-    multiplier_read : (k : ℕ) (rest : List ℕ) → TermsFit (w k) → eq_ℚ (w k) zero_ℚ ≡ false →
-        multiplier_in (fraction_in checker_of_128_bits) sheet k (line_text (line_of sheet k (one_value w k)) ++ rest) ≡ Some
-        (line_of sheet k (one_value w k), rest)
-    multiplier_read k rest fit apart =
-        ap (option_and_then _) (line_read sheet (AnyNumber ∷ []) k (one_value w k) rest (fit, tt))
-        ∙ ap (λ b. if b then None else Some (line_of sheet k (one_value w k), rest)) apart
+    module _ (of : List ℕ → Option ℚ) (fractions : ReadsFractions of) where
+      multiplier_read : (k : ℕ) (rest : List ℕ) → TermsFit (w k) → eq_ℚ (w k) zero_ℚ ≡ false →
+          multiplier_in of sheet k (line_text (line_of sheet k (one_value w k)) ++ rest) ≡ Some
+          (line_of sheet k (one_value w k), rest)
+      multiplier_read k rest fit apart =
+          ap (option_and_then _) (line_read sheet of fractions (AnyNumber ∷ []) k (one_value w k) rest (fit, tt))
+          ∙ ap (λ b. if b then None else Some (line_of sheet k (one_value w k), rest)) apart
 
-    pub ray_read : (first n : ℕ) → LinesFit (lines_of sheet (one_value w) (among w (numbers_from first n))) →
-        ray_in (fraction_in checker_of_128_bits) sheet (numbers_from first n) (rest_of (among w (numbers_from first n))) ≡ Some
-        (lines_of sheet (one_value w) (among w (numbers_from first n)), after)
-    ray_read first zero fit = ap (λ b. if b then None else Some ([], after)) other
-    ray_read first (suc n) fit = by (eq_ℚ (w first) zero_ℚ) refl fit (ray_read (suc first) n) (no_head first (suc first) n (omega arith))
-      where
-        more : List ℕ
-        more = among w (numbers_from (suc first) n)
+      pub ray_read : (first n : ℕ) → LinesFit (lines_of sheet (one_value w) (among w (numbers_from first n))) →
+          ray_in of sheet (numbers_from first n) (rest_of (among w (numbers_from first n))) ≡ Some
+          (lines_of sheet (one_value w) (among w (numbers_from first n)), after)
+      ray_read first zero fit = ap (λ b. if b then None else Some ([], after)) other
+      ray_read first (suc n) fit = by (eq_ℚ (w first) zero_ℚ) refl fit (ray_read (suc first) n) (no_head first (suc first) n (omega arith))
+        where
+          more : List ℕ
+          more = among w (numbers_from (suc first) n)
 
-        line : Line
-        line = line_of sheet first (one_value w first)
+          line : Line
+          line = line_of sheet first (one_value w first)
 
-        by : (b : Bool) → eq_ℚ (w first) zero_ℚ ≡ b → LinesFit (lines_of sheet (one_value w) (cond (not b) (first ∷ more) more)) →
-            (LinesFit (lines_of sheet (one_value w) more) →
-            ray_in (fraction_in checker_of_128_bits) sheet (numbers_from (suc first) n) (rest_of more) ≡ Some (lines_of sheet (one_value w) more, after)) →
-            left_after (line_head sheet first) (rest_of more) ≡ None →
-            ray_in (fraction_in checker_of_128_bits) sheet (numbers_from first (suc n)) (rest_of (cond (not b) (first ∷ more) more)) ≡ Some
-            (lines_of sheet (one_value w) (cond (not b) (first ∷ more) more), after)
-        by true is fit later none =
-            ap (λ (o : Option (List ℕ)). elim o [
-              | None ↦ ray_in (fraction_in checker_of_128_bits) sheet (numbers_from (suc first) n) (rest_of more)
-              | Some values ↦ then_more (multiplier_in (fraction_in checker_of_128_bits) sheet first (rest_of more))
-                  (ray_in (fraction_in checker_of_128_bits) sheet (numbers_from (suc first) n))
-            ]) none ∙ later fit
-        by false is fit later none =
-            let whole : rest_of (first ∷ more) ≡ line_text line ++ rest_of more =
-            append_assoc (line_text line) (table_text (lines_of sheet (one_value w) more)) after in
-            ap (ray_in (fraction_in checker_of_128_bits) sheet (numbers_from first (suc n))) whole
-            ∙ ap (λ (o : Option (List ℕ)). elim o [
-              | None ↦ ray_in (fraction_in checker_of_128_bits) sheet (numbers_from (suc first) n) (line_text line ++ rest_of more)
-              | Some values ↦ then_more (multiplier_in (fraction_in checker_of_128_bits) sheet first (line_text line ++ rest_of more))
-                  (ray_in (fraction_in checker_of_128_bits) sheet (numbers_from (suc first) n))
-            ]) (line_stands sheet first (one_value w first) (rest_of more))
-            ∙ ap (λ o. then_more o (ray_in (fraction_in checker_of_128_bits) sheet (numbers_from (suc first) n)))
-            (multiplier_read first (rest_of more) fit.0.0 is)
-            ∙ ap (option_map (λ got. (line ∷ got.0, got.1))) (later fit.1)
+          by : (b : Bool) → eq_ℚ (w first) zero_ℚ ≡ b → LinesFit (lines_of sheet (one_value w) (cond (not b) (first ∷ more) more)) →
+              (LinesFit (lines_of sheet (one_value w) more) →
+              ray_in of sheet (numbers_from (suc first) n) (rest_of more) ≡ Some (lines_of sheet (one_value w) more, after)) →
+              left_after (line_head sheet first) (rest_of more) ≡ None →
+              ray_in of sheet (numbers_from first (suc n)) (rest_of (cond (not b) (first ∷ more) more)) ≡ Some
+              (lines_of sheet (one_value w) (cond (not b) (first ∷ more) more), after)
+          by true is fit later none =
+              ap (λ (o : Option (List ℕ)). elim o [
+                | None ↦ ray_in of sheet (numbers_from (suc first) n) (rest_of more)
+                | Some values ↦ then_more (multiplier_in of sheet first (rest_of more))
+                    (ray_in of sheet (numbers_from (suc first) n))
+              ]) none ∙ later fit
+          by false is fit later none =
+              let whole : rest_of (first ∷ more) ≡ line_text line ++ rest_of more =
+              append_assoc (line_text line) (table_text (lines_of sheet (one_value w) more)) after in
+              ap (ray_in of sheet (numbers_from first (suc n))) whole
+              ∙ ap (λ (o : Option (List ℕ)). elim o [
+                | None ↦ ray_in of sheet (numbers_from (suc first) n) (line_text line ++ rest_of more)
+                | Some values ↦ then_more (multiplier_in of sheet first (line_text line ++ rest_of more))
+                    (ray_in of sheet (numbers_from (suc first) n))
+              ]) (line_stands sheet first (one_value w first) (rest_of more))
+              ∙ ap (λ o. then_more o (ray_in of sheet (numbers_from (suc first) n)))
+              (multiplier_read first (rest_of more) fit.0.0 is)
+              ∙ ap (option_map (λ got. (line ∷ got.0, got.1))) (later fit.1)

@@ -1,11 +1,11 @@
--- A test of what a run prints never fails: the run has made the same check, and what it prints is true.
---     Passes v                     no comparison fails
+-- A test of what a run prints never fails: what it prints is true, and in numbers of 128 bits the run has made the same check.
+--     Passes C v                   no comparison fails, and if an operation is refused, the checker's arithmetic refuses it
 --     verdict_passes, reported_passes    those of a verdict and of SOLUTION
-use Rattle.std.proofs.Common.{◌≡◌, ℕ, zero, suc, ◌+◌, ◌-◌, ◌<◌, ◌≤◌, Bool, true, false, List, [], ◌∷◌, ◌++◌, Some, refl, sym, ap, ap₂, subst, ◌∙◌, arith}
+use Rattle.std.proofs.Common.{◌≡◌, ◌⊎◌, inl, inr, ℕ, zero, suc, ◌+◌, ◌-◌, ◌<◌, ◌≤◌, Bool, true, false, List, [], ◌∷◌, ◌++◌, Some, refl, sym, ap, ap₂, subst, ◌∙◌, arith}
 use Rattle.std.specs.Prelude.{if◌then◌else◌}
 use Rattle.std.specs.List.{flat_map}
 use Rattle.frac128.specs.declared.Op.{Op}
-use Rattle.frac128.specs.declared.Op.TheVariants.{Add, Sub, Mul}
+use Rattle.frac128.specs.declared.Op.TheVariants.{Sub}
 use Rattle.frac128.specs.Operations.{refuses}
 use Rattle.exact_values.specs.Rational.{ℚ, zero_ℚ, ◌+ℚ◌, ◌-ℚ◌, ◌*ℚ◌, ◌<ℚ◌}
 use Rattle.exact_values.specs.Sums.{sum_to}
@@ -20,18 +20,19 @@ use Rattle.lp_laws.proofs.Equations.{KeepsEquations-same}
 use Rattle.lp_laws.proofs.Optimal.{price_of_column}
 use Rattle.check_definitions.specs.declared.Verdict.{Verdict}
 use Rattle.check_definitions.specs.declared.Verdict.TheVariants.{Checked, Failed, Unchecked}
-use Rattle.check_definitions.specs.Steps.{Step, operation, comparison, verdict_of, followed_by, in_turn, Product, product_of, sum_steps}
-use Rattle.check_definitions.specs.Checks.{equations, within_limits, feasible_point, reduced_costs, standing_prices, optimal_check, crossed_check, infeasible_check, unbounded_check}
+use Rattle.check_definitions.specs.Steps.{Step, operation, comparison, AllHold, verdict_of, followed_by, in_turn}
+use Rattle.check_definitions.specs.Checks.{equations, within_limits, feasible_point, reduced_costs, standing_prices, optimal_steps, crossed_steps, infeasible_steps, unbounded_steps, optimal_check, crossed_check, infeasible_check, unbounded_check}
 use Rattle.check_definitions.proofs.Passing.{verdict-append, checked-append}
 use Rattle.certificate_laws.specs.Parts.{AreReducedCosts}
-use Rattle.certificate_check.proofs.TrueClaims.{NeverFails, never_equations, never_costs, never_optimal}
+use Rattle.certificate_laws.proofs.Truth.{all_hold, equations_hold, costs_hold, optimal_holds}
+use Rattle.certificate_check.specs.Results.{IsNotFailed}
 use Rattle.simplex_definitions.specs.Path.{PathEnding, EndsOptimal, EndsCrossed, EndsInfeasible, EndsUnbounded, listed}
 use Rattle.simplex_laws.specs.Laws.{IsNonsingularBasis}
 use Rattle.simplex_laws.proofs.Ends.{value_at-listed, IsFeasible-same}
 use Rattle.simplex_laws.proofs.Numbered.{get_or-listed}
 use Rattle.listing_definitions.specs.declared.Mark.{Mark}
 use Rattle.listing_definitions.specs.declared.Mark.TheVariants.{Optimal}
-use Rattle.listing_definitions.specs.Report.{PathVerdict, OptimalAt, CrossedAt, InfeasibleBy, UnboundedBy, Check, SolutionLines}
+use Rattle.listing_definitions.specs.Report.{PathVerdict, Check}
 use Rattle.listing_definitions.specs.Report as reports
 use Rattle.question_definitions.specs.Answers.{Basis, Sheet}
 use Rattle.answer_definitions.specs.Lines.{row_numbers}
@@ -39,82 +40,94 @@ use Rattle.answer_definitions.specs.Verdicts.{check_of, found, IsVerdict}
 use Rattle.answer_definitions.specs.Verdicts as verdicts
 use Rattle.answer_definitions.specs.Sections.{solution_row, solution_lines}
 use Rattle.walk_definitions.specs.Tables.{column_of}
-use Rattle.walk_definitions.specs.Checkers.{says_checked, checker_of_128_bits}
-use Rattle.walk_definitions.specs.Tests.{asked, verdict_test, slack_steps, best_test, solution_test}
+use Rattle.walk_definitions.specs.Checkers.{Checker, says_checked, checker_of_128_bits, checker_of_any_length}
+use Rattle.walk_definitions.specs.Tests.{asked, says, verdict_test, slack_steps, best_test, solution_test}
 use Rattle.own_listing_laws.proofs.Columns.{column_is, first_of_pairs, second_of_pairs, multipliers_of_ray, points_of_lines, prices_of_lines}
-use Rattle.own_listing_laws.proofs.Ended.{IsOf}
+use Rattle.own_listing_laws.proofs.Ended.{IsOf, claim_steps}
+use Rattle.own_listing_laws.proofs.Suiting.{SuitsRuns}
 
-pub record Passes (v : Verdict) : Type 0 where
-  pub never : (part number : ℕ) → v ≡ Failed part number → ⊥
+abbrev pub IsPassed : Checker → Verdict → Type 0
+IsPassed C Checked = Unit {0}
+IsPassed C (Failed part number) = ⊥
+IsPassed C (Unchecked r) = C.arithmetic.refused r.op r.left r.right ≡ true
 
-pub passes_checked : Passes Checked
-passes_checked = record { never = λ part number e. cc e }
+pub record Passes (C : Checker) (v : Verdict) : Type 0 where
+  pub of : IsPassed C v
 
-pub passes_steps : (steps : List Step) → NeverFails steps → Passes (verdict_of steps)
-passes_steps steps never = record { never = never.never }
+pub never_failed : (C : Checker) (v : Verdict) → Passes C v → IsNotFailed v
+never_failed C Checked passes part number e = cc e
+never_failed C (Failed one two) passes part number e = passes.of
+never_failed C (Unchecked r) passes part number e = cc e
 
-pub passes_same : (v w : Verdict) → v ≡ w → Passes w → Passes v
-passes_same v w same passes = subst Passes (sym same) passes
+-- where nothing is refused
+pub passed_at_any_length : (v : Verdict) → Passes checker_of_any_length v → v ≡ Checked
+passed_at_any_length Checked passes = refl
+passed_at_any_length (Failed part number) passes = absurd passes.of
+passed_at_any_length (Unchecked r) passes = let e : false ≡ true = passes.of in absurd (cc e)
 
--- no comparison of these verdicts fails before an operation is refused
-pub record AllPass (vs : List Verdict) : Type 0 where
-  pub passes : Passes (in_turn vs)
+module _ (C : Checker) where
+  pub passes_checked : Passes C Checked
+  passes_checked = record { of = tt }
 
-pub pass_none : AllPass []
-pass_none = record { passes = passes_checked }
+  pub passes_same : (v w : Verdict) → v ≡ w → Passes C w → Passes C v
+  passes_same v w same passes = subst (Passes C) (sym same) passes
 
-pub pass_then : (v : Verdict) (vs : List Verdict) → Passes v → AllPass vs → AllPass (v ∷ vs)
-pass_then Checked vs passes later = record { passes = later.passes }
-pass_then (Failed part number) vs passes later = absurd (passes.never part number refl)
-pass_then (Unchecked refused) vs passes later = record { passes = record { never = λ part number e. cc e } }
+  -- these verdicts pass, one after another
+  pub record AllPass (vs : List Verdict) : Type 0 where
+    pub passes : Passes C (in_turn vs)
 
-pub passes_asked : (b : Bool) → b ≡ true → Passes (asked b)
-passes_asked true e = passes_checked
-passes_asked false e = absurd (cc e)
+  pub pass_none : AllPass []
+  pass_none = record { passes = passes_checked }
 
--- ---- steps
+  pub pass_then : (v : Verdict) (vs : List Verdict) → Passes C v → AllPass vs → AllPass (v ∷ vs)
+  pass_then Checked vs passes later = record { passes = later.passes }
+  pass_then (Failed part number) vs passes later = absurd passes.of
+  pass_then (Unchecked r) vs passes later = record { passes = record { of = passes.of } }
 
-pub never_none : NeverFails []
-never_none = record { never = λ part number e. cc e }
+  pub passes_asked : (b : Bool) → b ≡ true → Passes C (asked b)
+  passes_asked true e = passes_checked
+  passes_asked false e = absurd (cc e)
 
-pub never-append : (xs ys : List Step) → NeverFails xs → NeverFails ys → NeverFails (xs ++ ys)
-never-append xs ys h k = record { never = λ part number e. at (verdict_of xs) h.never part number (sym (verdict-append xs ys) ∙ e) }
-  where
-    at : (v : Verdict) → ((part number : ℕ) → v ≡ Failed part number → ⊥) → (part number : ℕ) → followed_by v (verdict_of ys) ≡ Failed part number → ⊥
-    at Checked off part number e = k.never part number e
-    at (Failed q n) off part number e = off q n refl
-    at (Unchecked r) off part number e = cc e
+  -- ---- steps whose comparisons hold
 
-pub never_operation : (op : Op) (x y : ℚ) (steps : List Step) → NeverFails steps → NeverFails (operation op x y ∷ steps)
-never_operation op x y steps h = record { never = λ part number e. at (refuses op x y) part number e }
-  where
-    at : (b : Bool) (part number : ℕ) → (if b then Unchecked (record { op = op; left = x; right = y }) else verdict_of steps) ≡ Failed part number → ⊥
-    at true part number e = cc e
-    at false part number e = h.never part number e
+  steps_passed : (steps : List Step) → AllHold steps → IsPassed C (says C steps)
+  steps_passed [] h = tt
+  steps_passed (operation op x y ∷ steps) h = by (C.arithmetic.refused op x y) refl (steps_passed steps h)
+    where
+      by : (b : Bool) → C.arithmetic.refused op x y ≡ b → IsPassed C (says C steps) →
+          IsPassed C (if b then Unchecked (record { op = op; left = x; right = y }) else says C steps)
+      by true is rest = is
+      by false is rest = rest
+  steps_passed (comparison part number true ∷ steps) h = steps_passed steps h.1
+  steps_passed (comparison part number false ∷ steps) h = absurd (cc h.0)
 
-pub never_sum : (start : ℚ) (ts : List Product) → NeverFails (sum_steps start ts)
-never_sum start [] = never_none
-never_sum start (t ∷ ts) =
-    never_operation Mul t.left t.right (operation Add start (product_of t) ∷ sum_steps (start +ℚ product_of t) ts)
-    (never_operation Add start (product_of t) (sum_steps (start +ℚ product_of t) ts) (never_sum (start +ℚ product_of t) ts))
+  pub passes_steps : (steps : List Step) → AllHold steps → Passes C (says C steps)
+  passes_steps steps h = record { of = steps_passed steps h }
 
-pub never_comparison : (part number : ℕ) (b : Bool) → b ≡ true → NeverFails (comparison part number b ∷ [])
-never_comparison part number true e = record { never = λ q n f. cc f }
-never_comparison part number false e = absurd (cc e)
+  pub pass_steps : (steps : List Step) (vs : List Verdict) → AllHold steps → AllPass vs → AllPass (says C steps ∷ vs)
+  pass_steps steps vs h later = pass_then (says C steps) vs (passes_steps steps h) later
 
-pub never_each : (f : ℕ → List Step) (first n : ℕ) → ((k : ℕ) → first ≤ k → k < first + n → NeverFails (f k)) → NeverFails (flat_map f (numbers_from first n))
-never_each f first zero h = never_none
-never_each f first (suc n) h =
-    never-append (f first) (flat_map f (numbers_from (suc first) n)) (h first (omega arith) (omega arith))
-    (never_each f (suc first) n (λ k low high. h k (omega arith) (omega arith)))
+  -- ---- a claim, with the word of the check that the run made of it
+
+  said_passes : SuitsRuns C → (steps : List Step) (check : Check) → AllHold steps → verdict_of steps ≡ found check →
+      Passes C (in_turn (says C steps ∷ asked (C.takes check) ∷ []))
+  said_passes suits steps check h own = by (says C steps) refl (passes_steps steps h)
+    where
+      by : (v : Verdict) → says C steps ≡ v → Passes C v → Passes C (in_turn (v ∷ asked (C.takes check) ∷ []))
+      by Checked is passes = (pass_then (asked (C.takes check)) [] (passes_asked (C.takes check) (suits.takes steps check own is)) pass_none).passes
+      by (Failed part number) is passes = absurd passes.of
+      by (Unchecked r) is passes = record { of = passes.of }
 
 -- ---- verdicts
 
--- what the run found of its own check, it says
-reported : (v : Verdict) (check : Check) → v ≡ found check → Passes (in_turn (v ∷ asked (says_checked check) ∷ []))
-reported v reports.Checked e = passes_same _ Checked (ap (λ u. in_turn (u ∷ asked true ∷ [])) e) passes_checked
-reported v (reports.Unchecked refused) e =
-    passes_same _ (Unchecked refused) (ap (λ u. in_turn (u ∷ asked false ∷ [])) e) (record { never = λ part number f. cc f })
+-- in numbers of 128 bits, what the run found of its own check is found
+reported : (v : Verdict) (check : Check) → v ≡ found check → in_turn (v ∷ asked (says_checked check) ∷ []) ≡ found check
+reported v reports.Checked e = ap (λ u. in_turn (u ∷ asked true ∷ [])) e
+reported v (reports.Unchecked refused) e = ap (λ u. in_turn (u ∷ asked false ∷ [])) e
+
+found_never : (v : Verdict) (check : Check) → v ≡ found check → IsNotFailed v
+found_never v reports.Checked e part number failed = let both : Checked ≡ Failed part number = sym e ∙ failed in cc both
+found_never v (reports.Unchecked refused) e part number failed = let both : Unchecked refused ≡ Failed part number = sym e ∙ failed in cc both
 
 with_asked : (v : Verdict) (b : Bool) → b ≡ true → in_turn (v ∷ asked b ∷ []) ≡ v
 with_asked Checked true e = refl
@@ -146,47 +159,70 @@ all_checked a b c d is_a is_b is_c is_d =
     ∙ ap (λ v. in_turn (v ∷ [])) is_d
 
 module _ (sheet : Sheet) (s : Basis) (t : Tableau) where
-  ended_passes : (steps : ℕ) (ending : PathEnding) (check : Check) → IsOf sheet.lp s t ending → check_of sheet.lp ending ≡ found check →
-      Passes (verdict_test checker_of_128_bits sheet (verdicts.verdict_of sheet steps ending) check)
-  ended_passes steps (EndsOptimal z y) check is e = passes_checked
-  ended_passes steps (EndsCrossed k) check is e = reported (crossed_check sheet.lp k) check e
-  ended_passes steps (EndsInfeasible w) check is e =
-      reported _ check (ap (λ (xs : List ℚ). infeasible_check sheet.lp (value_at xs)) (multipliers_of_ray sheet w is) ∙ e)
-  ended_passes steps (EndsUnbounded z d) check is e =
+  -- what is tested of an end; an optimal verdict is tested at SOLUTION
+  abbrev claim_said : Checker → PathEnding → Check → Verdict
+  claim_said C (EndsOptimal z y) check = Checked
+  claim_said C ending check = in_turn (says C (claim_steps sheet.lp ending) ∷ asked (C.takes check) ∷ [])
+
+  test_is : (C : Checker) (steps : ℕ) (ending : PathEnding) (check : Check) → IsOf sheet.lp s t ending →
+      verdict_test C sheet (verdicts.verdict_of sheet steps ending) check ≡ claim_said C ending check
+  test_is C steps (EndsOptimal z y) check is = refl
+  test_is C steps (EndsCrossed k) check is = refl
+  test_is C steps (EndsInfeasible w) check is =
+      ap (λ (xs : List ℚ). in_turn (says C (infeasible_steps sheet.lp (value_at xs)) ∷ asked (C.takes check) ∷ [])) (multipliers_of_ray sheet w is)
+  test_is C steps (EndsUnbounded z d) check is =
       let o = sheet.lp.objective in
-      reported _ check
-      (ap₂ (λ (xs ys : List ℚ). in_turn (unbounded_check sheet.lp (value_at xs) (value_at ys) ∷ asked (eq_ℚ (value_at z o) (value_at xs o)) ∷ []))
+      ap (λ v. in_turn (v ∷ asked (C.takes check) ∷ []))
+      (ap₂ (λ (xs ys : List ℚ). in_turn (says C (unbounded_steps sheet.lp (value_at xs) (value_at ys)) ∷ asked (eq_ℚ (value_at z o) (value_at xs o)) ∷ []))
       (first_of_pairs sheet z d is.0) (second_of_pairs sheet z d is.1)
-      ∙ with_asked (unbounded_check sheet.lp (value_at z) (value_at d)) (eq_ℚ (value_at z o) (value_at z o)) (test_from_same (value_at z o) (value_at z o) refl)
-      ∙ e)
+      ∙ with_asked (says C (unbounded_steps sheet.lp (value_at z) (value_at d))) (eq_ℚ (value_at z o) (value_at z o))
+      (test_from_same (value_at z o) (value_at z o) refl))
 
-  pub verdict_passes : (steps : ℕ) (ending : PathEnding) (verdict : PathVerdict) (check : Check) → IsOf sheet.lp s t ending →
-      IsVerdict sheet steps ending verdict check → Passes (verdict_test checker_of_128_bits sheet verdict check)
-  verdict_passes steps ending verdict check is reported_so =
-      subst (λ v. Passes (verdict_test checker_of_128_bits sheet v check)) (sym reported_so.is_verdict)
-      (ended_passes steps ending check is reported_so.is_check)
+  claim_passes : (C : Checker) → SuitsRuns C → (ending : PathEnding) (check : Check) → AllHold (claim_steps sheet.lp ending) →
+      check_of sheet.lp ending ≡ found check → Passes C (claim_said C ending check)
+  claim_passes C suits (EndsOptimal z y) check h own = passes_checked C
+  claim_passes C suits (EndsCrossed k) check h own = said_passes C suits (crossed_steps sheet.lp k) check h own
+  claim_passes C suits (EndsInfeasible w) check h own = said_passes C suits (infeasible_steps sheet.lp (value_at w)) check h own
+  claim_passes C suits (EndsUnbounded z d) check h own = said_passes C suits (unbounded_steps sheet.lp (value_at z) (value_at d)) check h own
 
-  -- ---- where the run's check was made, its verdict passes
+  -- where the end is true
+  pub verdict_passes : (C : Checker) → SuitsRuns C → (steps : ℕ) (ending : PathEnding) (verdict : PathVerdict) (check : Check) → IsOf sheet.lp s t ending →
+      AllHold (claim_steps sheet.lp ending) → IsVerdict sheet steps ending verdict check → Passes C (verdict_test C sheet verdict check)
+  verdict_passes C suits steps ending verdict check is h reported_so =
+      subst (λ v. Passes C (verdict_test C sheet v check)) (sym reported_so.is_verdict)
+      (passes_same C _ (claim_said C ending check) (test_is C steps ending check is) (claim_passes C suits ending check h reported_so.is_check))
 
-  made_so : (v : Verdict) → v ≡ Checked → in_turn (v ∷ asked true ∷ []) ≡ Checked
-  made_so v e = ap (λ u. in_turn (u ∷ asked true ∷ [])) e
+  -- ---- in numbers of 128 bits the run has made the same check
 
-  ended_checked : (steps : ℕ) (ending : PathEnding) → IsOf sheet.lp s t ending → check_of sheet.lp ending ≡ Checked →
-      verdict_test checker_of_128_bits sheet (verdicts.verdict_of sheet steps ending) reports.Checked ≡ Checked
-  ended_checked steps (EndsOptimal z y) is e = refl
-  ended_checked steps (EndsCrossed k) is e = made_so (crossed_check sheet.lp k) e
-  ended_checked steps (EndsInfeasible w) is e = made_so _ (ap (λ (xs : List ℚ). infeasible_check sheet.lp (value_at xs)) (multipliers_of_ray sheet w is) ∙ e)
-  ended_checked steps (EndsUnbounded z d) is e =
-      let o = sheet.lp.objective in
-      made_so _ (ap₂ (λ (xs ys : List ℚ). in_turn (unbounded_check sheet.lp (value_at xs) (value_at ys) ∷ asked (eq_ℚ (value_at z o) (value_at xs o)) ∷ []))
-      (first_of_pairs sheet z d is.0) (second_of_pairs sheet z d is.1)
-      ∙ with_asked (unbounded_check sheet.lp (value_at z) (value_at d)) (eq_ℚ (value_at z o) (value_at z o)) (test_from_same (value_at z o) (value_at z o) refl)
-      ∙ e)
+  said_so : (ending : PathEnding) (check : Check) → check_of sheet.lp ending ≡ found check →
+      (claim_said checker_of_128_bits ending check ≡ Checked) ⊎ (claim_said checker_of_128_bits ending check ≡ found check)
+  said_so (EndsOptimal z y) check own = inl refl
+  said_so (EndsCrossed k) check own = inr (reported (crossed_check sheet.lp k) check own)
+  said_so (EndsInfeasible w) check own = inr (reported (infeasible_check sheet.lp (value_at w)) check own)
+  said_so (EndsUnbounded z d) check own = inr (reported (unbounded_check sheet.lp (value_at z) (value_at d)) check own)
 
-  pub verdict_checked : (steps : ℕ) (ending : PathEnding) (verdict : PathVerdict) → IsOf sheet.lp s t ending →
-      IsVerdict sheet steps ending verdict reports.Checked → verdict_test checker_of_128_bits sheet verdict reports.Checked ≡ Checked
-  verdict_checked steps ending verdict is reported_so =
-      ap (λ v. verdict_test checker_of_128_bits sheet v reports.Checked) reported_so.is_verdict ∙ ended_checked steps ending is reported_so.is_check
+  module _ (steps : ℕ) (ending : PathEnding) (verdict : PathVerdict) (is : IsOf sheet.lp s t ending) where
+    same_test : (check : Check) → IsVerdict sheet steps ending verdict check →
+        verdict_test checker_of_128_bits sheet verdict check ≡ claim_said checker_of_128_bits ending check
+    same_test check reported_so =
+        ap (λ v. verdict_test checker_of_128_bits sheet v check) reported_so.is_verdict ∙ test_is checker_of_128_bits steps ending check is
+
+    pub verdict_never_fails : (check : Check) → IsVerdict sheet steps ending verdict check → IsNotFailed (verdict_test checker_of_128_bits sheet verdict check)
+    verdict_never_fails check reported_so = by (said_so ending check reported_so.is_check)
+      where
+        by : (claim_said checker_of_128_bits ending check ≡ Checked) ⊎ (claim_said checker_of_128_bits ending check ≡ found check) →
+            IsNotFailed (verdict_test checker_of_128_bits sheet verdict check)
+        by (inl e) = found_never _ reports.Checked (same_test check reported_so ∙ e)
+        by (inr e) = found_never _ check (same_test check reported_so ∙ e)
+
+    -- where the run's check was made, its verdict passes
+    pub verdict_checked : IsVerdict sheet steps ending verdict reports.Checked → verdict_test checker_of_128_bits sheet verdict reports.Checked ≡ Checked
+    verdict_checked reported_so = same_test reports.Checked reported_so ∙ by (said_so ending reports.Checked reported_so.is_check)
+      where
+        by : (claim_said checker_of_128_bits ending reports.Checked ≡ Checked) ⊎ (claim_said checker_of_128_bits ending reports.Checked ≡ Checked) →
+            claim_said checker_of_128_bits ending reports.Checked ≡ Checked
+        by (inl e) = e
+        by (inr e) = e
 
   -- ---- SOLUTION
 
@@ -203,11 +239,11 @@ module _ (sheet : Sheet) (s : Basis) (t : Tableau) where
   abbrev pub reported_prices : Vector
   reported_prices = value_at (listed p.matrix prices)
 
-  abbrev test_by : Mark → List ℚ → List ℚ → Verdict
-  test_by mark xs ys =
-      in_turn (verdict_of (equations p 1 (value_at xs)) ∷ verdict_of (reduced_costs p (value_at ys)) ∷
-      verdict_of (flat_map (slack_steps sheet (value_at xs) (value_at (column_of 2 (solution_lines sheet s t).rows)))
-      (row_numbers p)) ∷ best_test checker_of_128_bits sheet mark (value_at xs) (value_at ys) ∷ [])
+  abbrev test_by : Checker → Mark → List ℚ → List ℚ → Verdict
+  test_by C mark xs ys =
+      in_turn (says C (equations p 1 (value_at xs)) ∷ says C (reduced_costs p (value_at ys)) ∷
+      says C (flat_map (slack_steps sheet (value_at xs) (value_at (column_of 2 (solution_lines sheet s t).rows)))
+      (row_numbers p)) ∷ best_test C sheet mark (value_at xs) (value_at ys) ∷ [])
 
   module _ (lawful : IsLinearProgram p) (tab : IsTableau p s t) (at : IsNonsingularBasis p s) where
     keeps : KeepsEquations p.matrix reported_point
@@ -233,18 +269,19 @@ module _ (sheet : Sheet) (s : Basis) (t : Tableau) where
         ∙ sym (get_or-listed (λ k. value_at p.rhs k -ℚ t.point k) p.rows 1 (i - 1) zero_ℚ (omega (arith, low, high)))
         ∙ ap (λ (xs : List ℚ). value_at xs i) (sym (column_is sheet (solution_row sheet s t) 2 (row_numbers p)))
 
-    never_slacks : NeverFails (flat_map (slack_steps sheet reported_point (value_at (column_of 2 (solution_lines sheet s t).rows))) (row_numbers p))
-    never_slacks = never_each (slack_steps sheet reported_point (value_at (column_of 2 (solution_lines sheet s t).rows))) 1 p.rows (λ i low high.
-        never_operation Sub (value_at p.rhs i) (reported_point i) _ (never_comparison 6 i _ (test_from_same _ _ (slack_is i low high))))
+    slacks_hold : AllHold (flat_map (slack_steps sheet reported_point (value_at (column_of 2 (solution_lines sheet s t).rows))) (row_numbers p))
+    slacks_hold = all_hold (slack_steps sheet reported_point (value_at (column_of 2 (solution_lines sheet s t).rows))) 1 p.rows
+        (λ i low high. (test_from_same _ _ (slack_is i low high), tt))
 
-    pub reported_passes : (mark : Mark) → Passes (best_test checker_of_128_bits sheet mark reported_point reported_prices) →
-        Passes (solution_test checker_of_128_bits sheet mark (solution_lines sheet s t))
-    reported_passes mark best =
-        passes_same (solution_test checker_of_128_bits sheet mark (solution_lines sheet s t)) (test_by mark (listed p.matrix t.point) (listed p.matrix prices))
-        (ap₂ (test_by mark) (points_of_lines sheet s t) (prices_of_lines sheet s t))
-        (pass_then (verdict_of (equations p 1 reported_point)) _ (passes_steps _ (never_equations p 1 reported_point keeps))
-        (pass_then (verdict_of (reduced_costs p reported_prices)) _ (passes_steps _ (never_costs p lawful.is_matrix reported_prices reduced))
-        (pass_then _ _ (passes_steps _ never_slacks) (pass_then _ [] best pass_none)))).passes
+    pub reported_passes : (C : Checker) (mark : Mark) → Passes C (best_test C sheet mark reported_point reported_prices) →
+        Passes C (solution_test C sheet mark (solution_lines sheet s t))
+    reported_passes C mark best =
+        passes_same C (solution_test C sheet mark (solution_lines sheet s t)) (test_by C mark (listed p.matrix t.point) (listed p.matrix prices))
+        (ap₂ (test_by C mark) (points_of_lines sheet s t) (prices_of_lines sheet s t))
+        (pass_steps C (equations p 1 reported_point) _ (equations_hold p 1 reported_point keeps)
+        (pass_steps C (reduced_costs p reported_prices) _ (costs_hold p lawful.is_matrix reported_prices reduced)
+        (pass_steps C (flat_map (slack_steps sheet reported_point (value_at (column_of 2 (solution_lines sheet s t).rows))) (row_numbers p)) _ slacks_hold
+        (pass_then C _ [] best (pass_none C))))).passes
 
     -- no difference of a slack is refused
     abbrev pub MakesSlacks : Type 0
@@ -265,7 +302,7 @@ module _ (sheet : Sheet) (s : Basis) (t : Tableau) where
         checked-append (feasible_point p reported_point) (reduced_costs p reported_prices ++ standing_prices p reported_point reported_prices) own in
         let equal = (checked-append (equations p 1 reported_point) (within_limits p reported_point) parts.0).0 in
         let costs = (checked-append (reduced_costs p reported_prices) (standing_prices p reported_point reported_prices) parts.1).0 in
-        ap₂ (test_by Optimal) (points_of_lines sheet s t) (prices_of_lines sheet s t)
+        ap₂ (test_by checker_of_128_bits Optimal) (points_of_lines sheet s t) (prices_of_lines sheet s t)
         ∙ all_checked (verdict_of (equations p 1 reported_point)) (verdict_of (reduced_costs p reported_prices)) _
         (optimal_check p reported_point reported_prices) equal costs (slacks_checked fit) own
 
@@ -283,5 +320,7 @@ module _ (sheet : Sheet) (s : Basis) (t : Tableau) where
           ∙ ap (λ (x : ℚ). Some x) (sym (value_at-listed p.matrix t.point k is));
     }
 
-    pub best_passes : IsBest p t.point → IsDualCertificate p t.point prices → Passes (optimal_check p reported_point reported_prices)
-    best_passes best proves = passes_steps _ (never_optimal p lawful.is_matrix reported_point reported_prices (feasible best.feasible) (certificate proves))
+    pub best_passes : (C : Checker) → IsBest p t.point → IsDualCertificate p t.point prices → Passes C (says C (optimal_steps p reported_point reported_prices))
+    best_passes C best proves =
+        passes_steps C (optimal_steps p reported_point reported_prices) (optimal_holds p lawful.is_matrix reported_point reported_prices
+        (feasible best.feasible) (certificate proves))

@@ -5,36 +5,36 @@ use Rattle.control_definitions.specs.Program.{Statement, Program}
 use Rattle.listing_definitions.specs.Ending.{Ended, StatementLimit}
 use Rattle.run_definitions.specs.Verbs.{verb_move}
 use Rattle.run_definitions.specs.Run.{max_executed, counted}
-use Rattle.walk_definitions.specs.Checkers.{checker_of_128_bits}
+use Rattle.walk_definitions.specs.Checkers.{Checker}
 use Rattle.walk_definitions.specs.Walker.{Walker, closes, walk_move, walk_statement, turn}
 
-module _ (program : Program) (w : Walker) where
-  pub turn_at_end : nat_lt (length program.statements) w.state.position ≡ true → turn checker_of_128_bits program w ≡ closes w (Ended 0)
+module _ (C : Checker) (program : Program) (w : Walker) where
+  pub turn_at_end : nat_lt (length program.statements) w.state.position ≡ true → turn C program w ≡ closes w (Ended 0)
   unfolding turn
   turn_at_end e =
-      ap (λ b. if b then closes w (Ended 0) else if nat_lt w.state.executed max_executed then walk_statement checker_of_128_bits w
+      ap (λ b. if b then closes w (Ended 0) else if nat_lt w.state.executed max_executed then walk_statement C w
       (slice_get program.statements (w.state.position - 1)) else closes w StatementLimit) e
 
   turn_before_end : nat_lt (length program.statements) w.state.position ≡ false →
-      turn checker_of_128_bits program w ≡
-      (if nat_lt w.state.executed max_executed then walk_statement checker_of_128_bits w
+      turn C program w ≡
+      (if nat_lt w.state.executed max_executed then walk_statement C w
       (slice_get program.statements (w.state.position - 1)) else closes w StatementLimit)
   unfolding turn
   turn_before_end e =
-      ap (λ b. if b then closes w (Ended 0) else if nat_lt w.state.executed max_executed then walk_statement checker_of_128_bits w
+      ap (λ b. if b then closes w (Ended 0) else if nat_lt w.state.executed max_executed then walk_statement C w
       (slice_get program.statements (w.state.position - 1)) else closes w StatementLimit) e
 
   pub turn_at_limit : nat_lt (length program.statements) w.state.position ≡ false → nat_lt w.state.executed max_executed ≡ false →
-      turn checker_of_128_bits program w ≡ closes w StatementLimit
+      turn C program w ≡ closes w StatementLimit
   turn_at_limit e f =
       turn_before_end e
-      ∙ ap (λ b. if b then walk_statement checker_of_128_bits w (slice_get program.statements (w.state.position - 1)) else closes w StatementLimit) f
+      ∙ ap (λ b. if b then walk_statement C w (slice_get program.statements (w.state.position - 1)) else closes w StatementLimit) f
 
   pub turn_at_statement : (statement : Statement ℕ) → nat_lt (length program.statements) w.state.position ≡ false →
       nat_lt w.state.executed max_executed ≡ true →
       slice_get program.statements (w.state.position - 1) ≡ Some statement →
-      turn checker_of_128_bits program w ≡ walk_move checker_of_128_bits w (verb_move statement.verb statement.card (counted w.state))
+      turn C program w ≡ walk_move C w (verb_move statement.verb statement.card (counted w.state))
   turn_at_statement statement e f at =
       turn_before_end e
-      ∙ ap (λ b. if b then walk_statement checker_of_128_bits w (slice_get program.statements (w.state.position - 1)) else closes w StatementLimit) f
-      ∙ ap (walk_statement checker_of_128_bits w) at
+      ∙ ap (λ b. if b then walk_statement C w (slice_get program.statements (w.state.position - 1)) else closes w StatementLimit) f
+      ∙ ap (walk_statement C w) at

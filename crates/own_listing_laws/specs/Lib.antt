@@ -2,3 +2,4 @@ pub mod Slacks
 pub mod Printed
 pub mod Laws
 pub mod Attestable
+pub mod AnyLength

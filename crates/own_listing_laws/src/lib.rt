@@ -4,6 +4,7 @@
 
 ghost use Rattle.own_listing_laws.specs.Laws.{ReadsBack, TestsPass, JudgedRight, WalksOn, NeverWrong};
 ghost use Rattle.own_listing_laws.specs.Attestable.{ComesAttested};
+ghost use Rattle.own_listing_laws.specs.AnyLength.{NeverWrongAtAnyLength, JudgedRightAtAnyLength};
 
 /// What a run prints of a linear program is read back of its text.
 pub fn reads_back()
@@ -28,6 +29,16 @@ pub fn walks_on()
 /// The listing of a run is never found wrong.
 pub fn never_wrong()
     ensures { NeverWrong }
+{}
+
+/// In numbers of any length it isn't found wrong either.
+pub fn never_wrong_at_any_length()
+    ensures { NeverWrongAtAnyLength }
+{}
+
+/// And each verdict, each SOLUTION and each parametric run is judged right.
+pub fn judged_right_at_any_length()
+    ensures { JudgedRightAtAnyLength }
 {}
 
 /// The listing of an attestable run is attested.
