@@ -1,5 +1,5 @@
-//! A checker in fractions of 128 bits: numbers and operations are those of the run that wrote the listing. An operation that is too much
-//! for 128 bits is refused, and the test that asks for it stops there.
+//! A checker in fractions of 128 bits: numbers and operations are those of the run that wrote the listing. An operation whose result
+//! doesn't fit is refused, and the test that asks for it stops there.
 #![tactic(auto)]
 
 mod checker;

@@ -1,8 +1,8 @@
 // Numbers of any length, read and tested.
 ghost use Rattle.std.specs.Prelude.{◌≡◌};
 
-use crate::claim_tests::{test_claim, test_opening};
-use crate::closing_tests::test_close;
+use crate::claim_tests::{opening_holds, own_claim_holds};
+use crate::closing_tests::closing_holds;
 use crate::long_words::is_longer;
 use frac128::Frac;
 use listing_claims::{AskedRun, Checks, Claim, Closing, Part, Printed, Stop};
@@ -10,7 +10,7 @@ use listing_definitions::Mark;
 use listing_tables::Sheet;
 use listing_words::Number;
 use long_numbers::is_number;
-use long_solutions::{exceeds, test_interval, test_solution};
+use long_solutions::{exceeds, judged, test_interval, test_solution};
 use lp_model::{Lp, NoMemory};
 use std::alloc::Global;
 
@@ -52,7 +52,8 @@ impl Checks for OfAnyLength {
     }
 
     fn test_claim(alloc: Global, lp: &Lp, claim: &Claim<'_>) -> Result<(), Stop> {
-        test_claim(alloc, lp, claim)
+        let holds = own_claim_holds(alloc, lp, claim)?;
+        judged(holds)
     }
 
     fn test_opening(
@@ -61,7 +62,8 @@ impl Checks for OfAnyLength {
         request: &AskedRun<'_>,
         claim: &Claim<'_>,
     ) -> Result<(), Stop> {
-        test_opening(alloc, sheet, request, claim)
+        let holds = opening_holds(alloc, sheet, request, claim)?;
+        judged(holds)
     }
 
     fn test_solution(
@@ -91,6 +93,7 @@ impl Checks for OfAnyLength {
         last: &Number<'_>,
         closing: &Closing<'_>,
     ) -> Result<(), Stop> {
-        test_close(alloc, sheet, request, last, closing)
+        let holds = closing_holds(alloc, sheet, request, last, closing)?;
+        judged(holds)
     }
 }

@@ -1,5 +1,5 @@
 -- How a parametric run closes, as it is read and tested.
-use Rattle.std.proofs.Common.{◌≡◌, ℕ, List, [], ◌∷◌, length, Option, Some, None, Result, Ok, Err, refl, sym, ap, ◌∙◌}
+use Rattle.std.proofs.Common.{◌≡◌, ℕ, List, [], ◌∷◌, length, Option, Some, None, Result, Ok, Err, refl, ap, ◌∙◌}
 use Rattle.std.specs.Prelude.{IfOk, option_and_then}
 use Rattle.std.specs.Option.{option_or}
 use Rattle.exact_values.specs.Rational.{ℚ}
@@ -29,20 +29,15 @@ module _ (of : List ℕ → Option ℚ) (sheet : Sheet) (second : List ℕ → P
   pub end_first : (t : ℚ) → end_in of old ≡ Some (EndsAt t, new) → Found (Closes sheet) (option_or (end_in of old) (second old)) new (Some (closings.At t))
   end_first t e = record { answer = EndsAt t; is_found = ap (λ o. option_or o (second old)) e; shows = refl }
 
-  module _ (last : List ℕ) (missing : (end_in of old ≡ None) × (new ≡ old)) where
-    end_second : (found : Option declared.Closing) → Found (Closes sheet) (second new) last found →
-        Found (Closes sheet) (option_or (end_in of old) (second old)) last found
-    end_second None none = ap (λ o. option_or o (second old)) missing.0 ∙ ap second (sym missing.1) ∙ none
+  module _ (missing : end_in of old ≡ None) where
+    end_second : (found : Option declared.Closing) → Found (Closes sheet) (second old) new found →
+        Found (Closes sheet) (option_or (end_in of old) (second old)) new found
+    end_second None none = ap (λ o. option_or o (second old)) missing ∙ none
     end_second (Some closing) found =
-        record {
-          answer = found.answer;
-          is_found = ap (λ o. option_or o (second old)) missing.0 ∙ ap second (sym missing.1)
-              ∙ found.is_found;
-          shows = found.shows;
-        }
+        record { answer = found.answer; is_found = ap (λ o. option_or o (second old)) missing ∙ found.is_found; shows = found.shows }
 
-    pub end_then : (result : Result (Option declared.Closing) NoMemory) → IfOk result (Found (Closes sheet) (second new) last) →
-        IfOk result (Found (Closes sheet) (option_or (end_in of old) (second old)) last)
+    pub end_then : (result : Result (Option declared.Closing) NoMemory) → IfOk result (Found (Closes sheet) (second old) new) →
+        IfOk result (Found (Closes sheet) (option_or (end_in of old) (second old)) new)
     end_then (Ok found) h = end_second found h
     end_then (Err none) h = h
 

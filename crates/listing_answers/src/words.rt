@@ -58,7 +58,7 @@ fn fraction_after(cursor: &mut Cursor<'_>, text: &[u8]) -> Option<Frac>
     fraction_in(cursor.word())
 }
 
-// The operation of a check that wasn't made. A run found it refused, so its numbers have 128 bits.
+// The operation of a check that wasn't made. A run found it refused, so its numbers are fractions of 128 bits.
 fn refusal(cursor: &mut Cursor<'_>) -> Option<Refused>
     ensures { refusal_in cursor.old ≡ option_map (λ refused. (refused, cursor.new)) result }
 {

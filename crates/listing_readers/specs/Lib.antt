@@ -1,3 +1,4 @@
 pub mod Results
 pub mod Lines
 pub mod Tables
+pub mod Pieces

@@ -1,6 +1,7 @@
 -- What is read of tables.
 --     slots_of shape sheet k       what may stand in the line of variable k
 --     numbers_of shape values      the numbers of a line that aren't known before
+--     at_place place numbers       one of them
 --     AreRead, IsLineRead, IsTableRead     values, a line, and the lines of variables were read, and these are their numbers; or none are there
 --     IsRayRead                    the multipliers of a ray were read, or it isn't there
 use Rattle.std.specs.Prelude.{◌≡◌, ◌<◌, ℕ, List, [], ◌∷◌, Option, Some, None, map, slice_get}
@@ -14,6 +15,8 @@ use Rattle.walk_definitions.specs.Tables.{Slot, AnyNumber, pair_slots, part_slot
 use Rattle.walk_definitions.specs.Words.{left_after}
 use Rattle.walk_definitions.specs.Reading.{row_slots, column_slots}
 use Rattle.listing_readers.specs.declared.tables.Numbers.{Numbers}
+use Rattle.listing_readers.specs.declared.tables.Place.{Place}
+use Rattle.listing_readers.specs.declared.tables.Place.TheVariants.{First, Second, Third, Fourth}
 use Rattle.listing_readers.specs.declared.tables.Shape.{Shape}
 use Rattle.listing_readers.specs.declared.tables.Shape.TheVariants.{Multiplier, Pair, Part, Row, Column}
 
@@ -34,6 +37,13 @@ numbers_of Pair values = record { first = at 0 values; second = at 1 values; thi
 numbers_of Part values = record { first = at 1 values; second = at 2 values; third = at 3 values; fourth = at 4 values }
 numbers_of Row values = record { first = at 1 values; second = at 5 values; third = at 2 values; fourth = zero_ℚ }
 numbers_of Column values = record { first = at 1 values; second = at 5 values; third = zero_ℚ; fourth = zero_ℚ }
+
+-- one of the numbers of a line
+abbrev pub at_place : Place → Numbers → ℚ
+at_place First numbers = numbers.first
+at_place Second numbers = numbers.second
+at_place Third numbers = numbers.third
+at_place Fourth numbers = numbers.fourth
 
 -- a column comes after the rows, and its cost is known where no row is added to the objective
 abbrev pub IsLinedAt : Shape → Sheet → ℕ → Type 0

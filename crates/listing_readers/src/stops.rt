@@ -1,9 +1,10 @@
 // Lines that can't be attested: stops that a run chooses, or that only a basis or a device shows, and reports that only a basis shows.
-ghost use Rattle.std.specs.Prelude.{◌≡◌, ◌∷◌, ◌++◌, ◌||◌, [], codes};
+ghost use Rattle.std.specs.Prelude.{◌≡◌, ◌∷◌, ◌++◌, ◌||◌, []};
 ghost use Rattle.listing_definitions.specs.Text.{name8};
 ghost use Rattle.walk_definitions.specs.Words.{left_after, max_count};
-ghost use Rattle.walk_definitions.specs.Forms.{Text, Count, Fraction, Operation, left_by_piece, left_by, has_form, limit_stop, read_fault, punch_fault, memory_stop, singular_stop, price_stop, overflow_operation, overflow_numbers, overflow_end, overflow_stop, counted_line, is_open_stop, is_ranges, is_punched, is_inserted};
+ghost use Rattle.walk_definitions.specs.Forms.{Text, Count, Fraction, Operation, left_by_piece, left_by, has_form, limit_stop, read_fault, punch_fault, memory_stop, singular_stop, price_stop, overflow_stop, counted_line, is_open_stop, is_ranges, is_punched, is_inserted};
 ghost use Rattle.listing_words.specs.Read.{taken};
+ghost use Rattle.listing_readers.specs.Pieces.{piece_view, form_of};
 
 use crate::lines::{operation_of, take_name};
 use listing_words::{Cursor, count_in, fraction_in};
@@ -11,6 +12,15 @@ use name_table::Name;
 
 /// A printed count has 32 bits.
 pub const MAX_COUNT: u32 = u32::MAX;
+
+/// A piece of a line: a text, or a word of a kind.
+#[derive(Clone, Copy, Debug, PartialEq, Eq)]
+pub enum Piece {
+    Text(&'static [u8]),
+    Count,
+    Fraction,
+    Operation,
+}
 
 // Takes a count.
 fn take_count(cursor: &mut Cursor<'_>) -> bool
@@ -33,148 +43,115 @@ fn take_operation(cursor: &mut Cursor<'_>) -> bool
     operation_of(cursor.word()).is_some()
 }
 
-// Takes a text and the count after it.
-fn take_counted(cursor: &mut Cursor<'_>, label: &[u8]) -> bool
-    ensures { left_by (Text label.now ∷ Count ∷ []) cursor.old ≡ taken result cursor.new }
+// Takes a piece.
+fn take_piece(cursor: &mut Cursor<'_>, piece: Piece) -> bool
+    ensures { left_by_piece (piece_view piece) cursor.old ≡ taken result cursor.new }
 {
-    cursor.take(label) && take_count(cursor)
+    match piece {
+        Piece::Text(text) => cursor.take(text),
+        Piece::Count => take_count(cursor),
+        Piece::Fraction => take_fraction(cursor),
+        Piece::Operation => take_operation(cursor),
+    }
 }
 
-// Takes a text and the fraction after it.
-fn take_labelled_fraction(cursor: &mut Cursor<'_>, label: &[u8]) -> bool
-    ensures { left_by (Text label.now ∷ Fraction ∷ []) cursor.old ≡ taken result cursor.new }
+// Takes some pieces, one after another.
+fn take_pieces(cursor: &mut Cursor<'_>, pieces: &[Piece]) -> bool
+    ensures { left_by (form_of pieces.now) cursor.old ≡ taken result cursor.new }
 {
-    cursor.take(label) && take_fraction(cursor)
+    for piece in pieces {
+        if !take_piece(cursor, *piece) {
+            return false;
+        }
+    }
+    true
 }
 
-// Takes a text, a count and the end of the line.
-fn take_count_and_end(cursor: &mut Cursor<'_>, label: &[u8]) -> bool
-    ensures { left_by (Text label.now ∷ Count ∷ Text (codes "\n") ∷ []) cursor.old ≡
-        taken result cursor.new }
+// Whether a text stands here, with these pieces after it.
+fn begins_with(bytes: &[u8], text: &[u8], pieces: &[Piece]) -> bool
+    ensures { result ≡ has_form (Text text.now ∷ form_of pieces.now) bytes.now }
 {
-    cursor.take(label) && take_count(cursor) && cursor.take(b"\n")
+    let mut cursor = Cursor::new(bytes);
+    cursor.take(text) && take_pieces(&mut cursor, pieces)
 }
 
 // ---- stop texts
-
-// Takes two labels, each with a count, and the end of the line.
-#[tactic(auto, using(walk_definitions::proofs::Texts::left_by_both))]
-fn take_two_counts_and_end(cursor: &mut Cursor<'_>, first: &[u8], second: &[u8]) -> bool
-    ensures { left_by
-        (Text first.now ∷ Count ∷ Text second.now ∷ Count ∷ Text (codes "\n") ∷ []) cursor.old ≡
-        taken result cursor.new }
-{
-    take_counted(cursor, first) && take_count_and_end(cursor, second)
-}
 
 // The limit on steps.
 fn is_limit_stop(bytes: &[u8]) -> bool
     ensures { result ≡ has_form limit_stop bytes.now }
 {
-    let mut cursor = Cursor::new(bytes);
-    take_two_counts_and_end(&mut cursor, b"STOP 16 ITERATION LIMIT ", b" CARD ")
+    begins_with(
+        bytes,
+        b"STOP 16 ITERATION LIMIT ",
+        &[
+            Piece::Count,
+            Piece::Text(b" CARD "),
+            Piece::Count,
+            Piece::Text(b"\n"),
+        ],
+    )
 }
 
 // A singular basis.
 fn is_singular_stop(bytes: &[u8]) -> bool
     ensures { result ≡ has_form singular_stop bytes.now }
 {
-    let mut cursor = Cursor::new(bytes);
-    take_count_and_end(&mut cursor, b"STOP 10 VERB FAULT 15 CARD ")
+    begins_with(
+        bytes,
+        b"STOP 10 VERB FAULT 15 CARD ",
+        &[Piece::Count, Piece::Text(b"\n")],
+    )
 }
 
 // Wrong prices.
 fn is_price_stop(bytes: &[u8]) -> bool
     ensures { result ≡ has_form price_stop bytes.now }
 {
-    let mut cursor = Cursor::new(bytes);
-    take_two_counts_and_end(&mut cursor, b"STOP 10 VERB FAULT 16 CARD ", b" VARIABLE ")
+    begins_with(
+        bytes,
+        b"STOP 10 VERB FAULT 16 CARD ",
+        &[
+            Piece::Count,
+            Piece::Text(b" VARIABLE "),
+            Piece::Count,
+            Piece::Text(b"\n"),
+        ],
+    )
 }
 
-// The two operands of an overflow.
-#[tactic(auto, using(walk_definitions::proofs::Texts::left_by_both))]
-fn take_operands(cursor: &mut Cursor<'_>) -> bool
-    ensures { left_by (Text (codes " ") ∷ Fraction ∷ Text (codes " ") ∷ Fraction ∷ []) cursor.old ≡
-        taken result cursor.new }
-{
-    take_labelled_fraction(cursor, b" ") && take_labelled_fraction(cursor, b" ")
-}
-
-// The operation of an overflow.
-fn take_named_operation(cursor: &mut Cursor<'_>) -> bool
-    ensures { left_by (Text (codes " ") ∷ Operation ∷ []) cursor.old ≡ taken result cursor.new }
-{
-    cursor.take(b" ") && take_operation(cursor)
-}
-
-// The operation and the operands of an overflow.
-#[tactic(auto, using(walk_definitions::proofs::Texts::left_by_both))]
-fn take_refused(cursor: &mut Cursor<'_>) -> bool
-    ensures { left_by
-        (Text (codes " ") ∷ Operation ∷ Text (codes " ") ∷ Fraction ∷ Text
-        (codes " ") ∷ Fraction ∷ []) cursor.old ≡ taken result cursor.new }
-{
-    take_named_operation(cursor) && take_operands(cursor)
-}
-
-// The formula of an overflow, its operation and the operands.
-#[tactic(auto, using(walk_definitions::proofs::Texts::left_by_both))]
-fn take_overflow_operation(cursor: &mut Cursor<'_>) -> bool
-    ensures { left_by overflow_operation cursor.old ≡ taken result cursor.new }
-{
-    take_counted(cursor, b"STOP 20 OVERFLOW F") && take_refused(cursor)
-}
-
-// Two counts, each with its label.
-#[tactic(auto, using(walk_definitions::proofs::Texts::left_by_both))]
-fn take_two_counts(cursor: &mut Cursor<'_>, first: &[u8], second: &[u8]) -> bool
-    ensures { left_by (Text first.now ∷ Count ∷ Text second.now ∷ Count ∷ []) cursor.old ≡
-        taken result cursor.new }
-{
-    take_counted(cursor, first) && take_counted(cursor, second)
-}
-
-// The places of an overflow.
-#[tactic(auto, using(walk_definitions::proofs::Texts::left_by_both))]
-fn take_places(cursor: &mut Cursor<'_>) -> bool
-    ensures { left_by
-        (Text (codes " I ") ∷ Count ∷ Text (codes " J ") ∷ Count ∷ Text
-        (codes " TERM ") ∷ Count ∷ []) cursor.old ≡ taken result cursor.new }
-{
-    take_two_counts(cursor, b" I ", b" J ") && take_counted(cursor, b" TERM ")
-}
-
-// The numbers of an overflow.
-#[tactic(auto, using(walk_definitions::proofs::Texts::left_by_both))]
-fn take_overflow_numbers(cursor: &mut Cursor<'_>) -> bool
-    ensures { left_by overflow_numbers cursor.old ≡ taken result cursor.new }
-{
-    take_two_counts(cursor, b" P ", b" Q ") && take_places(cursor)
-}
-
-// The value of the parameter and the card of an overflow.
-#[tactic(auto, using(walk_definitions::proofs::Texts::left_by_both))]
-fn take_overflow_end(cursor: &mut Cursor<'_>) -> bool
-    ensures { left_by overflow_end cursor.old ≡ taken result cursor.new }
-{
-    take_labelled_fraction(cursor, b" THETA ") && take_count_and_end(cursor, b" CARD ")
-}
-
-// The numbers of an overflow, and what follows them.
-#[tactic(auto, using(walk_definitions::proofs::Texts::left_by_both))]
-fn take_overflow_rest(cursor: &mut Cursor<'_>) -> bool
-    ensures { left_by (overflow_numbers ++ overflow_end) cursor.old ≡ taken result cursor.new }
-{
-    take_overflow_numbers(cursor) && take_overflow_end(cursor)
-}
-
-// An overflow.
-#[tactic(auto, using(walk_definitions::proofs::Texts::left_by_both))]
+// An overflow: its formula, its operation with the operands, its numbers, the value of the parameter and the card.
 fn is_overflow_stop(bytes: &[u8]) -> bool
     ensures { result ≡ has_form overflow_stop bytes.now }
 {
-    let mut cursor = Cursor::new(bytes);
-    take_overflow_operation(&mut cursor) && take_overflow_rest(&mut cursor)
+    begins_with(
+        bytes,
+        b"STOP 20 OVERFLOW F",
+        &[
+            Piece::Count,
+            Piece::Text(b" "),
+            Piece::Operation,
+            Piece::Text(b" "),
+            Piece::Fraction,
+            Piece::Text(b" "),
+            Piece::Fraction,
+            Piece::Text(b" P "),
+            Piece::Count,
+            Piece::Text(b" Q "),
+            Piece::Count,
+            Piece::Text(b" I "),
+            Piece::Count,
+            Piece::Text(b" J "),
+            Piece::Count,
+            Piece::Text(b" TERM "),
+            Piece::Count,
+            Piece::Text(b" THETA "),
+            Piece::Fraction,
+            Piece::Text(b" CARD "),
+            Piece::Count,
+            Piece::Text(b"\n"),
+        ],
+    )
 }
 
 // Whether this line stands here.

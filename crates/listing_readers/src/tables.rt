@@ -10,7 +10,7 @@ ghost use Rattle.walk_definitions.specs.Reading.{row_slots, column_slots};
 ghost use Rattle.listing_words.specs.Read.{sheet_view};
 ghost use Rattle.listing_claims.specs.Numbers.{number_in};
 ghost use Rattle.listing_readers.specs.Results.{IfRead};
-ghost use Rattle.listing_readers.specs.Tables.{slots_of, MayRead, AreRead, IsLineRead, IsTableRead};
+ghost use Rattle.listing_readers.specs.Tables.{slots_of, at_place, MayRead, AreRead, IsLineRead, IsTableRead};
 
 use crate::lines::{code, known_limit, known_number, number, take_head};
 use crate::unread::Unread;
@@ -45,6 +45,29 @@ pub struct Numbers<'a> {
     pub second: Number<'a>,
     pub third: Number<'a>,
     pub fourth: Number<'a>,
+}
+
+/// Which of the numbers of a line.
+#[derive(Clone, Copy, Debug, PartialEq, Eq)]
+pub enum Place {
+    First,
+    Second,
+    Third,
+    Fourth,
+}
+
+impl<'a> Numbers<'a> {
+    // The number at a place.
+    fn at(&self, place: Place) -> Number<'a>
+        ensures { result ≡ at_place place self.now }
+    {
+        match place {
+            Place::First => self.first.again(),
+            Place::Second => self.second.again(),
+            Place::Third => self.third.again(),
+            Place::Fourth => self.fourth.again(),
+        }
+    }
 }
 
 // Two numbers.
@@ -505,50 +528,18 @@ pub fn table<'a, T: Checks>(
     Ok(Some(table))
 }
 
-/// The first numbers of a table's lines.
-pub fn firsts<'a>(alloc: Global, table: &[Numbers<'a>]) -> Result<Vec<Number<'a>>, NoMemory>
-    ensures { IfOk result (λ values. values.items ≡ map (λ numbers. numbers.first) table.now) }
+/// The numbers at a place of a table's lines.
+pub fn numbers_at<'a>(
+    alloc: Global,
+    table: &[Numbers<'a>],
+    place: Place,
+) -> Result<Vec<Number<'a>>, NoMemory>
+    ensures { IfOk result (λ values. values.items ≡ map (at_place place) table.now) }
 {
     Ok(
         table
             .iter()
-            .map(|numbers| numbers.first.again())
-            .collect(alloc)?,
-    )
-}
-
-/// The second numbers of a table's lines.
-pub fn seconds<'a>(alloc: Global, table: &[Numbers<'a>]) -> Result<Vec<Number<'a>>, NoMemory>
-    ensures { IfOk result (λ values. values.items ≡ map (λ numbers. numbers.second) table.now) }
-{
-    Ok(
-        table
-            .iter()
-            .map(|numbers| numbers.second.again())
-            .collect(alloc)?,
-    )
-}
-
-/// The third numbers of a table's lines.
-pub fn thirds<'a>(alloc: Global, table: &[Numbers<'a>]) -> Result<Vec<Number<'a>>, NoMemory>
-    ensures { IfOk result (λ values. values.items ≡ map (λ numbers. numbers.third) table.now) }
-{
-    Ok(
-        table
-            .iter()
-            .map(|numbers| numbers.third.again())
-            .collect(alloc)?,
-    )
-}
-
-/// The fourth numbers of a table's lines.
-pub fn fourths<'a>(alloc: Global, table: &[Numbers<'a>]) -> Result<Vec<Number<'a>>, NoMemory>
-    ensures { IfOk result (λ values. values.items ≡ map (λ numbers. numbers.fourth) table.now) }
-{
-    Ok(
-        table
-            .iter()
-            .map(|numbers| numbers.fourth.again())
+            .map(|numbers| numbers.at(place))
             .collect(alloc)?,
     )
 }

@@ -1,4 +1,4 @@
--- Limits, vectors and intervals whose numbers fit 128 bits.
+-- Limits, vectors and intervals whose numbers fit.
 --     LimitFits limit      a limit fits, where it is there
 --     VectorFits z         each number of a vector fits
 --     PartFits part        the numbers of an interval that are printed fit

@@ -47,19 +47,7 @@ fn put_fault<P: Sink>(
     ensures { Writes (P.taken print.old) (P.taken print.new) result
         (concat (refused.now ∷ fault_text fault card ∷ codes "\n" ∷ [])) }
 {
-    let mut fault_digits = Buffer::new();
-    let mut card_digits = Buffer::new();
-    put_each(
-        print,
-        &[
-            refused,
-            b"FAULT ",
-            decimal(&mut fault_digits, u32::from(fault)).as_bytes(),
-            b" CARD ",
-            decimal(&mut card_digits, card).as_bytes(),
-            b"\n",
-        ],
-    )
+    put_deck_fault(print, refused, fault, card, None, None)
 }
 
 // The number of a verb fault.
@@ -194,7 +182,7 @@ fn label(word: &str, number: Option<u8>) -> Label
     text
 }
 
-// The fault of a deck's card, with the number of a fault in a number, and the column of a bad character.
+// A fault and its card, with the number of a fault in a number and the column of a bad character, where a deck's card has them.
 fn put_deck_fault<P: Sink>(
     print: &mut P,
     refused: &'static [u8],

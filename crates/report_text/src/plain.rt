@@ -19,8 +19,8 @@ pub fn put_title<P: Sink>(print: &mut P, text: &[u8]) -> Result<(), WriteStop>
     put_each(print, &[b"TITLE ", text, b"\n"])
 }
 
-// The line of a problem that was filed, with the word of its verb.
-fn put_filed<P: Sink>(
+/// The line of a problem that was filed, with the word of its verb.
+pub fn put_filed<P: Sink>(
     print: &mut P,
     word: &'static [u8],
     name: Name,
@@ -57,39 +57,6 @@ fn put_filed<P: Sink>(
             b"\n",
         ],
     )
-}
-
-pub fn put_converted<P: Sink>(
-    print: &mut P,
-    name: Name,
-    rows: u32,
-    columns: u32,
-    entries: u32,
-) -> Result<(), WriteStop>
-    ensures { Writes (P.taken print.old) (P.taken print.new) result
-        (report_text (reports.Converted
-        (record { name = name; rows = rows; columns = columns; entries = entries }))) }
-{
-    put_filed(print, b"CONVERT", name, rows, columns, entries)
-}
-
-pub fn put_revised<P: Sink>(
-    print: &mut P,
-    name: Name,
-    rows: u32,
-    columns: u32,
-    entries: u32,
-) -> Result<(), WriteStop>
-    ensures { Writes (P.taken print.old) (P.taken print.new) result
-        (report_text (reports.Revised (record {
-          name = name;
-          rows = rows;
-          columns = columns;
-          entries
-              = entries;
-        }))) }
-{
-    put_filed(print, b"REVISE ", name, rows, columns, entries)
 }
 
 pub fn put_setup<P: Sink>(print: &mut P, name: Name, sense: Sense) -> Result<(), WriteStop>

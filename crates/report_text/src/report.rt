@@ -4,9 +4,7 @@ ghost use Rattle.report_text.specs.Views.{IsReport, text_view};
 
 use crate::ending::put_ending;
 use crate::parametric::{ParametricReport, put_parametric};
-use crate::plain::{
-    put_basis_out, put_bcd_out, put_converted, put_inserted, put_revised, put_setup, put_title,
-};
+use crate::plain::{put_basis_out, put_bcd_out, put_filed, put_inserted, put_setup, put_title};
 use crate::ranges::put_ranges;
 use crate::solution::put_solution;
 use crate::verdict::put_verdict;
@@ -168,13 +166,13 @@ pub fn text_of<P: Sink>(report: &Report<'_>, print: &mut P) -> Result<(), WriteS
             rows,
             columns,
             entries,
-        } => put_converted(print, name, rows, columns, entries),
+        } => put_filed(print, b"CONVERT", name, rows, columns, entries),
         Report::Revised {
             name,
             rows,
             columns,
             entries,
-        } => put_revised(print, name, rows, columns, entries),
+        } => put_filed(print, b"REVISE ", name, rows, columns, entries),
         Report::SetUp { name, sense } => put_setup(print, name, sense),
         Report::BcdOut { name, cards } => put_bcd_out(print, name, cards),
         Report::BasisOut { name, cards } => put_basis_out(print, name, cards),
