@@ -3,7 +3,7 @@ use Rattle.std.proofs.Common.{◌≡◌, ℕ, zero, suc, ◌+◌, ◌<◌, List,
 use Rattle.std.specs.Prelude.{ℤ, nat_abs, ◌==◌, IsTrue}
 use Rattle.std.proofs.Math.Seq.{drop-cons}
 use Rattle.exact_values.specs.Rational.{ℚ, whole, zero_ℚ, one_ℚ, ◌+ℚ◌, ◌-ℚ◌, ◌*ℚ◌, neg_ℚ}
-use Rattle.exact_values.proofs.Ring.{by_ring1, by_ring2, by_ring4, by_ring5, ◌⊕◌, ◌⊖◌, ◌⊗◌, ◌≐◌, number, opposite}
+use Rattle.exact_values.proofs.Ring.{by_ring1, by_ring2, by_ring3, by_ring4, ◌⊕◌, ◌⊖◌, ◌⊗◌, ◌≐◌, number, opposite}
 use Rattle.exact_values.proofs.RingLaws.{zero-mul}
 use Rattle.lp_definitions.specs.declared.Entry.{Entry}
 use Rattle.lp_definitions.specs.LinearProgram.{LinearProgram, Vector, entry}
@@ -34,15 +34,28 @@ cost_compared total y cost d a b s w t summed one is made taken =
     taken ∙ ap (λ b. b -ℚ cost *ℚ d) (made ∙ (λ i. summed i +ℚ one i *ℚ is i))
     ∙ by_ring4 total y cost d (λ s y k d. s ⊗ d ⊕ number (pos 1) ⊗ (y ⊗ d) ⊖ k ⊗ d ≐ (y ⊖ (k ⊖ s)) ⊗ d) refl
 
-pub slack_compared : (right z slack d e : ℚ) (scale activity shown : ℚ) (w a b c s u : ℚ) → scale ≡ d *ℚ e → activity ≡ z *ℚ d *ℚ e → shown ≡ slack *ℚ e *ℚ d →
-    w ≡ whole (negsuc 0) → u ≡ right →
-    a ≡ zero_ℚ → b ≡ a +ℚ u *ℚ scale → c ≡ b +ℚ w *ℚ activity → s ≡ c +ℚ w *ℚ shown → s ≡ ((right -ℚ z) -ℚ slack) *ℚ (d *ℚ e)
-slack_compared right z slack d e scale activity shown w a b c s u is_scale is_activity is_shown minus is_u none first second third =
-    let first_is : b ≡ zero_ℚ +ℚ right *ℚ (d *ℚ e) = first ∙ (λ i. none i +ℚ is_u i *ℚ is_scale i) in
-    let second_is : c ≡ zero_ℚ +ℚ right *ℚ (d *ℚ e) +ℚ whole (negsuc 0) *ℚ (z *ℚ d *ℚ e) = second ∙ (λ i. first_is i +ℚ minus i *ℚ is_activity i) in
-    third ∙ (λ i. second_is i +ℚ minus i *ℚ is_shown i)
-    ∙ by_ring5 right z slack d e
-    (λ r z s d e. number (pos 0) ⊕ r ⊗ (d ⊗ e) ⊕ number (negsuc 0) ⊗ (z ⊗ d ⊗ e) ⊕ number (negsuc 0) ⊗ (s ⊗ e ⊗ d) ≐ ((r ⊖ z) ⊖ s) ⊗ (d ⊗ e)) refl
+-- the right-hand side less the activity
+pub left_made : (right z d t w a b s u : ℚ) → t ≡ z *ℚ d → w ≡ whole (negsuc 0) → u ≡ right → a ≡ zero_ℚ → b ≡ a +ℚ u *ℚ d → s ≡ b +ℚ w *ℚ t →
+    s ≡ (right -ℚ z) *ℚ d
+left_made right z d t w a b s u is_t minus is_u none first second =
+    let first_is : b ≡ zero_ℚ +ℚ right *ℚ d = first ∙ (λ i. none i +ℚ is_u i *ℚ d) in
+    second ∙ (λ i. first_is i +ℚ minus i *ℚ is_t i)
+    ∙ by_ring3 right z d (λ r z d. number (pos 0) ⊕ r ⊗ d ⊕ number (negsuc 0) ⊗ (z ⊗ d) ≐ (r ⊖ z) ⊗ d) refl
+
+-- a slack over the same denominator
+pub over_same : (x slack d e left top w s : ℚ) → left ≡ x *ℚ d → top ≡ slack *ℚ e → e ≡ d → w ≡ whole (negsuc 0) → s ≡ left +ℚ w *ℚ top →
+    s ≡ (x -ℚ slack) *ℚ d
+over_same x slack d e left top w s is_left is_top same minus made =
+    made ∙ (λ i. is_left i +ℚ minus i *ℚ is_top i) ∙ ap (λ e. x *ℚ d +ℚ whole (negsuc 0) *ℚ (slack *ℚ e)) same
+    ∙ by_ring3 x slack d (λ x s d. x ⊗ d ⊕ number (negsuc 0) ⊗ (s ⊗ d) ≐ (x ⊖ s) ⊗ d) refl
+
+-- and over another one
+pub over_other : (x slack d e left more shown w s : ℚ) → left ≡ x *ℚ d → more ≡ left *ℚ e → shown ≡ slack *ℚ e *ℚ d → w ≡ whole (negsuc 0) →
+    s ≡ more +ℚ w *ℚ shown → s ≡ (x -ℚ slack) *ℚ (d *ℚ e)
+over_other x slack d e left more shown w s is_left is_more is_shown minus made =
+    let more_is : more ≡ x *ℚ d *ℚ e = is_more ∙ ap (λ q. q *ℚ e) is_left in
+    made ∙ (λ i. more_is i +ℚ minus i *ℚ is_shown i)
+    ∙ by_ring4 x slack d e (λ x s d e. x ⊗ d ⊗ e ⊕ number (negsuc 0) ⊗ (s ⊗ e ⊗ d) ≐ (x ⊖ s) ⊗ (d ⊗ e)) refl
 
 -- ---- a row
 

@@ -11,7 +11,7 @@ ghost use Rattle.long_points.specs.Tests.{cost_test};
 
 use crate::rows::column_top;
 use frac128::Frac;
-use long_programs::{ProgramAt, Spread, subtract_cost, top_of};
+use long_programs::{ProgramAt, Spread, check_products, subtract_cost, top_of};
 use long_vectors::{Column, Sum};
 use lp_definitions::Entry;
 use std::alloc::{AllocError, Global};
@@ -67,6 +67,7 @@ pub fn reduced_costs_hold(
         (reduced_costs (program_of at.now.lp.now at.now.change theta) (value_at values))) }
 {
     let lp = at.lp;
+    check_products(lp, &prices.column)?;
     for j in 0..lp.cols {
         let holds = reduced_cost_holds(alloc, at, prices, j + 1)?;
         if !holds {

@@ -10,7 +10,7 @@ ghost use Rattle.long_points.specs.Tests.{UpTo, rate_on, rates_on};
 
 use frac128::Frac;
 use integers::Integer;
-use long_programs::top_of;
+use long_programs::{check_products, top_of};
 use long_vectors::{Column, Sum};
 use lp_definitions::Entry;
 use lp_model::Lp;
@@ -175,6 +175,7 @@ pub fn equations_hold(alloc: Global, lp: &Lp, column: &Column) -> Result<bool, A
     ensures { IfOk result (λ holds. (values : List ℚ) → IsOver values column.now → (part : ℕ) →
         IsTrue holds ↔ AllHold (equations lp.now part (value_at values))) }
 {
+    check_products(lp, column)?;
     let mut sums = opposites(alloc, lp, column)?;
     let holds = sums_vanish(alloc, &mut sums, lp, column)?;
     Ok(holds)

@@ -9,6 +9,7 @@ ghost use Rattle.long_rays.specs.Tests.{vanish_test};
 
 use frac128::Frac;
 use long_points::{column_sum, column_top};
+use long_programs::check_products;
 use long_vectors::Column;
 use lp_model::Lp;
 use std::alloc::{AllocError, Global};
@@ -33,6 +34,7 @@ pub fn ray_vanishes(alloc: Global, lp: &Lp, ray: &Column) -> Result<bool, AllocE
         (λ holds. (w : List ℚ) → IsOver w ray.now →
         IsTrue holds ↔ AllHold (ray_columns lp.now (value_at w))) }
 {
+    check_products(lp, ray)?;
     for i in 0..lp.cols {
         let holds = vanishes_on(alloc, lp, ray, i + 1)?;
         if !holds {
