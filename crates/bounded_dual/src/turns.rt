@@ -1,12 +1,11 @@
 //! What the dual path does at a basis: it ends there, or a basic comes back to the limit that it broke.
 
-ghost use Rattle.std.specs.Prelude.{◌≡◌, ℕ, None, Some, length, OnOk, IsTrue};
-ghost use Rattle.exact_values.specs.Rational.{ℚ};
+ghost use Rattle.std.specs.Prelude.{◌≡◌, None, Some, length, OnOk, IsTrue};
 ghost use Rattle.lp_definitions.specs.LinearProgram.{size, value_at, IsLinearProgram};
 ghost use Rattle.lp_definitions.specs.Basis.{ArePricesOf, IsPointOf};
 ghost use Rattle.basis_values.specs.Calls.{IsAtBasis, StaysAt};
-ghost use Rattle.bounded_primal.specs.KeptPoints.{all_kept, AgreesWithPoint};
-ghost use Rattle.bounded_primal.specs.Turns.{IsUncrossed, least_outside};
+ghost use Rattle.bounded_primal.specs.KeptPoints.{all_kept};
+ghost use Rattle.bounded_primal.specs.Turns.{least_outside};
 ghost use Rattle.bounded_dual.specs.Turns.{DualTurnFound};
 
 use crate::moves::DualStop;
@@ -32,9 +31,7 @@ fn restore_feasibility<R: Rates>(
     requires price_places { length prices.now ≡ size at.now.lp.now.matrix }
     requires row_places { length row.old ≡ size at.now.lp.now.matrix }
     requires direction_places { length direction.old ≡ size at.now.lp.now.matrix }
-    requires point { AgreesWithPoint at.now.lp.now at.now.basis.now (value_at at.now.point.now) }
     requires prices { ArePricesOf at.now.lp.now at.now.basis.now (value_at prices.now) }
-    requires uncrossed { IsUncrossed at.now.lp.now }
     requires outside { least_outside at.now.lp.now at.now.basis.now
         (value_at at.now.point.now) ≡ Some r }
     ensures turn { DualTurnFound result at.now.lp.now at.now.basis.now at.now.steps at.now.left
@@ -62,28 +59,8 @@ fn restore_feasibility<R: Rates>(
     Ok(Turn::Moves { q, by })
 }
 
-/// The end, where no basic is outside its limits: the point, and the prices at hand.
-fn optimal<R: Rates>(at: &Position<'_>, rates: &mut R, prices: &[Frac]) -> Result<Turn, DualStop>
-    requires no_change { at.now.lp.now.change ≡ None }
-    requires rates { IsAtBasis (R.state rates.old) at.now.lp.now at.now.basis.now }
-    requires price_places { length prices.now ≡ size at.now.lp.now.matrix }
-    requires point { AgreesWithPoint at.now.lp.now at.now.basis.now (value_at at.now.point.now) }
-    requires kept { IsTrue (all_kept at.now.kept) →
-        IsPointOf at.now.lp.now at.now.basis.now (value_at at.now.point.now) }
-    requires prices { ArePricesOf at.now.lp.now at.now.basis.now (value_at prices.now) }
-    requires uncrossed { IsUncrossed at.now.lp.now }
-    requires inside { least_outside at.now.lp.now at.now.basis.now
-        (value_at at.now.point.now) ≡ None }
-    ensures turn { (d xs : ℕ → ℚ) → DualTurnFound result at.now.lp.now at.now.basis.now at.now.steps
-        at.now.left d xs (R.state rates.old) (R.state rates.new) }
-    ensures rates { StaysAt (R.state rates.old) (R.state rates.new) at.now.lp.now at.now.basis.now }
-{
-    let point = whole_point(at, rates)?;
-    Ok(Turn::Ends(best(at.alloc, point, prices, at.steps)?))
-}
-
-/// What the dual path does where it stands; `prices` are the basis's. `row` takes the rates of what leaves, and `direction` those of what
-/// enters.
+/// What the dual path does where it stands: it brings the basic that is `broken` back to its limit, or ends with the point and the prices
+/// at hand. `prices` are the basis's. `row` takes the rates of what leaves, and `direction` those of what enters.
 pub fn next_turn<R: Rates>(
     at: &Position<'_>,
     rates: &mut R,
@@ -97,20 +74,17 @@ pub fn next_turn<R: Rates>(
     requires price_places { length prices.now ≡ size at.now.lp.now.matrix }
     requires row_places { length row.old ≡ size at.now.lp.now.matrix }
     requires direction_places { length direction.old ≡ size at.now.lp.now.matrix }
-    requires point { AgreesWithPoint at.now.lp.now at.now.basis.now (value_at at.now.point.now) }
     requires kept { IsTrue (all_kept at.now.kept) →
         IsPointOf at.now.lp.now at.now.basis.now (value_at at.now.point.now) }
     requires prices { ArePricesOf at.now.lp.now at.now.basis.now (value_at prices.now) }
-    requires uncrossed { IsUncrossed at.now.lp.now }
-    requires broken { at.now.broken ≡
-        least_outside at.now.lp.now at.now.basis.now (value_at at.now.point.now) }
     ensures turn { DualTurnFound result at.now.lp.now at.now.basis.now at.now.steps at.now.left
         (value_at direction.new) (value_at row.new) (R.state rates.old) (R.state rates.new) }
     ensures direction_places { OnOk result (length direction.new ≡ size at.now.lp.now.matrix) }
     ensures rates { StaysAt (R.state rates.old) (R.state rates.new) at.now.lp.now at.now.basis.now }
 {
-    match at.broken {
-        Some(r) => restore_feasibility(at, rates, prices, row, direction, r),
-        None => optimal(at, rates, prices),
-    }
+    let Some(r) = at.broken else {
+        let point = whole_point(at, rates)?;
+        return Ok(Turn::Ends(best(at.alloc, point, prices, at.steps)?));
+    };
+    restore_feasibility(at, rates, prices, row, direction, r)
 }

@@ -1,13 +1,12 @@
--- What each exit of the walk gives, from what its calls gave.
-use Rattle.std.proofs.Common.{◌≡◌, ℕ, ◌+◌, ◌-◌, ◌≤◌, List, subst, arith}
+-- What a turn of the path gives, from what its calls gave.
+use Rattle.std.proofs.Common.{◌≡◌, ℕ, ◌-◌, List, arith}
 use Rattle.lp_definitions.specs.LinearProgram.{LinearProgram, Vector}
 use Rattle.lp_definitions.specs.Basis.{Basics, basics_of}
 use Rattle.lp_definitions.specs.Waypoints.{KeepsWaypoints}
 use Rattle.lp_definitions.specs.declared.Status.{Status}
 use Rattle.lp_model.specs.RatesCalls.{IfOverflow}
 use Rattle.lp_model.specs.declared.Stop.{Stop}
-use Rattle.lp_laws.proofs.WaypointLaws.{keeps_then}
-use Rattle.simplex_definitions.specs.Path.{turn, after}
+use Rattle.simplex_definitions.specs.Path.{turn, after, IsStep}
 use Rattle.basis_values.specs.Calls.{PointRefused}
 use Rattle.bounded_primal.specs.Moves.{move_by, StepRefused}
 use Rattle.bounded_primal.specs.Stops.{primal_stop_of, PrimalStopsAlong}
@@ -16,7 +15,7 @@ use Rattle.bounded_primal.specs.declared.moves.BlockingVariable.{BlockingVariabl
 use Rattle.bounded_primal.proofs.StepFacts.{ReachesLimit, step_reaches, limit_apart}
 use Rattle.bounded_primal.proofs.TurnEvidence.{of_step, step_refused_later, turn_stops}
 use Rattle.bounded_primal.proofs.TurnCases.{point_stops}
-use Rattle.bounded_primal.proofs.PathWalk.{HasReached, begins, goes_over, stops_there}
+use Rattle.bounded_primal.proofs.PathWalk.{begins, stops_there}
 
 -- the point of the first basis could not be made
 pub stops_at_once : (p : LinearProgram) (s : List Status) (limit : ℕ) (before now : List Basics) (why : Stop) → IfOverflow why (PointRefused p before s now) →
@@ -35,19 +34,5 @@ module _ (p : LinearProgram) (now : List Status) (d : Vector) (q : ℕ) (by : Bl
       (λ e x. of_step p now left ways more e q by h.enters h.moves (limit_apart p by.p by.to reach.limit reach.is_limit).0 h.was_left
       (step_refused_later p ways mid more now q by e keeps x)) refused
 
-  -- from the first basis of the walk
-  module _ (s : List Status) (before ways : List Basics) (steps : ℕ) (reached : HasReached turn p s before now ways steps) where
-    pub walk_more : (next : List Status) (mid more : List Basics) → next ≡ after now (move_by q by) →
-        KeepsWaypoints p.matrix (basics_of now) ways (basics_of now) mid → KeepsWaypoints p.matrix (basics_of now) mid (basics_of next) more →
-        HasReached turn p s before next more (steps + 1)
-    walk_more next mid more is first second =
-        goes_over turn p s before now ways steps reached next more
-        (record { tableau = h.moves.0; is_tableau = h.moves.1; move = move_by q by; turns = h.moves.2; is_next = is })
-        (keeps_then p.matrix (basics_of now) ways (basics_of next) mid more first second)
-
-    pub walk_stops : (mid more : List Basics) (why : Stop) (limit : ℕ) → steps ≤ limit → left ≡ limit - steps →
-        KeepsWaypoints p.matrix (basics_of now) ways (basics_of now) mid → IfOverflow why (StepRefused p mid now q by more) →
-        PrimalStopsAlong p s now limit before more (primal_stop_of why)
-    walk_stops mid more why limit within is_left keeps refused =
-        stops_there p s before now ways steps reached limit more (primal_stop_of why) within
-        (subst (λ n. TurnStops p now n ways more (primal_stop_of why)) is_left (step_stops ways mid more why keeps refused))
+  pub step_made : (next : List Status) → next ≡ after now (move_by q by) → IsStep p now next
+  step_made next is = record { tableau = h.moves.0; is_tableau = h.moves.1; move = move_by q by; turns = h.moves.2; is_next = is }

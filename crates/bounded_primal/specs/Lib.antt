@@ -7,3 +7,4 @@ pub mod Turns
 pub mod Outcomes
 pub mod Complete
 pub mod Workspaces
+pub mod Standing

@@ -8,7 +8,6 @@
 --     RuleEndsHere rule            the path by a rule ends at s, after so many steps; EndsHere: that of the simplex method
 --     EvidenceAt                   the evidence of a turn at s, whatever path led there
 --     TurnFound result             the path ends at s, or moves a variable, or the call stops
---     FreeTurnFound result         the same where a step is always left
 use Rattle.std.specs.Prelude.{◌≡◌, ◌≢◌, ℕ, Bool, not, ◌≤◌, ◌&&◌, List, [], ◌∷◌, ◌++◌, length, Option, Some, None, option_map, Result, Ok, Err, nat_eq, if◌then◌else◌}
 use Rattle.exact_values.specs.Rational.{ℚ, zero_ℚ, one_ℚ, neg_ℚ}
 use Rattle.lp_definitions.specs.LinearProgram.{LinearProgram, Vector, size, value_at, IsVariable}
@@ -24,8 +23,6 @@ use Rattle.simplex_definitions.specs.Moves.{least, is_crossed, is_outside, signe
 use Rattle.simplex_definitions.specs.Path.{PathEnding, Rule, turn, RuleEnd, IsStep}
 use Rattle.simplex_definitions.specs.Statements.{PathMoves, PathEnters}
 use Rattle.simplex_definitions.specs.Evidence.{EvidenceHolds}
-use Rattle.lp_model.specs.declared.Stop.{Stop}
-use Rattle.bounded_primal.specs.Stops.{primal_stop_of}
 use Rattle.basis_values.specs.Calls.{LieIn, job_of, PointRefused}
 use Rattle.bounded_primal.specs.Calls.{outcome_of}
 use Rattle.basis_values.specs.Motions.{motion}
@@ -128,8 +125,3 @@ abbrev pub TurnFound : Result Turn PrimalStop → LinearProgram → List Status 
 TurnFound (Ok (Ends outcome)) p s steps left d before after = EndsHere p s steps outcome
 TurnFound (Ok (Moves q by)) p s steps left d before after = MovesOn p s d q by left
 TurnFound (Err stop) p s steps left d before after = TurnStops p s left before.waypoints after.waypoints stop
-
--- the same where a step is always left
-abbrev pub FreeTurnFound : Result Turn Stop → LinearProgram → List Status → ℕ → Vector → RatesState → RatesState → Type 0
-FreeTurnFound (Ok turn) p s steps d before after = TurnFound (Ok turn) p s steps 1 d before after
-FreeTurnFound (Err stop) p s steps d before after = TurnStops p s 1 before.waypoints after.waypoints (primal_stop_of stop)

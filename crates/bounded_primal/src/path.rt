@@ -1,15 +1,17 @@
 //! The path of the bounded simplex method.
 
-ghost use Rattle.std.specs.Prelude.{◌≡◌, ◌<◌, None, List, length, IfOk, IfErr, IsErrOf};
+ghost use Rattle.std.specs.Prelude.{◌≡◌, ◌<◌, None, Ok, List, length, IfOk, IfErr, IsErrOf};
 ghost use Rattle.lp_definitions.specs.LinearProgram.{size, value_at, IsLinearProgram};
 ghost use Rattle.lp_definitions.specs.declared.Status.{Status};
 ghost use Rattle.simplex_definitions.specs.Path.{PathEnding};
-ghost use Rattle.basis_values.specs.Calls.{IsAtBasis};
+ghost use Rattle.basis_values.specs.Calls.{IsAtBasis, StaysAt, MovesTo};
+ghost use Rattle.basis_values.specs.Stops.{PointOverflow};
 ghost use Rattle.basis_values.specs.Wants.{AreWants};
 ghost use Rattle.bounded_primal.specs.Calls.{CallEnds, NeverReturned, WaypointsFollow};
 ghost use Rattle.bounded_primal.specs.Complete.{EndsOverflowFree, IsEndOrMemory};
 ghost use Rattle.bounded_primal.specs.Outcomes.{IsTrueOutcome};
 ghost use Rattle.bounded_primal.specs.Stops.{PrimalStops};
+ghost use Rattle.bounded_primal.specs.Standing.{StandsAt, Advances};
 ghost use Rattle.bounded_primal.specs.Turns.{IsUncrossed, least_outside};
 ghost use Rattle.bounded_primal.specs.Workspaces.{AreSized};
 ghost use Rattle.termination_laws.specs.Laws.{lists_of};
@@ -22,7 +24,7 @@ use crate::turns::{Turn, next_turn};
 use crate::workspace::Workspace;
 use basis_values::{crossed, outside, point_of, renew_wants, wants_of};
 use frac128::Frac;
-use lp_model::{Basis, Lp, Outcome, Rates, Wanted};
+use lp_model::{Basis, Lp, Outcome, Rates, Stop, Wanted};
 use std::alloc::Global;
 
 /// The least-numbered basic outside its limits after a step. Where there was none before the step, there is none.
@@ -38,8 +40,97 @@ pub fn outside_after(lp: &Lp, basis: &Basis, point: &[Frac], broken: Option<u32>
     outside(lp, basis, point)
 }
 
-/// Makes the basis's point, and goes from basis to basis with it, or with the values that steps need, where another is refused.
-/// `wanted` has the signs of the rates that let a nonbasic lower a quantity.
+/// How a path stands at its basis: which values of the point are kept, the least-numbered basic outside its limits, which is `broken`,
+/// how many steps are made, and how many more may be.
+pub struct Standing {
+    pub kept: Kept,
+    pub broken: Option<u32>,
+    pub steps: u32,
+    pub left: u32,
+}
+
+/// Makes the point of the basis at which a path begins, where so many steps are `left`.
+pub fn begin<R: Rates>(
+    lp: &Lp,
+    basis: &Basis,
+    rates: &mut R,
+    workspace: &mut Workspace,
+    left: u32,
+) -> Result<Standing, Stop>
+    requires rates { IsAtBasis (R.state rates.old) lp.now basis.now }
+    requires sized { AreSized (size lp.now.matrix) workspace.old }
+    ensures stands { IfOk result (StandsAt lp.now basis.now workspace.new) }
+    ensures steps { IfOk result (λ at. at.steps ≡ 0) }
+    ensures left { IfOk result (λ at. at.left ≡ left) }
+    ensures rates { StaysAt (R.state rates.old) (R.state rates.new) lp.now basis.now }
+    ensures overflow { PointOverflow result lp.now basis.now (R.state rates.old)
+        (R.state rates.new) }
+{
+    let point = workspace.point.as_mut_slice();
+    point_of(workspace.alloc, lp, basis, rates, point)?;
+    Ok(Standing {
+        kept: Kept::AllSoFar,
+        broken: outside(lp, basis, point),
+        steps: 0,
+        left,
+    })
+}
+
+/// One turn: the path ends where it stands, and the outcome is answered; or the basis, its rates and its point go over to the next one,
+/// and the steps are yet to be counted. `wanted` has the signs of the rates that let a nonbasic lower a quantity.
+pub fn advance<R: Rates>(
+    lp: &Lp,
+    basis: &mut Basis,
+    rates: &mut R,
+    wanted: &mut [Wanted],
+    workspace: &mut Workspace,
+    standing: &mut Standing,
+) -> Result<Option<Outcome>, PrimalStop>
+    requires lawful { IsLinearProgram lp.now }
+    requires uncrossed { IsUncrossed lp.now }
+    requires rates { IsAtBasis (R.state rates.old) lp.now basis.old }
+    requires wants { AreWants lp.now basis.old wanted.old }
+    requires stands { StandsAt lp.now basis.old workspace.old standing.old }
+    ensures turn { Advances result lp.now basis.old basis.new standing.old (R.state rates.old)
+        (R.state rates.new) }
+    ensures rates { IsAtBasis (R.state rates.new) lp.now basis.new }
+    ensures waypoints { MovesTo (R.state rates.old) (R.state rates.new) lp.now basis.old basis.new }
+    ensures wants { result ≡ Ok None → AreWants lp.now basis.new wanted.new }
+    ensures stands { result ≡ Ok None → StandsAt lp.now basis.new workspace.new standing.new }
+    ensures steps { standing.new.steps ≡ standing.old.steps }
+    ensures left { standing.new.left ≡ standing.old.left }
+{
+    let point = workspace.point.as_mut_slice();
+    let prices = workspace.prices.as_mut_slice();
+    let row = workspace.row.as_mut_slice();
+    let direction = &mut workspace.direction;
+    let at = Position {
+        alloc: workspace.alloc,
+        lp,
+        basis,
+        point,
+        kept: standing.kept,
+        broken: standing.broken,
+        steps: standing.steps,
+        left: standing.left,
+    };
+    match next_turn(&at, rates, wanted, prices, row, direction)? {
+        Turn::Ends(outcome) => Ok(Some(outcome)),
+        Turn::Moves { q, by } => {
+            let by = &by;
+            let step = Move { q, by, direction };
+            let kept = step_over(lp, basis, rates, point, &step, standing.kept)?;
+            let broken = outside_after(lp, basis, point, standing.broken);
+            renew_wants(lp, basis, wanted, by.p, q);
+            standing.kept = kept;
+            standing.broken = broken;
+            Ok(None)
+        }
+    }
+}
+
+/// Goes from basis to basis until the path ends, for at most `limit` steps. `wanted` has the signs of the rates that let a nonbasic lower
+/// a quantity.
 fn walk<R: Rates>(
     lp: &Lp,
     basis: &mut Basis,
@@ -60,37 +151,13 @@ fn walk<R: Rates>(
     ensures waypoints { WaypointsFollow lp.now basis.old basis.new (R.state rates.old)
         (R.state rates.new) }
 {
-    let alloc = workspace.alloc;
-    let point = workspace.point.as_mut_slice();
-    let prices = workspace.prices.as_mut_slice();
-    let row = workspace.row.as_mut_slice();
-    let direction = &mut workspace.direction;
-    point_of(alloc, lp, basis, rates, point)?;
-    let mut broken = outside(lp, basis, point);
-    let mut kept = Kept::AllSoFar;
-    let mut steps = 0;
+    let mut standing = begin(lp, basis, rates, workspace, limit)?;
     loop {
-        let at = Position {
-            alloc,
-            lp,
-            basis,
-            point,
-            kept,
-            broken,
-            steps,
-            left: limit - steps,
-        };
-        match next_turn(&at, rates, wanted, prices, row, direction)? {
-            Turn::Ends(outcome) => return Ok(outcome),
-            Turn::Moves { q, by } => {
-                let by = &by;
-                let step = Move { q, by, direction };
-                kept = step_over(lp, basis, rates, point, &step, kept)?;
-                renew_wants(lp, basis, wanted, by.p, q);
-            }
+        if let Some(outcome) = advance(lp, basis, rates, wanted, workspace, &mut standing)? {
+            return Ok(outcome);
         }
-        broken = outside_after(lp, basis, point, broken);
-        steps += 1;
+        standing.steps += 1;
+        standing.left -= 1;
     }
 }
 

@@ -12,9 +12,9 @@ ghost use Rattle.basis_values.specs.Stops.{PointOverflow};
 ghost use Rattle.basis_values.specs.Calls.{IsAtBasis, StaysAt};
 ghost use Rattle.basis_values.specs.Motions.{may_move, motion};
 ghost use Rattle.basis_values.specs.Wants.{AreWants};
-ghost use Rattle.bounded_primal.specs.KeptPoints.{all_kept, AgreesWithPoint};
+ghost use Rattle.bounded_primal.specs.KeptPoints.{all_kept};
 ghost use Rattle.bounded_primal.specs.Moves.{return_by, blocking_variable_of as blocking_variable_by};
-ghost use Rattle.bounded_primal.specs.Turns.{IsUncrossed, least_outside, ray_from, IsRestoring, moved_by, entering_variable_by, Improves, IsEnteringVariableFound, IsUnboundedEnd, ReturnStops, RunStopsAtPoint, TurnFound};
+ghost use Rattle.bounded_primal.specs.Turns.{least_outside, ray_from, IsRestoring, moved_by, entering_variable_by, Improves, IsEnteringVariableFound, IsUnboundedEnd, ReturnStops, RunStopsAtPoint, TurnFound};
 
 use crate::kept::Kept;
 use crate::moves::{BlockingVariable, PrimalStop};
@@ -177,7 +177,6 @@ fn blocking_variable_of<R: Rates>(
 ) -> Result<Option<BlockingVariable>, Stop>
     requires rates { IsAtBasis (R.state rates.old) at.now.lp.now at.now.basis.now }
     requires direction_places { length direction.old ≡ size at.now.lp.now.matrix }
-    requires point { AgreesWithPoint at.now.lp.now at.now.basis.now (value_at at.now.point.now) }
     requires within { IsWithinLimits at.now.lp.now (value_at at.now.point.now) }
     requires nonbasic { IsNonbasic at.now.lp.now.matrix (basics_of at.now.basis.now) q }
     requires may { IsTrue (may_move at.now.lp.now at.now.basis.now up q) }
@@ -323,8 +322,6 @@ fn first_phase<R: Rates>(
     requires wants { AreWants at.now.lp.now at.now.basis.now wanted.now }
     requires row_places { length row.old ≡ size at.now.lp.now.matrix }
     requires direction_places { length direction.old ≡ size at.now.lp.now.matrix }
-    requires point { AgreesWithPoint at.now.lp.now at.now.basis.now (value_at at.now.point.now) }
-    requires uncrossed { IsUncrossed at.now.lp.now }
     requires outside { least_outside at.now.lp.now at.now.basis.now
         (value_at at.now.point.now) ≡ Some r }
     ensures turn { TurnFound result at.now.lp.now at.now.basis.now at.now.steps at.now.left
@@ -415,10 +412,8 @@ fn run<R: Rates>(
 ) -> Result<Turn, PrimalStop>
     requires rates { IsAtBasis (R.state rates.old) at.now.lp.now at.now.basis.now }
     requires direction_places { length direction.old ≡ size at.now.lp.now.matrix }
-    requires point { AgreesWithPoint at.now.lp.now at.now.basis.now (value_at at.now.point.now) }
     requires kept { IsTrue (all_kept at.now.kept) →
         IsPointOf at.now.lp.now at.now.basis.now (value_at at.now.point.now) }
-    requires uncrossed { IsUncrossed at.now.lp.now }
     requires inside { least_outside at.now.lp.now at.now.basis.now
         (value_at at.now.point.now) ≡ None }
     requires moves { Improves at.now.lp.now at.now.basis.now moved }
@@ -449,44 +444,9 @@ fn run<R: Rates>(
     }
 }
 
-/// The second phase: moves the least-numbered variable that improves the objective, or answers that none does or that nothing stops
-/// it. `prices`, `row` and `direction` are workspaces.
-fn second_phase<R: Rates>(
-    at: &Position<'_>,
-    rates: &mut R,
-    wanted: &[Wanted],
-    prices: &mut [Frac],
-    row: &mut [Frac],
-    direction: &mut SparseVector,
-) -> Result<Turn, PrimalStop>
-    requires lawful { IsLinearProgram at.now.lp.now }
-    requires rates { IsAtBasis (R.state rates.old) at.now.lp.now at.now.basis.now }
-    requires wants { AreWants at.now.lp.now at.now.basis.now wanted.now }
-    requires price_places { length prices.old ≡ size at.now.lp.now.matrix }
-    requires row_places { length row.old ≡ size at.now.lp.now.matrix }
-    requires direction_places { length direction.old ≡ size at.now.lp.now.matrix }
-    requires point { AgreesWithPoint at.now.lp.now at.now.basis.now (value_at at.now.point.now) }
-    requires kept { IsTrue (all_kept at.now.kept) →
-        IsPointOf at.now.lp.now at.now.basis.now (value_at at.now.point.now) }
-    requires uncrossed { IsUncrossed at.now.lp.now }
-    requires inside { least_outside at.now.lp.now at.now.basis.now
-        (value_at at.now.point.now) ≡ None }
-    ensures turn { TurnFound result at.now.lp.now at.now.basis.now at.now.steps at.now.left
-        (value_at direction.new) (R.state rates.old) (R.state rates.new) }
-    ensures direction_places { OnOk result (length direction.new ≡ size at.now.lp.now.matrix) }
-    ensures rates { StaysAt (R.state rates.old) (R.state rates.new) at.now.lp.now at.now.basis.now }
-{
-    match entering_variable_of(at, rates, wanted, row, prices)? {
-        None => {
-            let point = whole_point(at, rates)?;
-            Ok(Turn::Ends(best(at.alloc, point, prices, at.steps)?))
-        }
-        Some(moved) => run(at, rates, direction, moved),
-    }
-}
-
-/// What the path does where it stands. `wanted` has the signs of the rates that let a nonbasic lower a quantity. `prices`, `row` and
-/// `direction` are workspaces.
+/// What the path does where it stands: in the first phase it brings the basic that is `broken` back to its limit, and in the second, where
+/// there is none, it moves the least-numbered variable that improves the objective; or it ends, where none does or nothing stops it.
+/// `wanted` has the signs of the rates that let a nonbasic lower a quantity. `prices`, `row` and `direction` are workspaces.
 pub fn next_turn<R: Rates>(
     at: &Position<'_>,
     rates: &mut R,
@@ -501,19 +461,21 @@ pub fn next_turn<R: Rates>(
     requires price_places { length prices.old ≡ size at.now.lp.now.matrix }
     requires row_places { length row.old ≡ size at.now.lp.now.matrix }
     requires direction_places { length direction.old ≡ size at.now.lp.now.matrix }
-    requires point { AgreesWithPoint at.now.lp.now at.now.basis.now (value_at at.now.point.now) }
     requires kept { IsTrue (all_kept at.now.kept) →
         IsPointOf at.now.lp.now at.now.basis.now (value_at at.now.point.now) }
-    requires uncrossed { IsUncrossed at.now.lp.now }
-    requires broken { at.now.broken ≡
-        least_outside at.now.lp.now at.now.basis.now (value_at at.now.point.now) }
     ensures turn { TurnFound result at.now.lp.now at.now.basis.now at.now.steps at.now.left
         (value_at direction.new) (R.state rates.old) (R.state rates.new) }
     ensures direction_places { OnOk result (length direction.new ≡ size at.now.lp.now.matrix) }
     ensures rates { StaysAt (R.state rates.old) (R.state rates.new) at.now.lp.now at.now.basis.now }
 {
-    match at.broken {
-        Some(r) => first_phase(at, rates, wanted, row, direction, r),
-        None => second_phase(at, rates, wanted, prices, row, direction),
+    if let Some(r) = at.broken {
+        return first_phase(at, rates, wanted, row, direction, r);
+    }
+    match entering_variable_of(at, rates, wanted, row, prices)? {
+        None => {
+            let point = whole_point(at, rates)?;
+            Ok(Turn::Ends(best(at.alloc, point, prices, at.steps)?))
+        }
+        Some(moved) => run(at, rates, direction, moved),
     }
 }

@@ -27,7 +27,7 @@ pub returns-in-Err-clause-turn : goal.returns-in-Err-clause-turn
 returns-in-Err-clause-turn g c =
     ratio_evidence c.args.at.now.lp.now c.requires.lawful c.requires.no_change c.args.at.now.basis.now (value_at c.args.at.now.point.now)
     (g.R.Rates.state c.args.rates.now).matrix
-    (g.R.Rates.state c.args.rates.now).basics c.requires.rates c.requires.point c.requires.uncrossed c.args.r c.requires.outside
+    (g.R.Rates.state c.args.rates.now).basics c.requires.rates c.args.at.now.agrees c.args.at.now.uncrossed c.args.r c.requires.outside
     (value_at c.args.prices.now)
     (value_at c.read_row.new.out) c.requires.prices c.in_ok-read_row.ensures.row c.lies_below-below.result c.lies_below-below.ensures c.args.at.now.left (g.R.Rates.state c.args.rates.now).waypoints (g.R.Rates.state c.read_row.new.rates).waypoints c.in-Err.evidence c.in-Err.ensures.refused
 
@@ -35,7 +35,7 @@ pub returns-in_default-clause-turn : goal.returns-in_default-clause-turn
 returns-in_default-clause-turn g c =
     infeasible_ends c.args.at.now.lp.now c.requires.lawful c.requires.no_change c.args.at.now.basis.now (value_at c.args.at.now.point.now)
     (g.R.Rates.state c.args.rates.now).matrix
-    (g.R.Rates.state c.args.rates.now).basics c.requires.rates c.requires.point c.requires.uncrossed c.args.r c.requires.outside
+    (g.R.Rates.state c.args.rates.now).basics c.requires.rates c.args.at.now.agrees c.args.at.now.uncrossed c.args.r c.requires.outside
     (value_at c.args.prices.now)
     (value_at c.read_row.new.out) c.requires.prices c.in_ok-read_row.ensures.row c.lies_below-below.result c.lies_below-below.ensures
     (sym c.in-Ok.ensures.cheapest ∙ c.in_default.is) c.in_ok-ray.ray c.args.at.now.steps c.in_ok-ray.ensures.places c.in_ok-ray.ensures.ray
@@ -44,7 +44,7 @@ pub returns-then-at-eq0-clause-turn : goal.returns-then-at-eq0-clause-turn
 returns-then-at-eq0-clause-turn g c =
     return_at_limit c.args.at.now.lp.now c.requires.lawful c.requires.no_change c.args.at.now.basis.now (value_at c.args.at.now.point.now)
     (g.R.Rates.state c.args.rates.now).matrix
-    (g.R.Rates.state c.args.rates.now).basics c.requires.rates c.requires.point c.requires.uncrossed c.args.r c.requires.outside
+    (g.R.Rates.state c.args.rates.now).basics c.requires.rates c.args.at.now.agrees c.args.at.now.uncrossed c.args.r c.requires.outside
     (value_at c.args.prices.now)
     (value_at c.read_row.new.out) c.requires.prices c.in_ok-read_row.ensures.row c.lies_below-below.result c.lies_below-below.ensures c.in-Some.q (sym c.in-Ok.ensures.cheapest ∙ c.in-Some.is) (if c.lies_below-below.result then Ll else Ul) refl c.args.at.now.left (g.R.Rates.state c.args.rates.now).waypoints (g.R.Rates.state c.read_row.new.rates).waypoints c.if-at-eq0.true
 
@@ -52,7 +52,7 @@ pub return_along-requires-clause-nonbasic : goal.return_along-requires-clause-no
 return_along-requires-clause-nonbasic g c =
     return_nonbasic c.args.at.now.lp.now c.requires.lawful c.requires.no_change c.args.at.now.basis.now (value_at c.args.at.now.point.now)
     (g.R.Rates.state c.args.rates.now).matrix
-    (g.R.Rates.state c.args.rates.now).basics c.requires.rates c.requires.point c.requires.uncrossed c.args.r c.requires.outside
+    (g.R.Rates.state c.args.rates.now).basics c.requires.rates c.args.at.now.agrees c.args.at.now.uncrossed c.args.r c.requires.outside
     (value_at c.args.prices.now)
     (value_at c.read_row.new.out) c.requires.prices c.in_ok-read_row.ensures.row c.lies_below-below.result c.lies_below-below.ensures c.in-Some.q (sym c.in-Ok.ensures.cheapest ∙ c.in-Some.is) c.limit_broken.result c.limit_broken.ensures
 
@@ -64,7 +64,7 @@ pub return_along-requires-clause-limit : goal.return_along-requires-clause-limit
 return_along-requires-clause-limit g c =
     return_limit c.args.at.now.lp.now c.requires.lawful c.requires.no_change c.args.at.now.basis.now (value_at c.args.at.now.point.now)
     (g.R.Rates.state c.args.rates.now).matrix
-    (g.R.Rates.state c.args.rates.now).basics c.requires.rates c.requires.point c.requires.uncrossed c.args.r c.requires.outside
+    (g.R.Rates.state c.args.rates.now).basics c.requires.rates c.args.at.now.agrees c.args.at.now.uncrossed c.args.r c.requires.outside
     (value_at c.args.prices.now)
     (value_at c.read_row.new.out) c.requires.prices c.in_ok-read_row.ensures.row c.lies_below-below.result c.lies_below-below.ensures c.in-Some.q (sym c.in-Ok.ensures.cheapest ∙ c.in-Some.is) c.limit_broken.result c.limit_broken.ensures
 
@@ -72,7 +72,7 @@ pub return_along-requires-clause-pivot : goal.return_along-requires-clause-pivot
 return_along-requires-clause-pivot g c =
     return_pivot c.args.at.now.lp.now c.requires.lawful c.requires.no_change c.args.at.now.basis.now (value_at c.args.at.now.point.now)
     (g.R.Rates.state c.args.rates.now).matrix
-    (g.R.Rates.state c.args.rates.now).basics c.requires.rates c.requires.point c.requires.uncrossed c.args.r c.requires.outside
+    (g.R.Rates.state c.args.rates.now).basics c.requires.rates c.args.at.now.agrees c.args.at.now.uncrossed c.args.r c.requires.outside
     (value_at c.args.prices.now)
     (value_at c.read_row.new.out) c.requires.prices c.in_ok-read_row.ensures.row c.lies_below-below.result c.lies_below-below.ensures c.in-Some.q (sym c.in-Ok.ensures.cheapest ∙ c.in-Some.is) c.limit_broken.result c.limit_broken.ensures
 
@@ -82,7 +82,7 @@ returns-in_err-by-clause-turn g c =
     rw (p.1, p.2)
     (return_stops c.args.at.now.lp.now c.requires.lawful c.requires.no_change c.args.at.now.basis.now (value_at c.args.at.now.point.now)
     (g.R.Rates.state c.args.rates.now).matrix
-    (g.R.Rates.state c.args.rates.now).basics c.requires.rates c.requires.point c.requires.uncrossed c.args.r c.requires.outside
+    (g.R.Rates.state c.args.rates.now).basics c.requires.rates c.args.at.now.agrees c.args.at.now.uncrossed c.args.r c.requires.outside
     (value_at c.args.prices.now)
     (value_at c.read_row.new.out) c.requires.prices c.in_ok-read_row.ensures.row c.lies_below-below.result c.lies_below-below.ensures c.in-Some.q (sym c.in-Ok.ensures.cheapest ∙ c.in-Some.is) c.limit_broken.result c.limit_broken.ensures c.args.at.now.left (g.R.Rates.state c.args.rates.now).waypoints (g.R.Rates.state c.read_row.new.rates).waypoints (g.R.Rates.state c.return_along.new.rates).waypoints c.in_err-by.field-0.0 c.in_ok-read_row.ensures.rates.1 c.in_err-by.ensures.overflow)
 
@@ -90,7 +90,7 @@ pub returns-clause-turn : goal.returns-clause-turn
 returns-clause-turn g c =
     return_moves c.args.at.now.lp.now c.requires.lawful c.requires.no_change c.args.at.now.basis.now (value_at c.args.at.now.point.now)
     (g.R.Rates.state c.args.rates.now).matrix
-    (g.R.Rates.state c.args.rates.now).basics c.requires.rates c.requires.point c.requires.uncrossed c.args.r c.requires.outside
+    (g.R.Rates.state c.args.rates.now).basics c.requires.rates c.args.at.now.agrees c.args.at.now.uncrossed c.args.r c.requires.outside
     (value_at c.args.prices.now)
     (value_at c.read_row.new.out) c.requires.prices c.in_ok-read_row.ensures.row c.lies_below-below.result c.lies_below-below.ensures c.in-Some.q (sym c.in-Ok.ensures.cheapest ∙ c.in-Some.is) c.limit_broken.result c.limit_broken.ensures (value_at c.return_along.new.direction) c.in_ok-by.ensures.direction c.in_ok-by.by c.in_ok-by.ensures.blocking_variable c.args.at.now.left (omega (arith, c.if-at-eq0.false))
 

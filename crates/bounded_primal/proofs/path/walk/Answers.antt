@@ -1,149 +1,86 @@
-use Rattle.std.proofs.Common.{◌≡◌, ◌-◌, ◌∙◌, length, refl, sym, ap, arith}
+use Rattle.std.proofs.Common.{◌≡◌, ◌+◌, ◌-◌, ◌≤◌, ◌∙◌, refl, sym, ap, subst, arith}
 use Rattle.std.proofs.lemmas.Result.{err_from_is_err_and}
-use Rattle.lp_definitions.specs.LinearProgram.{value_at}
-use Rattle.lp_definitions.specs.Basis.{basics_of}
-use Rattle.lp_laws.proofs.WaypointLaws.{keeps_then}
-use Rattle.bounded_primal.proofs.Agreement.{point_agrees}
-use Rattle.simplex_definitions.specs.Path.{turn}
-use Rattle.bounded_primal.proofs.PathWalk.{begins_at, ends_there, stops_there, follows, follows_later}
-use Rattle.bounded_primal.proofs.WalkCases.{stops_at_once, walk_more, walk_stops}
-use Rattle.bounded_primal.proofs.FirstWanted.{leaves_variable, wants_moved}
-use Rattle.bounded_primal.proofs.Inside.{stays_inside}
 use Rattle.simplex_definitions.specs.Counts.{counted_steps}
+use Rattle.simplex_definitions.specs.Path.{turn}
+use Rattle.bounded_primal.specs.Turns.{TurnStops}
+use Rattle.bounded_primal.proofs.PathWalk.{begins_at, goes_over, ends_there, stops_there, follows, follows_later}
+use Rattle.bounded_primal.proofs.WalkCases.{stops_at_once}
 use Rattle.bounded_primal.proofs.path.walk.Goals as goal
 
-pub returns-in_err-point_of-clause-stops : goal.returns-in_err-point_of-clause-stops
-returns-in_err-point_of-clause-stops g c =
+pub returns-in_err-standing-clause-stops : goal.returns-in_err-standing-clause-stops
+returns-in_err-standing-clause-stops g c =
     let p = err_from_is_err_and c.from_residual.result c.from_residual.ensures.1 in
     rw (p.1, p.2)
     (stops_at_once c.args.lp.now c.args.basis.now c.args.limit (g.R.Rates.state c.args.rates.now).waypoints
-    (g.R.Rates.state c.point_of.new.rates).waypoints c.in_err-point_of.field-0.0 c.in_err-point_of.ensures.overflow)
+    (g.R.Rates.state c.begin.new.rates).waypoints c.in_err-standing.field-0.0 c.in_err-standing.ensures.overflow)
+
+pub returns-in_err-standing-clause-waypoints : goal.returns-in_err-standing-clause-waypoints
+returns-in_err-standing-clause-waypoints g c =
+    follows turn c.args.lp.now c.args.basis.now (g.R.Rates.state c.args.rates.now).waypoints c.args.basis.now (g.R.Rates.state c.begin.new.rates).waypoints 0
+    (begins_at turn c.args.lp.now c.args.basis.now (g.R.Rates.state c.args.rates.now).waypoints
+    (g.R.Rates.state c.begin.new.rates).waypoints c.in_err-standing.ensures.rates.1)
 
 pub loop-outcome-init : goal.loop-outcome-init
 loop-outcome-init g c = record {
-  places = c.requires.sized.direction;
-  point_places = omega (arith, ap length c.as_mut_slice-point.ensures.value, c.requires.sized.point);
-  price_places = ap length c.as_mut_slice-prices.ensures.value ∙ c.requires.sized.prices;
-  row_places = ap length c.as_mut_slice-row.ensures.value ∙ c.requires.sized.row;
-  rates = c.in_ok-point_of.ensures.rates.0;
+  rates = c.in_ok-standing.ensures.rates.0;
   wants = c.requires.wants;
-  point =
-      point_agrees c.args.lp.now c.args.basis.now c.in_ok-point_of.ensures.rates.0.is_basis c.in_ok-point_of.ensures.rates.0.nonsingular
-      (value_at c.point_of.new.out) c.in_ok-point_of.ensures.point;
-  kept = λ _. c.in_ok-point_of.ensures.point;
-  broken = c.outside-broken.ensures;
-  within = omega arith;
+  stands = c.in_ok-standing.ensures.stands;
+  counted = omega (arith, c.in_ok-standing.ensures.steps, c.in_ok-standing.ensures.left);
   reached =
-      begins_at turn c.args.lp.now c.args.basis.now (g.R.Rates.state c.args.rates.now).waypoints
-      (g.R.Rates.state c.point_of.new.rates).waypoints c.in_ok-point_of.ensures.rates.1;
+      rw c.in_ok-standing.ensures.steps
+      (begins_at turn c.args.lp.now c.args.basis.now (g.R.Rates.state c.args.rates.now).waypoints
+      (g.R.Rates.state c.begin.new.rates).waypoints c.in_ok-standing.ensures.rates.1);
 }
 
 pub returns-in_err-outcome-clause-stops : goal.returns-in_err-outcome-clause-stops
 returns-in_err-outcome-clause-stops g c =
     let p = err_from_is_err_and c.from_residual-in_err-outcome.result c.from_residual-in_err-outcome.ensures.1 in
-    rw (p.1, p.2)
+    let stops = c.in_err-outcome.ensures.turn in
+    let left : c.loop-outcome.standing.left ≡ c.args.limit - c.loop-outcome.standing.steps = omega (arith, c.loop-outcome.invariant.counted) in
+    rw (p.1, p.2, stops.1)
     (stops_there c.args.lp.now c.args.basis.now (g.R.Rates.state c.args.rates.now).waypoints c.loop-outcome.basis
-    (g.R.Rates.state c.loop-outcome.rates).waypoints c.loop-outcome.steps c.loop-outcome.invariant.reached c.args.limit
-    (g.R.Rates.state c.next_turn.new.rates).waypoints c.in_err-outcome.field-0.0 c.loop-outcome.invariant.within c.in_err-outcome.ensures.turn)
-
-pub step_over-requires-clause-step : goal.step_over-requires-clause-step
-step_over-requires-clause-step g c =
-    let moves = rw c.in-Moves.is at c.in_ok-outcome.ensures.turn in
-    moves.step
-
-pub returns-in_err-kept-in-Moves-clause-stops : goal.returns-in_err-kept-in-Moves-clause-stops
-returns-in_err-kept-in-Moves-clause-stops g c =
-    let p = err_from_is_err_and c.from_residual-in_err-kept-in-Moves.result c.from_residual-in_err-kept-in-Moves.ensures.1 in
-    let moves = rw c.in-Moves.is at c.in_ok-outcome.ensures.turn in
-    rw (p.1, p.2, c.in_err-kept-in-Moves.ensures.unchanged)
-    (walk_stops c.args.lp.now c.loop-outcome.basis (value_at c.next_turn.new.direction) c.in-Moves.q c.in-Moves.by
-    (c.args.limit - c.loop-outcome.steps) moves c.args.basis.now (g.R.Rates.state c.args.rates.now).waypoints
-    (g.R.Rates.state c.loop-outcome.rates).waypoints c.loop-outcome.steps c.loop-outcome.invariant.reached
-    (g.R.Rates.state c.next_turn.new.rates).waypoints
-    (g.R.Rates.state c.step_over.new.rates).waypoints c.in_err-kept-in-Moves.field-0.0 c.args.limit c.loop-outcome.invariant.within refl c.in_ok-outcome.ensures.rates.1 c.in_err-kept-in-Moves.ensures.overflow)
-
-pub outside_after-broken-requires-clause-stays : goal.outside_after-broken-requires-clause-stays
-outside_after-broken-requires-clause-stays g c none =
-    let moves = rw c.in-Moves.is at c.in_ok-outcome.ensures.turn in
-    stays_inside c.args.lp.now (g.R.Rates.state c.loop-outcome.rates).matrix
-    (g.R.Rates.state c.loop-outcome.rates).basics c.loop-outcome.basis c.loop-outcome.invariant.rates
-    (value_at c.loop-outcome.point) c.loop-outcome.invariant.point c.requires.uncrossed (sym c.loop-outcome.invariant.broken ∙ none)
-    c.requires.lawful (value_at c.next_turn.new.direction) c.in-Moves.q c.in-Moves.by
-    (c.args.limit - c.loop-outcome.steps) moves c.step_over.new.basis c.in_ok-kept-in-Moves.ensures.basis
-    (value_at c.step_over.new.point) c.in_ok-kept-in-Moves.ensures.point
-
-pub loop-outcome-preserved : goal.loop-outcome-preserved
-loop-outcome-preserved g c =
-    let moves = rw c.in-Moves.is at c.in_ok-outcome.ensures.turn in
-    record {
-      places = c.in_ok-outcome.ensures.direction_places;
-      point_places = omega (arith, c.loop-outcome.invariant.point_places);
-      price_places = omega (arith, c.loop-outcome.invariant.price_places);
-      row_places = omega (arith, c.loop-outcome.invariant.row_places);
-      rates = c.in_ok-kept-in-Moves.ensures.rates;
-      wants = c.renew_wants.ensures;
-      point = c.in_ok-kept-in-Moves.ensures.point;
-      kept = c.in_ok-kept-in-Moves.ensures.kept;
-      broken = c.outside_after-broken.ensures;
-      within = omega (arith, moves.was_left);
-      reached =
-          walk_more c.args.lp.now c.loop-outcome.basis (value_at c.next_turn.new.direction) c.in-Moves.q c.in-Moves.by
-          (c.args.limit - c.loop-outcome.steps) moves c.args.basis.now (g.R.Rates.state c.args.rates.now).waypoints
-          (g.R.Rates.state c.loop-outcome.rates).waypoints c.loop-outcome.steps c.loop-outcome.invariant.reached c.step_over.new.basis
-          (g.R.Rates.state c.next_turn.new.rates).waypoints
-          (g.R.Rates.state c.step_over.new.rates).waypoints c.in_ok-kept-in-Moves.ensures.basis c.in_ok-outcome.ensures.rates.1 c.in_ok-kept-in-Moves.ensures.waypoints;
-    }
-
-pub returns-in_err-point_of-clause-waypoints : goal.returns-in_err-point_of-clause-waypoints
-returns-in_err-point_of-clause-waypoints g c =
-    follows turn c.args.lp.now c.args.basis.now (g.R.Rates.state c.args.rates.now).waypoints c.args.basis.now (g.R.Rates.state c.point_of.new.rates).waypoints 0
-    (begins_at turn c.args.lp.now c.args.basis.now (g.R.Rates.state c.args.rates.now).waypoints
-    (g.R.Rates.state c.point_of.new.rates).waypoints c.in_err-point_of.ensures.rates.1)
+    (g.R.Rates.state c.loop-outcome.rates).waypoints c.loop-outcome.standing.steps c.loop-outcome.invariant.reached c.args.limit
+    (g.R.Rates.state c.advance.new.rates).waypoints c.in_err-outcome.field-0.0 (omega (arith, c.loop-outcome.invariant.counted))
+    (subst (λ n. TurnStops c.args.lp.now c.loop-outcome.basis n (g.R.Rates.state c.loop-outcome.rates).waypoints
+    (g.R.Rates.state c.advance.new.rates).waypoints c.in_err-outcome.field-0.0) left stops.0))
 
 pub returns-in_err-outcome-clause-waypoints : goal.returns-in_err-outcome-clause-waypoints
 returns-in_err-outcome-clause-waypoints g c =
-    follows_later turn c.args.lp.now c.args.basis.now (g.R.Rates.state c.args.rates.now).waypoints c.loop-outcome.basis
-    (g.R.Rates.state c.loop-outcome.rates).waypoints c.loop-outcome.steps c.loop-outcome.invariant.reached
-    (g.R.Rates.state c.next_turn.new.rates).waypoints c.in_err-outcome.ensures.rates.1
-
-pub returns-in-Ends-clause-waypoints : goal.returns-in-Ends-clause-waypoints
-returns-in-Ends-clause-waypoints g c =
-    follows_later turn c.args.lp.now c.args.basis.now (g.R.Rates.state c.args.rates.now).waypoints c.loop-outcome.basis
-    (g.R.Rates.state c.loop-outcome.rates).waypoints c.loop-outcome.steps c.loop-outcome.invariant.reached
-    (g.R.Rates.state c.next_turn.new.rates).waypoints c.in_ok-outcome.ensures.rates.1
-
-pub returns-in_err-kept-in-Moves-clause-waypoints : goal.returns-in_err-kept-in-Moves-clause-waypoints
-returns-in_err-kept-in-Moves-clause-waypoints g c =
-    rw c.in_err-kept-in-Moves.ensures.unchanged
+    let stops = c.in_err-outcome.ensures.turn in
+    rw stops.1
     (follows_later turn c.args.lp.now c.args.basis.now (g.R.Rates.state c.args.rates.now).waypoints c.loop-outcome.basis
-    (g.R.Rates.state c.loop-outcome.rates).waypoints c.loop-outcome.steps c.loop-outcome.invariant.reached
-    (g.R.Rates.state c.step_over.new.rates).waypoints
-    (keeps_then c.args.lp.now.matrix (basics_of c.loop-outcome.basis) (g.R.Rates.state c.loop-outcome.rates).waypoints (basics_of c.loop-outcome.basis)
-    (g.R.Rates.state c.next_turn.new.rates).waypoints (g.R.Rates.state c.step_over.new.rates).waypoints
-    c.in_ok-outcome.ensures.rates.1 (rw (c.in_err-kept-in-Moves.ensures.unchanged) at c.in_err-kept-in-Moves.ensures.waypoints)))
+    (g.R.Rates.state c.loop-outcome.rates).waypoints c.loop-outcome.standing.steps c.loop-outcome.invariant.reached
+    (g.R.Rates.state c.advance.new.rates).waypoints (rw stops.1 at c.in_err-outcome.ensures.waypoints))
 
-pub returns-in-Ends-clause-ends : goal.returns-in-Ends-clause-ends
-returns-in-Ends-clause-ends g c =
-    let ends = rw c.in-Ends.is at c.in_ok-outcome.ensures.turn in
-    let counted : c.loop-outcome.steps ≡ counted_steps c.loop-outcome.steps = omega (arith, c.loop-outcome.invariant.within) in
-    ends_there turn c.args.lp.now c.args.basis.now (g.R.Rates.state c.args.rates.now).waypoints c.loop-outcome.basis
-    (g.R.Rates.state c.loop-outcome.rates).waypoints c.loop-outcome.steps c.loop-outcome.invariant.reached
-    c.args.limit c.loop-outcome.steps c.in-Ends.outcome c.loop-outcome.invariant.within counted ends
+pub returns-in-Some-clause-ends : goal.returns-in-Some-clause-ends
+returns-in-Some-clause-ends g c =
+    let ends = rw c.in-Some.is at c.in_ok-outcome.ensures.turn in
+    let within : c.loop-outcome.standing.steps ≤ c.args.limit = omega (arith, c.loop-outcome.invariant.counted) in
+    let counted : c.loop-outcome.standing.steps ≡ counted_steps c.loop-outcome.standing.steps = omega (arith, within) in
+    rw ends.1
+    (ends_there turn c.args.lp.now c.args.basis.now (g.R.Rates.state c.args.rates.now).waypoints c.loop-outcome.basis
+    (g.R.Rates.state c.loop-outcome.rates).waypoints c.loop-outcome.standing.steps c.loop-outcome.invariant.reached
+    c.args.limit c.loop-outcome.standing.steps c.in-Some.outcome within counted ends.0)
 
-pub renew_wants-requires-clause-first : goal.renew_wants-requires-clause-first
-renew_wants-requires-clause-first g c =
-    let moves = rw c.in-Moves.is at c.in_ok-outcome.ensures.turn in
-    leaves_variable c.args.lp.now c.loop-outcome.basis (value_at c.next_turn.new.direction) c.in-Moves.q c.in-Moves.by
-    (c.args.limit - c.loop-outcome.steps) moves
+pub returns-in-Some-clause-waypoints : goal.returns-in-Some-clause-waypoints
+returns-in-Some-clause-waypoints g c =
+    let ends = rw c.in-Some.is at c.in_ok-outcome.ensures.turn in
+    rw ends.1
+    (follows_later turn c.args.lp.now c.args.basis.now (g.R.Rates.state c.args.rates.now).waypoints c.loop-outcome.basis
+    (g.R.Rates.state c.loop-outcome.rates).waypoints c.loop-outcome.standing.steps c.loop-outcome.invariant.reached
+    (g.R.Rates.state c.advance.new.rates).waypoints (rw ends.1 at c.in_ok-outcome.ensures.waypoints))
 
-pub renew_wants-requires-clause-second : goal.renew_wants-requires-clause-second
-renew_wants-requires-clause-second g c =
-    let moves = rw c.in-Moves.is at c.in_ok-outcome.ensures.turn in
-    moves.nonbasic.0
-
-pub renew_wants-requires-clause-others : goal.renew_wants-requires-clause-others
-renew_wants-requires-clause-others g c =
-    let moves = rw c.in-Moves.is at c.in_ok-outcome.ensures.turn in
-    wants_moved c.args.lp.now c.loop-outcome.basis c.loop-outcome.invariant.rates.is_basis c.loop-outcome.wanted c.loop-outcome.invariant.wants
-    (value_at c.next_turn.new.direction) c.in-Moves.q c.in-Moves.by
-    (c.args.limit - c.loop-outcome.steps) moves c.step_over.new.basis c.in_ok-kept-in-Moves.ensures.basis
+pub loop-outcome-preserved : goal.loop-outcome-preserved
+loop-outcome-preserved g c =
+    let moves = rw c.in-None.is at c.in_ok-outcome.ensures.turn in
+    record {
+      rates = c.in_ok-outcome.ensures.rates;
+      wants = c.in_ok-outcome.ensures.wants c.in-None.is;
+      stands = c.in_ok-outcome.ensures.stands c.in-None.is;
+      counted = omega (arith, c.loop-outcome.invariant.counted, moves.was_left, c.in_ok-outcome.ensures.steps, c.in_ok-outcome.ensures.left);
+      reached =
+          rw c.in_ok-outcome.ensures.steps
+          (goes_over turn c.args.lp.now c.args.basis.now (g.R.Rates.state c.args.rates.now).waypoints c.loop-outcome.basis
+    (g.R.Rates.state c.loop-outcome.rates).waypoints c.loop-outcome.standing.steps c.loop-outcome.invariant.reached
+          c.advance.new.basis (g.R.Rates.state c.advance.new.rates).waypoints moves.is_step c.in_ok-outcome.ensures.waypoints);
+    }

@@ -22,7 +22,7 @@ returns-in-Err-clause-overflow g c =
     let direction = rw (c.requires.rates.same_matrix, c.requires.rates.same_basics) at c.in_ok-direction.ensures.direction in
     λ z at.
     let some =
-    step_length_refused c.args.at.now.lp.now (value_at c.args.at.now.point.now) z (c.requires.point z at)
+    step_length_refused c.args.at.now.lp.now (value_at c.args.at.now.point.now) z (c.args.at.now.agrees z at)
     (value_at c.direction.new.out) c.args.up c.args.q c.in-Err.evidence c.in-Err.ensures.refused in
     by_blocking_variable (value_at c.direction.new.out) direction
     (call_refused c.args.at.now.lp.now c.args.at.now.basis.now z

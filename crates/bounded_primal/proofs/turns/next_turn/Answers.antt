@@ -4,7 +4,7 @@ use Rattle.lp_definitions.specs.LinearProgram.{value_at}
 use Rattle.basis_values.proofs.Kept.{kept_then}
 use Rattle.bounded_primal.proofs.TurnCalls.{found_later}
 use Rattle.bounded_primal.proofs.TurnCases.{point_stops, point_stops_later, second_ends}
-use Rattle.bounded_primal.proofs.turns.second_phase.Goals as goal
+use Rattle.bounded_primal.proofs.turns.next_turn.Goals as goal
 
 pub returns-in_err-entering_variable_of-clause-turn : goal.returns-in_err-entering_variable_of-clause-turn
 returns-in_err-entering_variable_of-clause-turn g c =
@@ -37,7 +37,7 @@ pub returns-in_ok-best-in-None-clause-turn : goal.returns-in_ok-best-in-None-cla
 returns-in_ok-best-in-None-clause-turn g c =
     let none = rw c.in-None.is at c.in_ok-entering_variable_of.ensures.found in
     second_ends c.args.at.now.lp.now c.args.at.now.basis.now (value_at c.args.at.now.point.now) (g.R.Rates.state c.args.rates.now).matrix
-    (g.R.Rates.state c.args.rates.now).basics c.requires.rates c.requires.point c.requires.uncrossed c.requires.inside
+    (g.R.Rates.state c.args.rates.now).basics c.requires.rates c.args.at.now.agrees c.args.at.now.uncrossed c.requires.inside
     (value_at c.entering_variable_of.new.prices) none.0 c.in_ok-point-in-None.point.items c.entering_variable_of.new.prices c.args.at.now.steps none.1 c.in_ok-point-in-None.ensures.places c.in_ok-point-in-None.ensures.point (omega arith) (λ k is. refl) c.in_ok-best-in-None.field-0 c.in_ok-best-in-None.ensures
 
 pub returns-in_err-point-in-None-clause-rates : goal.returns-in_err-point-in-None-clause-rates
