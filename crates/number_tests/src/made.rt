@@ -26,6 +26,26 @@ pub fn number(alloc: Global, seed: u64, words: usize) -> Result<Natural, AllocEr
     Ok(Natural::from_limbs(limbs))
 }
 
+/// The number of words of the sequence that a seed begins, then so many zeros, then words of the sequence that the next seed begins;
+/// of seed 0 each word has all its bits set.
+pub fn number_in_parts(
+    alloc: Global,
+    seed: u64,
+    parts: (usize, usize, usize),
+) -> Result<Natural, AllocError> {
+    let low = number(alloc, seed, parts.0)?;
+    let next_seed = if seed == 0 { 0 } else { seed.wrapping_add(1) };
+    let high = number(alloc, next_seed, parts.2)?;
+    let mut limbs = Vec::from_slice(alloc, low.limbs())?;
+    for _ in 0..parts.1 {
+        limbs.push(0)?;
+    }
+    for limb in high.limbs() {
+        limbs.push(*limb)?;
+    }
+    Ok(Natural::from_limbs(limbs))
+}
+
 /// The number's remainder by the prime.
 pub fn residue(number: &Natural) -> u64 {
     let mut rest: u128 = 0;
