@@ -25,3 +25,6 @@ mod Turns
 mod Alike
 mod Stepping
 mod Whole
+mod Came
+mod Unopened
+mod Attested

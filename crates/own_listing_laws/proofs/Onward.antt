@@ -27,7 +27,7 @@ use Rattle.walk_definitions.specs.Forms.{is_open_stop}
 use Rattle.walk_definitions.specs.Tables.{begins_table_line}
 use Rattle.walk_definitions.specs.Tests.{point_of}
 use Rattle.walk_definitions.specs.Reading.{Judged, judged}
-use Rattle.walk_definitions.specs.Walker.{Pending, Walker, Found, Attested, Wrong, Unchecked, WalkTurn, Finds, open_if, pending_found, open_outcome, open_question, opened, refuses_selection, ended, unless_found, closes, follows, passed, taken, pending_after, settled, answered, due, walk_move}
+use Rattle.walk_definitions.specs.Walker.{Pending, Walker, Found, Attested, Wrong, Unchecked, WalkTurn, Finds, open_if, open_stop, pending_found, open_pending, open_outcome, open_question, opened, refuses_selection, ended, unless_found, closes, follows, passed, taken, pending_after, settled, answered, due, walk_move}
 use Rattle.fitting_answers.specs.Fitting.{VerdictFits}
 use Rattle.own_listing_laws.specs.Laws.{IsShownChecked, KeepsMark, WalksOn}
 use Rattle.own_listing_laws.proofs.Rightly.{judged_right}
@@ -53,13 +53,16 @@ report_closed (Parametric Paraobj chain) more = refl
 report_closed (Parametric Pararhs chain) more = refl
 
 -- where nothing is open, the answer that the listing gives is due
-asked : (w : Walker) (question : Question) (sheet : Sheet) (present : Present) (go : AnswerTo question → StatementOutcome) (j : Judged (AnswerTo question)) →
-    open_question w question sheet go ≡ None →
-    judged checker_of_128_bits question sheet w.rest ≡ j →
-    walk_move checker_of_128_bits w (asks question sheet present go) ≡ answered checker_of_128_bits w question sheet go j
-asked w question sheet present go j none is =
-    ap (λ (o : Option Found). unless_found o (answered checker_of_128_bits w question sheet go (judged checker_of_128_bits question sheet w.rest))) none
-    ∙ ap (answered checker_of_128_bits w question sheet go) is
+pub asked : (C : Checker) (w : Walker) (question : Question) (sheet : Sheet) (present : Present) (go : AnswerTo question → StatementOutcome)
+    (j : Judged (AnswerTo question)) → open_question w question sheet go ≡ None → judged C question sheet w.rest ≡ j →
+    walk_move C w (asks question sheet present go) ≡ answered C w question sheet go j
+asked C w question sheet present go j none is =
+    ap (λ (o : Option Found). unless_found o (answered C w question sheet go (judged C question sheet w.rest))) none
+    ∙ ap (answered C w question sheet go) is
+
+-- past a verdict and a parametric run, where nothing is pending
+pub path_unopened : (w : Walker) → is_open_stop w.rest ≡ false → w.pending ≡ None → option_or (open_stop w) (open_pending w) ≡ None
+path_unopened w closed none = ap₂ (λ b (p : Option Pending). option_or (open_if b w) (pending_found p)) closed none
 
 verdict_passed : (w : Walker) (present : Present) (go : PathEnd → StatementOutcome) (solver : Solver) (sheet : Sheet) (s : Basis) (limit : Option ℕ)
     (bases : List Basis) (verdict : PathVerdict) (after : List ℕ) →
@@ -68,9 +71,8 @@ verdict_passed : (w : Walker) (present : Present) (go : PathEnd → StatementOut
     walk_move checker_of_128_bits w (asks (OfPath solver limit) sheet present go) ≡ follows
     (record (passed after 1 w) { pending = pending_after w.rest verdict reports.Checked }) (go (Reached [] verdict reports.Checked))
 verdict_passed w present go solver sheet s limit bases verdict after settled text solved fits plain =
-    asked w (OfPath solver limit) sheet present go _
-    (ap₂ (λ b (p : Option Pending). option_or (open_if b w) (pending_found p))
-    (ap is_open_stop text ∙ report_closed (Solved solver verdict reports.Checked) after) settled)
+    asked checker_of_128_bits w (OfPath solver limit) sheet present go _
+    (path_unopened w (ap is_open_stop text ∙ report_closed (Solved solver verdict reports.Checked) after) settled)
     (ap (judged checker_of_128_bits (OfPath solver limit) sheet) text ∙ judged_right.verdict solver sheet s limit bases verdict after solved fits plain)
 
 module _ (w : Walker) (solver : Solver) (sheet : Sheet) (s : Basis) (limit : Option ℕ) (bases : List Basis) (steps : ℕ) (objective : ℚ) (lines : SolutionLines)
@@ -95,7 +97,7 @@ solution_passed : (w : Walker) (present : Present) (go : SolutionLines → State
     IsShownChecked solver sheet s limit bases steps objective lines →
     walk_move checker_of_128_bits w (asks (OfSolution Optimal) sheet present go) ≡ follows (record (passed after 1 w) { pending = None }) (go lines)
 solution_passed w present go solver sheet s limit bases steps objective lines at after waits text is =
-    asked w (OfSolution Optimal) sheet present go _
+    asked checker_of_128_bits w (OfSolution Optimal) sheet present go _
     (ap (λ b. open_if b w) (ap is_open_stop text ∙ report_closed (Solution Optimal lines) after))
     (ap (judged checker_of_128_bits (OfSolution Optimal) sheet) text ∙ judged_right.solution solver sheet s limit bases steps objective lines after is)
     ∙ solution_settles w solver sheet s limit bases steps objective lines at is (follows (record (passed after 1 w) { pending = None }) (go lines)) waits
@@ -123,7 +125,7 @@ does_on C w outcome more kept text closed =
     ap (λ (o : Option Found). unless_found o (taken w outcome (left_after (gain_text (gain_of outcome)) w.rest))) (nothing_open w closed outcome kept)
     ∙ ap (taken w outcome) (ap (left_after (gain_text (gain_of outcome))) text ∙ stands (gain_text (gain_of outcome)) more)
 
-both_parts : (a b : Bool) → (not a || b) ≡ false → (a ≡ true) × (b ≡ false)
+pub both_parts : (a b : Bool) → (not a || b) ≡ false → (a ≡ true) × (b ≡ false)
 both_parts true b e = (refl, e)
 both_parts false b e = absurd (cc e)
 

@@ -83,48 +83,50 @@ listing_plain (report ∷ reports) ending =
 
 -- ---- a run from here on
 
-record IsKnown (s : State) : Type 0 where
+pub record IsKnown (s : State) : Type 0 where
   pub lawful : HasProblem s.setup
   pub knows : Knows s
 
-module _ (program : Program) where
+-- what is known of each state to which a run comes
+module _ (Known : State → Type 0) (program : Program) where
   -- what a run still reports from a state on, and how it ends
-  data RunsOn : State → List Report → Ending → Type 0 where
-    over : (s : State) (ending : Ending) → IsKnown s → IsOver linear_programming_of_128_bits program s ending → RunsOn s [] ending
-    ends : (s : State) (gain : Gain) (ending : Ending) → IsKnown s → Step linear_programming_of_128_bits program s (Ends gain ending) →
+  pub data RunsOn : State → List Report → Ending → Type 0 where
+    over : (s : State) (ending : Ending) → Known s → IsOver linear_programming_of_128_bits program s ending → RunsOn s [] ending
+    ends : (s : State) (gain : Gain) (ending : Ending) → Known s → Step linear_programming_of_128_bits program s (Ends gain ending) →
         RunsOn s (printed_by gain) ending
-    goes : (s : State) (gain : Gain) (after : State) (reports : List Report) (ending : Ending) → IsKnown s →
+    goes : (s : State) (gain : Gain) (after : State) (reports : List Report) (ending : Ending) → Known s →
         Step linear_programming_of_128_bits program s (Goes gain after) → RunsOn after reports ending →
         RunsOn s (printed_by gain ++ reports) ending
 
-  module _ (bytes : List ℕ) (is_program : IsProgramOf bytes program) where
-    known_at : (reports : List Report) (cards : List (List ℕ)) (s : State) →
-        Reaches linear_programming_of_128_bits program (job_decks program bytes) reports cards s → IsKnown s
-    known_at reports cards s reaches = record {
-      lawful =
-          has_problem linear_programming knows_linear_programming bytes program is_program reports cards s
-          (reaches_too program (job_decks program bytes) reports cards s reaches);
-      knows =
-          known linear_programming knows_linear_programming bytes program is_program reports cards s
-          (reaches_too program (job_decks program bytes) reports cards s reaches);
-    }
+  module _ (decks : List (List Card))
+      (known_at : (reports : List Report) (cards : List (List ℕ)) (s : State) → Reaches linear_programming_of_128_bits program decks reports cards s → Known s)
+    where
+      from_start : (reports : List Report) (cards : List (List ℕ)) (s : State) (more : List Report) (ending : Ending) →
+          Reaches linear_programming_of_128_bits program decks reports cards s → RunsOn s more ending → RunsOn (start decks) (reports ++ more) ending
+      from_start _ _ _ more ending begun rest = rest
+      from_start _ _ s more ending (stepped {reports} {cards} {state} gain after before step) rest =
+          subst (λ (rs : List Report). RunsOn (start decks) rs ending) (sym (append_assoc reports (printed_by gain) more))
+          (from_start reports cards state (printed_by gain ++ more) ending before
+          (goes state gain after more ending (known_at reports cards state before) step rest))
 
-    from_start : (reports : List Report) (cards : List (List ℕ)) (s : State) (more : List Report) (ending : Ending) →
-        Reaches linear_programming_of_128_bits program (job_decks program bytes) reports cards s →
-        RunsOn s more ending → RunsOn (start (job_decks program bytes)) (reports ++ more) ending
-    from_start _ _ _ more ending begun rest = rest
-    from_start _ _ s more ending (stepped {reports} {cards} {state} gain after before step) rest =
-        subst (λ (rs : List Report). RunsOn (start (job_decks program bytes)) rs ending) (sym (append_assoc reports (printed_by gain) more))
-        (from_start reports cards state (printed_by gain ++ more) ending before
-        (goes state gain after more ending (known_at reports cards state before) step rest))
+      pub whole_run : (reports : List Report) (cards : List (List ℕ)) (ending : Ending) →
+          IsRun linear_programming_of_128_bits program decks reports cards ending → RunsOn (start decks) reports ending
+      whole_run _ _ ending (is_over {reports} {cards} {state} before is) =
+          subst (λ (rs : List Report). RunsOn (start decks) rs ending) (append-nil reports)
+          (from_start reports cards state [] ending before (over state ending (known_at reports cards state before) is))
+      whole_run _ _ ending (is_ended {reports} {cards} {state} gain before step) =
+          from_start reports cards state (printed_by gain) ending before (ends state gain ending (known_at reports cards state before) step)
 
-    whole_run : (reports : List Report) (cards : List (List ℕ)) (ending : Ending) →
-        IsRun linear_programming_of_128_bits program (job_decks program bytes) reports cards ending → RunsOn (start (job_decks program bytes)) reports ending
-    whole_run _ _ ending (is_over {reports} {cards} {state} before is) =
-        subst (λ (rs : List Report). RunsOn (start (job_decks program bytes)) rs ending) (append-nil reports)
-        (from_start reports cards state [] ending before (over state ending (known_at reports cards state before) is))
-    whole_run _ _ ending (is_ended {reports} {cards} {state} gain before step) =
-        from_start reports cards state (printed_by gain) ending before (ends state gain ending (known_at reports cards state before) step)
+pub known_at : (bytes : List ℕ) (program : Program) → IsProgramOf bytes program → (reports : List Report) (cards : List (List ℕ)) (s : State) →
+    Reaches linear_programming_of_128_bits program (job_decks program bytes) reports cards s → IsKnown s
+known_at bytes program is_program reports cards s reaches = record {
+  lawful =
+      has_problem linear_programming knows_linear_programming bytes program is_program reports cards s
+      (reaches_too program (job_decks program bytes) reports cards s reaches);
+  knows =
+      known linear_programming knows_linear_programming bytes program is_program reports cards s
+      (reaches_too program (job_decks program bytes) reports cards s reaches);
+}
 
 -- ---- turns
 
@@ -134,7 +136,7 @@ text_of_gain (Prints report) = append-nil (report_text report)
 text_of_gain (Punches report cards) = append-nil (report_text report)
 
 module _ (C : Checker) (suits : SuitsRuns C) (program : Program) (small : AreSmall program) where
-  small_at : (statement : Statement ℕ) (place : ℕ) → slice_get program.statements place ≡ Some statement →
+  pub small_at : (statement : Statement ℕ) (place : ℕ) → slice_get program.statements place ≡ Some statement →
       (statement.card ≤ max_count) × MovesSmall statement.verb
   small_at statement place is = statement_at program place statement small is
 
@@ -143,7 +145,7 @@ module _ (C : Checker) (suits : SuitsRuns C) (program : Program) (small : AreSma
     pub state : State
     pub reports : List Report
     pub ending : Ending
-    pub runs : RunsOn program state reports ending
+    pub runs : RunsOn IsKnown program state reports ending
     pub pace : KeepsPace w state (listing reports ending)
 
   -- an operation is refused at the statement where the walk stands
@@ -201,7 +203,7 @@ module _ (C : Checker) (suits : SuitsRuns C) (program : Program) (small : AreSma
           (small_at step.statement (s.position - 1) step.is_at_position).0
           (small_at step.statement (s.position - 1) step.is_at_position).1).by outcome more step.gives due)
 
-      step_lands : (outcome : StatementOutcome) (more : List ℕ) → Step linear_programming_of_128_bits program s outcome → IsDue w outcome more →
+      pub step_lands : (outcome : StatementOutcome) (more : List ℕ) → Step linear_programming_of_128_bits program s outcome → IsDue w outcome more →
           Lands (RefusesHere w) outcome more (turn C program w)
       step_lands outcome more step due =
           subst (Lands (RefusesHere w) outcome more) (sym (step_turn outcome step))
@@ -217,33 +219,45 @@ module _ (C : Checker) (suits : SuitsRuns C) (program : Program) (small : AreSma
   ended_after w gain ending more (Walks v) lands = absurd lands
   ended_after w gain ending more (Finds found) lands = lands
 
-  gone_after : (w : Walker) (gain : Gain) (after : State) (reports : List Report) (ending : Ending) → RunsOn program after reports ending → (t : WalkTurn) →
+  gone_after : (w : Walker) (gain : Gain) (after : State) (reports : List Report) (ending : Ending) → RunsOn IsKnown program after reports ending → (t : WalkTurn) →
       Lands (RefusesHere w) (Goes gain after) (listing reports ending) t → StandsAfter w t
   gone_after w gain after reports ending runs (Walks v) lands = record { state = after; reports = reports; ending = ending; runs = runs; pace = lands }
   gone_after w gain after reports ending runs (Finds found) lands = lands
 
-  turn_stands : (w : Walker) (s : State) (reports : List Report) (ending : Ending) → RunsOn program s reports ending → KeepsPace w s (listing reports ending) →
+  -- what is due, as the listing of the run has it
+  pub due_last : (w : Walker) (s : State) (gain : Gain) (ending : Ending) → w.rest ≡ listing (printed_by gain) ending →
+      Step linear_programming_of_128_bits program s (Ends gain ending) → IsDue w (Ends gain ending) (ending_text ending)
+  due_last w s gain ending is_rest step = record {
+    text = is_rest ∙ ap (λ (text : List ℕ). text ++ ending_text ending) (text_of_gain gain);
+    plain = ending_plain ending;
+    fits = step_fits program s (Ends gain ending) step;
+    ends = refl;
+  }
+
+  pub due_next : (w : Walker) (s : State) (gain : Gain) (after : State) (reports : List Report) (ending : Ending) →
+      w.rest ≡ listing (printed_by gain ++ reports) ending →
+      Step linear_programming_of_128_bits program s (Goes gain after) → IsDue w (Goes gain after) (listing reports ending)
+  due_next w s gain after reports ending is_rest step = record {
+    text =
+        is_rest ∙ ap (λ (text : List ℕ). text ++ ending_text ending) (flat_map-append report_text (printed_by gain) reports)
+        ∙ append_assoc (reports_text (printed_by gain)) (reports_text reports) (ending_text ending)
+        ∙ ap (λ (text : List ℕ). text ++ listing reports ending) (text_of_gain gain);
+    plain = listing_plain reports ending;
+    fits = step_fits program s (Goes gain after) step;
+    ends = tt;
+  }
+
+  turn_stands : (w : Walker) (s : State) (reports : List Report) (ending : Ending) → RunsOn IsKnown program s reports ending →
+      KeepsPace w s (listing reports ending) →
       StandsAfter w (turn C program w)
   turn_stands w _ _ _ (over s ending is_known is) pace = over_after w s pace.like pace.waits is_known ending is pace.is_rest
   turn_stands w _ _ _ (ends s gain ending is_known step) pace =
       ended_after w gain ending (ending_text ending) (turn C program w)
-      (step_lands w s pace.like pace.waits is_known (Ends gain ending) (ending_text ending) step (record {
-        text = pace.is_rest ∙ ap (λ (text : List ℕ). text ++ ending_text ending) (text_of_gain gain);
-        plain = ending_plain ending;
-        fits = step_fits program s (Ends gain ending) step;
-        ends = refl;
-      }))
+      (step_lands w s pace.like pace.waits is_known (Ends gain ending) (ending_text ending) step (due_last w s gain ending pace.is_rest step))
   turn_stands w _ _ _ (goes s gain after reports ending is_known step rest) pace =
       gone_after w gain after reports ending rest (turn C program w)
-      (step_lands w s pace.like pace.waits is_known (Goes gain after) (listing reports ending) step (record {
-        text =
-            pace.is_rest ∙ ap (λ (text : List ℕ). text ++ ending_text ending) (flat_map-append report_text (printed_by gain) reports)
-            ∙ append_assoc (reports_text (printed_by gain)) (reports_text reports) (ending_text ending)
-            ∙ ap (λ (text : List ℕ). text ++ listing reports ending) (text_of_gain gain);
-        plain = listing_plain reports ending;
-        fits = step_fits program s (Goes gain after) step;
-        ends = tt;
-      }))
+      (step_lands w s pace.like pace.waits is_known (Goes gain after) (listing reports ending) step
+      (due_next w s gain after reports ending pace.is_rest step))
 
   stands_after : (w : Walker) → Stands w → StandsAfter w (turn C program w)
   stands_after w stands = turn_stands w stands.state stands.reports stands.ending stands.runs stands.pace
@@ -316,7 +330,7 @@ never_wrong_by C suits bytes reports cards ending found (run program is_program 
       state = start (job_decks program bytes);
       reports = reports;
       ending = ending;
-      runs = whole_run program bytes is_program reports cards ending runs;
+      runs = whole_run IsKnown program (job_decks program bytes) (known_at bytes program is_program) reports cards ending runs;
       pace = record { like = record { opening = []; steps = []; is = refl; limits = default_limits }; is_rest = refl; waits = tt };
     })
     w found there

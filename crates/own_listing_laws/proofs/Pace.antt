@@ -260,7 +260,7 @@ abbrev AreAlikeRefused : Refusals → Refusals → Type 0
 AreAlikeRefused refusals (InSelection problem choice) = refusals ≡ InSelection problem choice
 AreAlikeRefused refusals (InAnswer question sheet bases) = Unit {0}
 
-shown_fits : (question : Question) (sheet : Sheet) (bases : List Basis) (e : Evidence) (place : Option Place) →
+pub shown_fits : (question : Question) (sheet : Sheet) (bases : List Basis) (e : Evidence) (place : Option Place) →
     linear_programming_of_128_bits.Overflows question sheet bases e place → EvidenceFits e
 unfolding linear_programming_of_128_bits
 shown_fits question sheet bases e place shown = shown.1

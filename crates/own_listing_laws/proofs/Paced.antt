@@ -41,6 +41,7 @@ use Rattle.soundness_laws.proofs.Ends.{IsProvedBest, reported_is_best}
 use Rattle.selection_laws.proofs.Selected.{selected_is_lawful}
 use Rattle.walk_definitions.specs.Checkers.{Checker}
 use Rattle.walk_definitions.specs.Walker.{Pending, Walker}
+use Rattle.own_listing_laws.specs.Laws.{EndsBest}
 use Rattle.own_listing_laws.proofs.Suiting.{SuitsRuns}
 use Rattle.own_listing_laws.proofs.Pace.{rebased, IsLike, WaitsFor, WaitsAt, IsMatched, IsFollowed, does, does_stop, prints_looks, punches_looks, waits_on, unless_fault, unless_no_setup, unless_deck_fault, unless_selection_fault, selecting}
 use Rattle.own_listing_laws.proofs.Paths.{IsPathSolver, path_followed}
@@ -106,20 +107,29 @@ waits_same pending setup cells moved same waits =
     subst (λ (objective : Option Name). WaitsFor pending setup objective moved.xrhs) (sym same.objectives)
     (subst (λ (rhs : Option Name). WaitsFor pending setup cells.xobj rhs) (sym same.rhs) waits)
 
--- where the mark is OPTIMAL, what the present basis shows is best
-best_here : (s : State) (present : Present) (lp : LinearProgram) → s.setup ≡ Some present →
-    selected present.problem (choice_of s.cells present.options) ≡ Ok lp → HasProblem s.setup → Knows s →
-    (mark : Mark) → s.mark ≡ Some mark → mark ≡ Optimal → (t : Tableau) → IsTableau lp (present_basis present) t → IsProvedBest lp (present_basis present) t
-best_here s present lp set is lawful knows mark marked optimal t tab =
+-- where the mark is OPTIMAL, the path has ended optimal at the present basis, and what that shows is best
+pub ends_here : (s : State) (present : Present) (lp : LinearProgram) → s.setup ≡ Some present →
+    selected present.problem (choice_of s.cells present.options) ≡ Ok lp → Knows s →
+    (mark : Mark) → s.mark ≡ Some mark → mark ≡ Optimal → EndsBest lp (present_basis present)
+ends_here s present lp set is knows mark marked optimal =
     let known : EndsOptimally s.setup s.cells.xobj s.cells.xrhs = knows.marked (marked ∙ ap (λ (m : Mark). Some m) optimal) in
     let same : known.present ≡ present = (let e = sym known.is_setup ∙ set in cc) in
     let moved =
     subst (λ (x : Present). (selected x.problem (choice_of s.cells x.options) ≡ Ok known.lp) × EndsAt known.lp (present_basis x)
     (EndsOptimal known.point known.prices)) same (known.is_selected, known.ends) in
     let same_lp : known.lp ≡ lp = (let e = sym moved.0 ∙ is in cc) in
-    reported_is_best lp (present_basis present) t known.point known.prices tab
-    (subst (λ (p : LinearProgram). EndsAt p (present_basis present) (EndsOptimal known.point known.prices)) same_lp moved.1)
-    ((knows.bases present set).in_each s.cells.xobj s.cells.xrhs lp is)
+    record {
+      point = known.point;
+      prices = known.prices;
+      ends = subst (λ (p : LinearProgram). EndsAt p (present_basis present) (EndsOptimal known.point known.prices)) same_lp moved.1;
+    }
+
+best_here : (s : State) (present : Present) (lp : LinearProgram) → s.setup ≡ Some present →
+    selected present.problem (choice_of s.cells present.options) ≡ Ok lp → HasProblem s.setup → Knows s →
+    (mark : Mark) → s.mark ≡ Some mark → mark ≡ Optimal → (t : Tableau) → IsTableau lp (present_basis present) t → IsProvedBest lp (present_basis present) t
+best_here s present lp set is lawful knows mark marked optimal t tab =
+    let ended = ends_here s present lp set is knows mark marked optimal in
+    reported_is_best lp (present_basis present) t ended.point ended.prices tab ended.ends ((knows.bases present set).in_each s.cells.xobj s.cells.xrhs lp is)
     (selected_is_lawful present.problem (choice_of s.cells present.options) lp (lawful present set) is)
 
 module _ (C : Checker) (suits : SuitsRuns C) (w : Walker) (s : State) (opening : Basis) (steps : List Basis)

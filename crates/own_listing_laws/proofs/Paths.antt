@@ -206,6 +206,16 @@ pending_of sheet setup objective rhs present rest n t ending verdict check set i
     by (EndsInfeasible w) of checks = tt
     by (EndsUnbounded z d) of checks = tt
 
+-- the variable of a wrong price
+pub wrong_variable : (sheet : Sheet) (s : Basis) → size sheet.lp.matrix ≤ max_count → (solver : Solver) → IsPathSolver solver → (limit : Option ℕ) (j : ℕ) →
+    verdicts.IsSolvedBy solver sheet s limit (PricesWrong j) → j ≤ max_count
+wrong_variable sheet s few ByPrimal path limit j wrong = absurd wrong
+wrong_variable sheet s few ByDual path limit j wrong =
+    let found = find_some (lowers sheet.lp s (worth_rate sheet.lp s wrong.tableau)) (size sheet.lp.matrix) 1 j wrong.wrong in
+    omega (arith, found.high, few)
+wrong_variable sheet s few ByParaobj path limit j wrong = absurd path
+wrong_variable sheet s few ByPararhs path limit j wrong = absurd path
+
 -- ---- the question of a path
 
 module _ (C : Checker) (suits : SuitsRuns C) (w : Walker) (s : State) (opening : Basis) (steps : List Basis) (card : ℕ) (solver : Solver)
@@ -290,16 +300,6 @@ module _ (C : Checker) (suits : SuitsRuns C) (w : Walker) (s : State) (opening :
           (verdict_alike (Solved solver verdict check) after opening (steps ++ []) limits (mark_of verdict)) refl given.ends
           (verdict_waits (pending_after w.rest verdict check) (Solved solver verdict check) after waits (mark_of verdict))
 
-  -- the variable of a wrong price
-  wrong_variable : (solver : Solver) → IsPathSolver solver → (limit : Option ℕ) (j : ℕ) →
-      verdicts.IsSolvedBy solver sheet (present_basis present) limit (PricesWrong j) → j ≤ max_count
-  wrong_variable ByPrimal path limit j wrong = absurd wrong
-  wrong_variable ByDual path limit j wrong =
-      let found = find_some (lowers lp (present_basis present) (worth_rate lp (present_basis present) wrong.tableau)) (size lp.matrix) 1 j wrong.wrong in
-      omega (arith, found.high, few)
-  wrong_variable ByParaobj path limit j wrong = absurd path
-  wrong_variable ByPararhs path limit j wrong = absurd path
-
   pub path_followed : IsFollowed C w card (asks question sheet set_up go) (asks question sheet present own)
   path_followed =
       may_stop C w card (Asks question sheet (present_basis set_up) go) (Asks question sheet (present_basis present) own)
@@ -320,4 +320,4 @@ module _ (C : Checker) (suits : SuitsRuns C) (w : Walker) (s : State) (opening :
           absurd (never_stopped C w card question sheet (present_basis set_up) (present_basis present) go own none
           (ap is_open_stop (given.text ∙ given.ends)
           ∙ open_price _ small
-          (wrong_variable solver path limit j (knows_linear_programming.solves solver sheet (present_basis present) limit (PricesWrong j) right))))
+          (wrong_variable sheet (present_basis present) few solver path limit j (knows_linear_programming.solves solver sheet (present_basis present) limit (PricesWrong j) right))))

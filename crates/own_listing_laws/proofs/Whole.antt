@@ -37,11 +37,11 @@ gain_last Nothing ending = refl
 gain_last (Prints report) ending = report_first report [] ending
 gain_last (Punches report cards) ending = report_first report [] ending
 
-listing_closed : (reports : List Report) (ending : Ending) → is_open_stop (ending_text ending) ≡ false → is_open_stop (listing reports ending) ≡ false
+pub listing_closed : (reports : List Report) (ending : Ending) → is_open_stop (ending_text ending) ≡ false → is_open_stop (listing reports ending) ≡ false
 listing_closed [] ending closed = closed
 listing_closed (report ∷ reports) ending closed = ap is_open_stop (report_first report reports ending) ∙ walks_on.report report (listing reports ending)
 
-gain_counts : (gain : Gain) (reports : List Report) (n : ℕ) → (n + length (printed_by gain)) + length reports ≡ n + length (printed_by gain ++ reports)
+pub gain_counts : (gain : Gain) (reports : List Report) (n : ℕ) → (n + length (printed_by gain)) + length reports ≡ n + length (printed_by gain ++ reports)
 gain_counts Nothing reports n = omega arith
 gain_counts (Prints report) reports n = omega arith
 gain_counts (Punches report cards) reports n = omega arith
@@ -62,7 +62,7 @@ module _ (program : Program) (decks : List (List Card)) (lines : List ℕ) where
       record {
         last = w;
         reaches = before;
-        finds = over_found program w s at.like ending is at.waits at.is_rest closed
+        finds = over_found program w s at.like checker_of_128_bits linear_programming ending is at.waits at.is_rest closed
             ∙ ap (λ (n : ℕ). Finds (Attested n)) (omega arith);
       }
   attests w _ _ _ _ closed (does objective s gain after reports ending step nothing kept rest) at before =
@@ -133,7 +133,7 @@ is_run bytes _ _ (of_program program reports ending is_program runs) =
 
 -- ---- jobs
 
-only_end : (ending : Ending) → is_open_stop (ending_text ending) ≡ false → closes (first_walker [] (listing [] ending)) ending ≡ Finds (Attested 0)
+pub only_end : (ending : Ending) → is_open_stop (ending_text ending) ≡ false → closes (first_walker [] (listing [] ending)) ending ≡ Finds (Attested 0)
 only_end ending closed = walks_on.end (first_walker [] (listing [] ending)) ending refl refl closed
 
 is_attested : (bytes : List ℕ) (reports : List Report) (ending : Ending) → IsAttestableRun bytes reports ending → is_open_stop (ending_text ending) ≡ false →

@@ -3,3 +3,4 @@ pub mod Printed
 pub mod Laws
 pub mod Attestable
 pub mod AnyLength
+pub mod WholeRuns

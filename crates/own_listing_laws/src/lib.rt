@@ -5,6 +5,7 @@
 ghost use Rattle.own_listing_laws.specs.Laws.{ReadsBack, TestsPass, JudgedRight, WalksOn, NeverWrong};
 ghost use Rattle.own_listing_laws.specs.Attestable.{ComesAttested};
 ghost use Rattle.own_listing_laws.specs.AnyLength.{NeverWrongAtAnyLength, JudgedRightAtAnyLength};
+ghost use Rattle.own_listing_laws.specs.WholeRuns.{ComesAttestedAtAnyLength};
 
 /// What a run prints of a linear program is read back of its text.
 pub fn reads_back()
@@ -44,4 +45,9 @@ pub fn judged_right_at_any_length()
 /// The listing of an attestable run is attested.
 pub fn comes_attested()
     ensures { ComesAttested }
+{}
+
+/// And in numbers of any length that of each run in which nothing is open.
+pub fn comes_attested_at_any_length()
+    ensures { ComesAttestedAtAnyLength }
 {}
