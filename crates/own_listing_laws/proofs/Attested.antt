@@ -1,7 +1,7 @@
 -- The walk of the checker of any length goes along a whole run in which nothing is open, and finds it attested.
 --     IsLasting program s          what is known of a state to which a run comes that makes each selection
 --     ComesTo .. n                 the walk comes to an end where it finds so many reports attested
-use Rattle.std.proofs.Common.{◌≡◌, ◌⊎◌, inl, inr, ℕ, ◌+◌, ◌-◌, Bool, true, false, List, [], ◌∷◌, ◌++◌, length, Some, None, refl, sym, ap, subst, ◌∙◌, arith, append-nil}
+use Rattle.std.proofs.Common.{◌≡◌, ◌⊎◌, inl, ℕ, ◌+◌, ◌-◌, Bool, true, false, List, [], ◌++◌, length, Some, None, refl, sym, ap, subst, ◌∙◌, arith, append-nil}
 use Rattle.std.specs.Prelude.{slice_get}
 use Rattle.card_definitions.specs.Cards.{Card}
 use Rattle.control_definitions.specs.Program.{Statement, Verb, Program}
@@ -13,11 +13,11 @@ use Rattle.run_definitions.specs.State.{State, start}
 use Rattle.run_definitions.specs.Moves.{Gain, Prints, printed_by, gain_of, StatementOutcome, Goes, Ends}
 use Rattle.run_definitions.specs.Verbs.{mark_of, verb_move}
 use Rattle.run_definitions.specs.Run.{counted, Step, Reaches}
-use Rattle.run_definitions.specs.Answer.{job_decks, IsProgramOf, IsJobRun, card_fault, control_fault, run}
+use Rattle.run_definitions.specs.Answer.{job_decks, IsProgramOf, card_fault, control_fault, run}
 use Rattle.walk_definitions.specs.Checkers.{checker_of_any_length}
 use Rattle.walk_definitions.specs.Forms.{is_open_stop}
 use Rattle.walk_definitions.specs.Walker.{Walker, Attested, WalkTurn, Walks, Finds, follows, refuses_selection, turn}
-use Rattle.walk_definitions.specs.Found.{first_walker, Reaches as Walked, begun as not_begun, walked, EndsIn, of_cards as ends_by_cards, of_control as ends_by_control, of_walk}
+use Rattle.walk_definitions.specs.Found.{first_walker, Reaches as Walked, begun as not_begun, walked, of_cards as ends_by_cards, of_control as ends_by_control, of_walk}
 use Rattle.fitting_answers.specs.Real.{linear_programming_of_128_bits}
 use Rattle.own_listing_laws.specs.WholeRuns.{ShowsAll, MakesSelections, ComesAttestedAtAnyLength}
 use Rattle.own_listing_laws.proofs.Suiting.{suits_any_length}

@@ -29,7 +29,7 @@ use Rattle.walk_definitions.specs.Forms.{is_open_stop}
 use Rattle.walk_definitions.specs.Tables.{begins_table_line}
 use Rattle.walk_definitions.specs.Walker.{Pending, Walker, Attested, WalkTurn, Walks, Finds, closes, follows, passed, pending_after, refuses_selection, walk_move, turn}
 use Rattle.own_listing_laws.specs.Laws.{KeepsMark}
-use Rattle.own_listing_laws.specs.Attestable.{Selects, sheet_of, IsSolving, by_primal, by_dual, to_show, AsksNothing, FindsChecked, ShowsChecked}
+use Rattle.own_listing_laws.specs.Attestable.{sheet_of, IsSolving, by_primal, by_dual, to_show, AsksNothing, FindsChecked, ShowsChecked}
 use Rattle.own_listing_laws.proofs.Pace.{rebased}
 use Rattle.own_listing_laws.proofs.Turns.{turn_at_end, turn_at_limit, turn_at_statement}
 use Rattle.own_listing_laws.proofs.Alike.{IsRebased, AreAlike, gains_alike, settles_too, verbs_alike}

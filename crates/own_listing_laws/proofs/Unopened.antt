@@ -1,15 +1,14 @@
 -- A whole run in which nothing is open is attested by the checker of any length.
 --     TurnsTo w ..                 what a turn of the walk comes to, where the run comes to this
 --     IsLasting program s          what is known of a state to which a run comes that makes each selection
-use Rattle.std.proofs.Common.{◌≡◌, ◌≤◌, ◌⊎◌, inl, inr, ℕ, ◌+◌, ◌-◌, Bool, true, false, List, [], ◌∷◌, ◌++◌, length, Option, Some, None, Result, Ok, if◌then◌else◌, refl, sym, ap, subst, ◌∙◌}
-use Rattle.std.specs.Prelude.{is_none, slice_get, option_and_then}
+use Rattle.std.proofs.Common.{◌≡◌, ◌≤◌, ◌⊎◌, inl, inr, ℕ, ◌+◌, Bool, true, false, List, [], ◌∷◌, ◌++◌, length, Option, Some, None, Result, Ok, if◌then◌else◌, refl, sym, ap, subst, ◌∙◌}
+use Rattle.std.specs.Prelude.{is_none, option_and_then}
 use Rattle.exact_values.specs.Rational.{ℚ}
 use Rattle.lp_definitions.specs.LinearProgram.{LinearProgram, IsLinearProgram}
-use Rattle.card_definitions.specs.Cards.{Card}
 use Rattle.problem_definitions.specs.Names.{Name}
 use Rattle.problem_definitions.specs.Problem.{Problem}
-use Rattle.control_definitions.specs.Program.{Statement, Verb, Program}
-use Rattle.control_definitions.specs.Cells.{Cells, steps_allowed}
+use Rattle.control_definitions.specs.Program.{Verb, Program}
+use Rattle.control_definitions.specs.Cells.{steps_allowed}
 use Rattle.selection_definitions.specs.declared.SelectionFault.{SelectionFault}
 use Rattle.selection_definitions.specs.Selection.{selected}
 use Rattle.selection_laws.proofs.Selected.{selected_is_lawful, selected_without_change}
@@ -19,15 +18,13 @@ use Rattle.listing_definitions.specs.declared.Mark.TheVariants.{Optimal, Infeasi
 use Rattle.listing_definitions.specs.declared.Solver.{Solver}
 use Rattle.listing_definitions.specs.declared.VerbFault.{VerbFault}
 use Rattle.listing_definitions.specs.Report.{PathVerdict, OptimalAt, CrossedAt, InfeasibleBy, UnboundedBy, Check, SolutionLines, Report, Solved, Solution, Parametric}
-use Rattle.listing_definitions.specs.Ending.{Ending, ControlStop, CardStop}
-use Rattle.listing_definitions.specs.Listing.{ending_text, listing}
-use Rattle.question_definitions.specs.Answers.{Basis, Sheet, Changing, parametric_solver, ParametricRun, OfPath, OfSolution, OfParametricRun, PathEnd, Reached, ParametricRunEnd, Opening, Chained}
-use Rattle.run_definitions.specs.State.{Present, present_basis, gone_through, State, start, choice_of}
-use Rattle.run_definitions.specs.Moves.{Gain, Prints, printed_by, gain_text, gain_of, StatementOutcome, Goes, Ends, next, stops, InSelection, StatementMove, MayStop, DecidesAlone, or_fault}
+use Rattle.listing_definitions.specs.Listing.{ending_text}
+use Rattle.question_definitions.specs.Answers.{Sheet, Changing, parametric_solver, ParametricRun, OfPath, OfSolution, OfParametricRun, PathEnd, Reached, ParametricRunEnd, Opening, Chained}
+use Rattle.run_definitions.specs.State.{Present, present_basis, gone_through, State, choice_of}
+use Rattle.run_definitions.specs.Moves.{Gain, Prints, printed_by, gain_text, gain_of, StatementOutcome, Goes, Ends, next, InSelection, StatementMove, MayStop, DecidesAlone, or_fault}
 use Rattle.run_definitions.specs.Verbs.{or_selection_fault, selects_present, not_less, mark_of, asks, after_path, after_parametric_run, parametric_runs, verb_move}
-use Rattle.run_definitions.specs.Run.{counted, Step, IsOver, Reaches}
-use Rattle.run_definitions.specs.Answer.{job_decks, IsProgramOf, IsJobRun, card_fault, control_fault, run}
-use Rattle.soundness_laws.specs.Truth.{IsOfProblem, named_by}
+use Rattle.run_definitions.specs.Run.{counted, Step}
+use Rattle.soundness_laws.specs.Truth.{IsOfProblem}
 use Rattle.soundness_laws.specs.ParametricRuns.{ChangesFreely}
 use Rattle.soundness_laws.proofs.ChangeRow.{changes_freely, row_named, set_named}
 use Rattle.walk_definitions.specs.Checkers.{checker_of_any_length}
@@ -35,24 +32,20 @@ use Rattle.walk_definitions.specs.Forms.{is_open_stop}
 use Rattle.walk_definitions.specs.Words.{max_count}
 use Rattle.walk_definitions.specs.Tests.{point_of}
 use Rattle.walk_definitions.specs.Reading.{Right, judged}
-use Rattle.walk_definitions.specs.Walker.{Pending, Walker, Attested, Wrong, WalkTurn, Walks, Finds, open_if, follows, passed, pending_after, noted, settles, settled, settling, refuses_selection, walk_move, turn}
-use Rattle.walk_definitions.specs.Found.{first_walker, Reaches as Walked, begun as not_begun, walked, EndsIn, of_cards as ends_by_cards, of_control as ends_by_control, of_walk}
+use Rattle.walk_definitions.specs.Walker.{Pending, Walker, Wrong, WalkTurn, Finds, open_if, follows, passed, pending_after, noted, settles, settled, settling, refuses_selection, walk_move, turn}
 use Rattle.fitting_answers.specs.Real.{linear_programming_of_128_bits}
 use Rattle.own_listing_laws.specs.Laws.{KeepsMark, chain_of}
 use Rattle.own_listing_laws.specs.Attestable.{sheet_of}
-use Rattle.own_listing_laws.specs.WholeRuns.{waits_after, ShowsAll, MakesSelections, ComesAttestedAtAnyLength}
-use Rattle.own_listing_laws.proofs.Suiting.{suits_any_length}
-use Rattle.own_listing_laws.proofs.Counted.{AreSmall, program_small}
-use Rattle.own_listing_laws.proofs.Pace.{rebased, KeepsPace, Lands, EndsSo, IsDue}
+use Rattle.own_listing_laws.specs.WholeRuns.{waits_after, ShowsAll}
+use Rattle.own_listing_laws.proofs.Pace.{rebased, EndsSo, IsDue}
 use Rattle.own_listing_laws.proofs.Paths.{verdict_gain}
-use Rattle.own_listing_laws.proofs.Paced.{default_limits, ends_here}
-use Rattle.own_listing_laws.proofs.Own.{IsKnown, RunsOn, over, ends, goes, whole_run, known_at, RefusesHere, small_at, step_lands, due_last, due_next}
+use Rattle.own_listing_laws.proofs.Paced.{ends_here}
+use Rattle.own_listing_laws.proofs.Own.{IsKnown}
 use Rattle.own_listing_laws.proofs.Rightly.{judged_right_at_any_length}
 use Rattle.own_listing_laws.proofs.Alike.{IsRebased, AreAlike}
 use Rattle.own_listing_laws.proofs.Onward.{asked, path_unopened, walks_on}
-use Rattle.own_listing_laws.proofs.Stepping.{over_found, step_turn, Turned, statement_turn, ends_so, verdict_alike, set_up, solves_selected, shows_selected, solving_is, showing_is}
-use Rattle.own_listing_laws.proofs.Whole.{listing_closed, gain_counts, only_end}
-use Rattle.own_listing_laws.proofs.Came.{IsStuck, IsQuiet, IsQuietGain, quiet_shows, IsChanging, of_objective, of_rhs, ComesOfPath, ComesOfSolution, BeginsRun, run_of, ComesOfOpening, ComesOfRun, ComesOpen, Came, alone, of_path, of_solution, of_opening, of_run, opens, stops_so, came}
+use Rattle.own_listing_laws.proofs.Stepping.{step_turn, statement_turn, verdict_alike, solves_selected, shows_selected, solving_is, showing_is}
+use Rattle.own_listing_laws.proofs.Came.{IsStuck, IsQuiet, IsQuietGain, quiet_shows, IsChanging, of_objective, of_rhs, ComesOfPath, ComesOfSolution, BeginsRun, run_of, ComesOfOpening, ComesOfRun, ComesOpen, Came, alone, of_path, of_solution, of_opening, of_run, opens, stops_so}
 
 -- ---- what waits
 
