@@ -445,8 +445,9 @@ module _ (s : State) (card : ℕ) (outcome : StatementOutcome) where
       let got = got_fault card outcome VerbFault.NoSetup s.setup _ given in
       let found = got_selected card outcome got.x.problem (choice_of s.cells got.x.options) _ got.asked in
       let given_selected : Selects s = record { present = got.x; is_setup = got.is; lp = found.lp; is_selected = found.is; is_made = found.made } in
-      by given_selected found.asked.asked.answer (path_right (sheet_of given_selected) (present_basis got.x) solver limit found.asked.asked.answer found.asked.asked.right)
-      found.asked.asked.is
+      let given_answer = found.asked.asked in
+      by given_selected given_answer.answer (path_right (sheet_of given_selected) (present_basis got.x) solver limit given_answer.answer given_answer.right)
+      given_answer.is
     where
       by : (sel : Selects s) (answer : PathEnd) → IsSolvedBy solver (sheet_of sel) (present_basis sel.present) limit answer × PathEndFits answer →
           outcome ≡ after_path solver card sel.present (counted s) answer → Came s verb card outcome
@@ -521,8 +522,7 @@ module _ (s : State) (card : ℕ) (outcome : StatementOutcome) where
         gain = Punches (BasisOut got.x.problem.name _) found.asked.asked.answer;
         after = _;
         is = found.asked.asked.is;
-        never = λ waiting reports
-            shown. shown.0;
+        never = λ waiting reports shown. shown.0;
       })
 
   inserts_came : IsAsked (inserts card (counted s)) outcome → Came s Insert card outcome
@@ -572,7 +572,8 @@ module _ (s : State) (card : ℕ) (outcome : StatementOutcome) where
       to.asked.asked.is
     where
       by : (begins : BeginsRun s verb card outcome) (answer : ParametricRunEnd) →
-          IsParametricRun (sheet_of begins.selects) (present_basis begins.selects.present) (run_of s verb card outcome begins) answer × ParametricRunEndFits answer →
+          IsParametricRun (sheet_of begins.selects) (present_basis begins.selects.present) (run_of s verb card outcome begins) answer ×
+          ParametricRunEndFits answer →
           outcome ≡ after_parametric_run card (run_of s verb card outcome begins) begins.selects.present (counted s) answer → Came s verb card outcome
       by begins (Opening bases verdict check) right is =
           of_opening (record {

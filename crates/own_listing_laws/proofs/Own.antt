@@ -219,7 +219,8 @@ module _ (C : Checker) (suits : SuitsRuns C) (program : Program) (small : AreSma
   ended_after w gain ending more (Walks v) lands = absurd lands
   ended_after w gain ending more (Finds found) lands = lands
 
-  gone_after : (w : Walker) (gain : Gain) (after : State) (reports : List Report) (ending : Ending) → RunsOn IsKnown program after reports ending → (t : WalkTurn) →
+  gone_after : (w : Walker) (gain : Gain) (after : State) (reports : List Report) (ending : Ending) → RunsOn IsKnown program after reports ending →
+      (t : WalkTurn) →
       Lands (RefusesHere w) (Goes gain after) (listing reports ending) t → StandsAfter w t
   gone_after w gain after reports ending runs (Walks v) lands = record { state = after; reports = reports; ending = ending; runs = runs; pace = lands }
   gone_after w gain after reports ending runs (Finds found) lands = lands

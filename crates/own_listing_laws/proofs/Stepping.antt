@@ -182,7 +182,9 @@ module _ (program : Program) (w : Walker) (s : State) (like : IsRebased w.state 
       (objective ≡ None) ⊎ (is_none after.mark ≡ false) → IsPending objective w.pending → w.rest ≡ gain_text gain ++ more → is_open_stop w.rest ≡ false →
       GoesOn (turn checker_of_128_bits program w) objective after more (w.reports + length (printed_by gain))
   statement_goes objective gain after more step nothing kept waits text closed =
-      let turned = statement_turn checker_of_128_bits linear_programming (Goes gain after) more step nothing.settles nothing.is_made (kept_so objective waits kept) text closed in
+      let turned =
+      statement_turn checker_of_128_bits linear_programming (Goes gain after) more step nothing.settles nothing.is_made (kept_so objective waits kept)
+      text closed in
       goes_on (passed more (length (printed_by gain)) w) turned.own gain after objective (turn checker_of_128_bits program w) turned.is turned.alike waits
     where
       kept_so : (o : Option ℚ) → IsPending o w.pending → (o ≡ None) ⊎ (is_none after.mark ≡ false) → (w.pending ≡ None) ⊎ KeepsMark (Goes gain after)
@@ -195,7 +197,9 @@ module _ (program : Program) (w : Walker) (s : State) (like : IsRebased w.state 
       w.rest ≡ gain_text gain ++ ending_text ending → is_open_stop w.rest ≡ false → is_open_stop (ending_text ending) ≡ false →
       turn checker_of_128_bits program w ≡ Finds (Attested (w.reports + length (printed_by gain)))
   statement_ends gain ending step nothing none text closed closed_end =
-      let turned = statement_turn checker_of_128_bits linear_programming (Ends gain ending) (ending_text ending) step nothing.settles nothing.is_made (inl none) text closed in
+      let turned =
+      statement_turn checker_of_128_bits linear_programming (Ends gain ending) (ending_text ending) step nothing.settles nothing.is_made (inl none)
+      text closed in
       ends_so (passed (ending_text ending) (length (printed_by gain)) w) turned.own gain ending
       (turn checker_of_128_bits program w) turned.is turned.alike none refl closed_end
 
@@ -264,7 +268,8 @@ module _ (program : Program) (w : Walker) (s : State) (like : IsRebased w.state 
         is =
             step_turn checker_of_128_bits linear_programming outcome found.step
             ∙ ap (walk_move checker_of_128_bits w)
-            (solving_is found.step.statement.verb solver found.limit card found.is_solving ∙ solves_selected present found.selects.is_setup found.selects.lp found.selects.is_selected solver found.limit card)
+            (solving_is found.step.statement.verb solver found.limit card found.is_solving
+            ∙ solves_selected present found.selects.is_setup found.selects.lp found.selects.is_selected solver found.limit card)
             ∙ walks_on.selects checker_of_128_bits w present.problem (choice_of s.cells present.options)
             (asks (OfPath solver found.limit) (sheet_of found.selects) walked_present
             (after_path solver card walked_present (counted there))) found.selects.is_made
@@ -305,7 +310,9 @@ module _ (program : Program) (w : Walker) (s : State) (like : IsRebased w.state 
       goes_on (record (passed more 1 w) { pending = None }) (next (Prints (Solution Optimal lines)) (counted there)) (Prints (Solution Optimal lines))
       (record (counted s) { position = s.position + 1 }) None (turn checker_of_128_bits program w)
       (step_turn checker_of_128_bits linear_programming (next (Prints (Solution Optimal lines)) (counted s)) shown.step
-      ∙ ap (walk_move checker_of_128_bits w) (showing_is shown.step.statement.verb card shown.is_verb ∙ shows_selected shown.selects.present shown.selects.is_setup shown.selects.lp shown.selects.is_selected Optimal card shown.is_mark)
+      ∙ ap (walk_move checker_of_128_bits w)
+      (showing_is shown.step.statement.verb card shown.is_verb
+      ∙ shows_selected shown.selects.present shown.selects.is_setup shown.selects.lp shown.selects.is_selected Optimal card shown.is_mark)
       ∙ walks_on.solution w walked_present (λ shown_lines. next (Prints (Solution Optimal shown_lines)) (counted there)) shown.solver
       (sheet_of shown.selects) shown.from shown.limit shown.bases shown.steps objective lines settling.at more settling.is text shown.is_shown)
       (refl, record { opening = like.opening; steps = like.steps; is = refl }) refl

@@ -245,8 +245,8 @@ module _ (program : Program) (w : Walker) (s : State) (like : IsRebased w.state 
               ∙ asked checker_of_any_length w (OfPath path.solver path.limit) (sheet_of path.selects) walked_so go _
               (path_unopened w closed (none_waits w.pending waiting pends done.0))
               (ap (judged checker_of_any_length (OfPath path.solver path.limit) (sheet_of path.selects)) (text_so report gain)
-              ∙ judged_right_at_any_length.verdict path.solver (sheet_of path.selects) (present_basis present) path.limit path.bases path.verdict path.check more
-              (lawful present path.selects.is_setup path.selects.lp path.selects.is_selected)
+              ∙ judged_right_at_any_length.verdict path.solver (sheet_of path.selects) (present_basis present) path.limit path.bases path.verdict path.check
+              more (lawful present path.selects.is_setup path.selects.lp path.selects.is_selected)
               (selected_without_change present.problem (choice_of s.cells present.options) path.selects.lp path.selects.is_selected)
               (nonsingular present path.selects.is_setup path.selects.lp path.selects.is_selected) path.is_solved path.fits path.check_fits due.plain);
           is_rest = refl;
