@@ -29,6 +29,7 @@ use Rattle.fitting_answers.specs.Real.{linear_programming_of_128_bits}
 use Rattle.fitting_laws.proofs.Runs.{reaches_too, step_fits}
 use Rattle.own_listing_laws.specs.Laws.{NeverWrong}
 use Rattle.own_listing_laws.specs.AnyLength.{IsFoundOfOwn, NeverWrongAtAnyLength}
+use Rattle.own_listing_laws.specs.WholeRuns.{EachSoFar, EachInRun}
 use Rattle.own_listing_laws.proofs.Suiting.{SuitsRuns, CanRefuse, suits_128_bits, suits_any_length, never_refuses_any_length}
 use Rattle.own_listing_laws.proofs.Turns.{turn_at_end, turn_at_limit, turn_at_statement}
 use Rattle.own_listing_laws.proofs.Pace.{IsLike, WaitsAt, KeepsPace, IsRightly, rightly_more, rightly_not_wrong, Lands, lands_more, IsFoundRight, IsDue, closes_right, RefusesMove}
@@ -87,35 +88,54 @@ pub record IsKnown (s : State) : Type 0 where
   pub lawful : HasProblem s.setup
   pub knows : Knows s
 
--- what is known of each state to which a run comes
-module _ (Known : State → Type 0) (program : Program) where
+-- what each statement of the run keeps
+module _ (program : Program) (Keeps : (s : State) (outcome : StatementOutcome) → Step linear_programming_of_128_bits program s outcome → Type 0) where
   -- what a run still reports from a state on, and how it ends
   pub data RunsOn : State → List Report → Ending → Type 0 where
-    over : (s : State) (ending : Ending) → Known s → IsOver linear_programming_of_128_bits program s ending → RunsOn s [] ending
-    ends : (s : State) (gain : Gain) (ending : Ending) → Known s → Step linear_programming_of_128_bits program s (Ends gain ending) →
-        RunsOn s (printed_by gain) ending
-    goes : (s : State) (gain : Gain) (after : State) (reports : List Report) (ending : Ending) → Known s →
-        Step linear_programming_of_128_bits program s (Goes gain after) → RunsOn after reports ending →
+    over : (s : State) (ending : Ending) → IsKnown s → IsOver linear_programming_of_128_bits program s ending → RunsOn s [] ending
+    ends : (s : State) (gain : Gain) (ending : Ending) → IsKnown s → (step : Step linear_programming_of_128_bits program s (Ends gain ending)) →
+        Keeps s (Ends gain ending) step → RunsOn s (printed_by gain) ending
+    goes : (s : State) (gain : Gain) (after : State) (reports : List Report) (ending : Ending) → IsKnown s →
+        (step : Step linear_programming_of_128_bits program s (Goes gain after)) → Keeps s (Goes gain after) step → RunsOn after reports ending →
         RunsOn s (printed_by gain ++ reports) ending
 
   module _ (decks : List (List Card))
-      (known_at : (reports : List Report) (cards : List (List ℕ)) (s : State) → Reaches linear_programming_of_128_bits program decks reports cards s → Known s)
-    where
-      from_start : (reports : List Report) (cards : List (List ℕ)) (s : State) (more : List Report) (ending : Ending) →
-          Reaches linear_programming_of_128_bits program decks reports cards s → RunsOn s more ending → RunsOn (start decks) (reports ++ more) ending
-      from_start _ _ _ more ending begun rest = rest
-      from_start _ _ s more ending (stepped {reports} {cards} {state} gain after before step) rest =
-          subst (λ (rs : List Report). RunsOn (start decks) rs ending) (sym (append_assoc reports (printed_by gain) more))
-          (from_start reports cards state (printed_by gain ++ more) ending before
-          (goes state gain after more ending (known_at reports cards state before) step rest))
+      (known_at : (reports : List Report) (cards : List (List ℕ)) (s : State) → Reaches linear_programming_of_128_bits program decks reports cards s →
+      IsKnown s) where
+    from_start : (reports : List Report) (cards : List (List ℕ)) (s : State) (more : List Report) (ending : Ending)
+        (so_far : Reaches linear_programming_of_128_bits program decks reports cards s) → EachSoFar program Keeps decks so_far →
+        RunsOn s more ending → RunsOn (start decks) (reports ++ more) ending
+    from_start _ _ _ more ending begun each rest = rest
+    from_start _ _ s more ending (stepped {reports} {cards} {state} gain after before step) each rest =
+        subst (λ (rs : List Report). RunsOn (start decks) rs ending) (sym (append_assoc reports (printed_by gain) more))
+        (from_start reports cards state (printed_by gain ++ more) ending before each.0
+        (goes state gain after more ending (known_at reports cards state before) step each.1 rest))
 
-      pub whole_run : (reports : List Report) (cards : List (List ℕ)) (ending : Ending) →
-          IsRun linear_programming_of_128_bits program decks reports cards ending → RunsOn (start decks) reports ending
-      whole_run _ _ ending (is_over {reports} {cards} {state} before is) =
-          subst (λ (rs : List Report). RunsOn (start decks) rs ending) (append-nil reports)
-          (from_start reports cards state [] ending before (over state ending (known_at reports cards state before) is))
-      whole_run _ _ ending (is_ended {reports} {cards} {state} gain before step) =
-          from_start reports cards state (printed_by gain) ending before (ends state gain ending (known_at reports cards state before) step)
+    pub whole_run : (reports : List Report) (cards : List (List ℕ)) (ending : Ending)
+        (runs : IsRun linear_programming_of_128_bits program decks reports cards ending) → EachInRun program Keeps decks runs →
+        RunsOn (start decks) reports ending
+    whole_run _ _ ending (is_over {reports} {cards} {state} before is) each =
+        subst (λ (rs : List Report). RunsOn (start decks) rs ending) (append-nil reports)
+        (from_start reports cards state [] ending before each (over state ending (known_at reports cards state before) is))
+    whole_run _ _ ending (is_ended {reports} {cards} {state} gain before step) each =
+        from_start reports cards state (printed_by gain) ending before each.0
+        (ends state gain ending (known_at reports cards state before) step each.1)
+
+-- whatever the run, nothing is to be kept
+module _ (program : Program) where
+  abbrev pub KeepsAny : (s : State) (outcome : StatementOutcome) → Step linear_programming_of_128_bits program s outcome → Type 0
+  KeepsAny s outcome step = Unit {0}
+
+  module _ (decks : List (List Card)) where
+    any_so_far : (reports : List Report) (cards : List (List ℕ)) (s : State) (so_far : Reaches linear_programming_of_128_bits program decks reports cards s) →
+        EachSoFar program KeepsAny decks so_far
+    any_so_far _ _ _ begun = tt
+    any_so_far _ _ _ (stepped {reports} {cards} {state} gain after before step) = (any_so_far reports cards state before, tt)
+
+    any_run : (reports : List Report) (cards : List (List ℕ)) (ending : Ending)
+        (runs : IsRun linear_programming_of_128_bits program decks reports cards ending) → EachInRun program KeepsAny decks runs
+    any_run _ _ ending (is_over {reports} {cards} {state} before is) = any_so_far reports cards state before
+    any_run _ _ ending (is_ended {reports} {cards} {state} gain before step) = (any_so_far reports cards state before, tt)
 
 pub known_at : (bytes : List ℕ) (program : Program) → IsProgramOf bytes program → (reports : List Report) (cards : List (List ℕ)) (s : State) →
     Reaches linear_programming_of_128_bits program (job_decks program bytes) reports cards s → IsKnown s
@@ -145,7 +165,7 @@ module _ (C : Checker) (suits : SuitsRuns C) (program : Program) (small : AreSma
     pub state : State
     pub reports : List Report
     pub ending : Ending
-    pub runs : RunsOn IsKnown program state reports ending
+    pub runs : RunsOn program (KeepsAny program) state reports ending
     pub pace : KeepsPace w state (listing reports ending)
 
   -- an operation is refused at the statement where the walk stands
@@ -219,7 +239,7 @@ module _ (C : Checker) (suits : SuitsRuns C) (program : Program) (small : AreSma
   ended_after w gain ending more (Walks v) lands = absurd lands
   ended_after w gain ending more (Finds found) lands = lands
 
-  gone_after : (w : Walker) (gain : Gain) (after : State) (reports : List Report) (ending : Ending) → RunsOn IsKnown program after reports ending →
+  gone_after : (w : Walker) (gain : Gain) (after : State) (reports : List Report) (ending : Ending) → RunsOn program (KeepsAny program) after reports ending →
       (t : WalkTurn) →
       Lands (RefusesHere w) (Goes gain after) (listing reports ending) t → StandsAfter w t
   gone_after w gain after reports ending runs (Walks v) lands = record { state = after; reports = reports; ending = ending; runs = runs; pace = lands }
@@ -248,14 +268,14 @@ module _ (C : Checker) (suits : SuitsRuns C) (program : Program) (small : AreSma
     ends = tt;
   }
 
-  turn_stands : (w : Walker) (s : State) (reports : List Report) (ending : Ending) → RunsOn IsKnown program s reports ending →
+  turn_stands : (w : Walker) (s : State) (reports : List Report) (ending : Ending) → RunsOn program (KeepsAny program) s reports ending →
       KeepsPace w s (listing reports ending) →
       StandsAfter w (turn C program w)
   turn_stands w _ _ _ (over s ending is_known is) pace = over_after w s pace.like pace.waits is_known ending is pace.is_rest
-  turn_stands w _ _ _ (ends s gain ending is_known step) pace =
+  turn_stands w _ _ _ (ends s gain ending is_known step any) pace =
       ended_after w gain ending (ending_text ending) (turn C program w)
       (step_lands w s pace.like pace.waits is_known (Ends gain ending) (ending_text ending) step (due_last w s gain ending pace.is_rest step))
-  turn_stands w _ _ _ (goes s gain after reports ending is_known step rest) pace =
+  turn_stands w _ _ _ (goes s gain after reports ending is_known step any rest) pace =
       gone_after w gain after reports ending rest (turn C program w)
       (step_lands w s pace.like pace.waits is_known (Goes gain after) (listing reports ending) step
       (due_next w s gain after reports ending pace.is_rest step))
@@ -331,7 +351,9 @@ never_wrong_by C suits bytes reports cards ending found (run program is_program 
       state = start (job_decks program bytes);
       reports = reports;
       ending = ending;
-      runs = whole_run IsKnown program (job_decks program bytes) (known_at bytes program is_program) reports cards ending runs;
+      runs =
+          whole_run program (KeepsAny program) (job_decks program bytes) (known_at bytes program is_program) reports cards ending runs
+          (any_run program (job_decks program bytes) reports cards ending runs);
       pace = record { like = record { opening = []; steps = []; is = refl; limits = default_limits }; is_rest = refl; waits = tt };
     })
     w found there

@@ -2,18 +2,20 @@
 --     waits_after waiting report   whether an optimal verdict is still to be shown after a report
 --     MayCome waiting report       the report isn't open, and leaves no optimal verdict open before it
 --     ShowsAll waiting reports     no report is open, and each optimal verdict is shown before the next verdict and the end
---     MakesSelections bytes        no operation of a selection is refused where a run of the job comes
+--     MakesSelections runs         no operation of a selection is refused of a statement of the run
 --     ComesAttestedAtAnyLength     the listing of such a run is attested, where its end can be
-use Rattle.std.specs.Prelude.{◌≡◌, ℕ, ◌-◌, Bool, true, false, List, [], ◌∷◌, Some, length, slice_get}
-use Rattle.control_definitions.specs.Program.{Statement, Program}
+use Rattle.std.specs.Prelude.{◌≡◌, ℕ, Bool, true, false, List, [], ◌∷◌, length}
+use Rattle.card_definitions.specs.Cards.{Card}
+use Rattle.control_definitions.specs.Program.{Program}
 use Rattle.listing_definitions.specs.declared.Mark.TheVariants.{Optimal}
 use Rattle.listing_definitions.specs.Report.{OptimalAt, BasisOut, Inserted, Report, Solved, Solution, Ranges, Parametric}
 use Rattle.listing_definitions.specs.Ending.{Ending}
 use Rattle.listing_definitions.specs.Listing.{ending_text, listing}
 use Rattle.run_definitions.specs.State.{State}
+use Rattle.run_definitions.specs.Moves.{StatementOutcome, Goes, Ends}
 use Rattle.run_definitions.specs.Verbs.{verb_move}
-use Rattle.run_definitions.specs.Run.{counted, Reaches}
-use Rattle.run_definitions.specs.Answer.{job_decks, IsProgramOf, IsJobRun}
+use Rattle.run_definitions.specs.Run.{counted, Step, Reaches, begun, stepped, IsRun, is_over, is_ended}
+use Rattle.run_definitions.specs.Answer.{IsJobRun, run}
 use Rattle.walk_definitions.specs.Checkers.{checker_of_any_length}
 use Rattle.walk_definitions.specs.Forms.{is_open_stop}
 use Rattle.walk_definitions.specs.Walker.{Attested, refuses_selection}
@@ -40,13 +42,29 @@ abbrev pub ShowsAll : Bool → List Report → Type 0
 ShowsAll waiting [] = waiting ≡ false
 ShowsAll waiting (report ∷ reports) = MayCome waiting report × ShowsAll (waits_after waiting report) reports
 
--- no operation of a selection is refused of a statement to which a run of the job's program comes
-abbrev pub MakesSelections : List ℕ → Type 0
-MakesSelections bytes =
-    (program : Program) (reports : List Report) (cards : List (List ℕ)) (state : State) (statement : Statement ℕ) → IsProgramOf bytes program →
-    Reaches linear_programming_of_128_bits program (job_decks program bytes) reports cards state →
-    slice_get program.statements (state.position - 1) ≡ Some statement →
-    refuses_selection (verb_move statement.verb statement.card (counted state)) ≡ false
+module _ (program : Program) (Keeps : (s : State) (outcome : StatementOutcome) → Step linear_programming_of_128_bits program s outcome → Type 0)
+    (decks : List (List Card)) where
+  -- each statement that a run has executed so far keeps this
+  abbrev pub EachSoFar : {reports : List Report} {cards : List (List ℕ)} {s : State} →
+      Reaches linear_programming_of_128_bits program decks reports cards s → Type 0
+  EachSoFar begun = Unit {0}
+  EachSoFar (stepped {reports} {cards} {state} gain after before step) = EachSoFar before × Keeps state (Goes gain after) step
+
+  -- and each that a whole run does
+  abbrev pub EachInRun : {reports : List Report} {cards : List (List ℕ)} {ending : Ending} →
+      IsRun linear_programming_of_128_bits program decks reports cards ending → Type 0
+  EachInRun (is_over before over) = EachSoFar before
+  EachInRun {ending = ending} (is_ended {reports} {cards} {state} gain before step) = EachSoFar before × Keeps state (Ends gain ending) step
+
+-- no operation of a selection is refused of a statement
+abbrev pub IsMade : (program : Program) (s : State) (outcome : StatementOutcome) → Step linear_programming_of_128_bits program s outcome → Type 0
+IsMade program s outcome step = refuses_selection (verb_move step.statement.verb step.statement.card (counted s)) ≡ false
+
+-- nor of any statement of a job's run
+abbrev pub MakesSelections : {bytes : List ℕ} {reports : List Report} {cards : List (List ℕ)} {ending : Ending} →
+    IsJobRun linear_programming_of_128_bits bytes reports cards ending → Type 0
+MakesSelections (run program is_program runs) = EachInRun program (IsMade program) _ runs
+MakesSelections _ = Unit {0}
 
 -- The listing of a job's run, where the answers that the run goes by fit 128 bits, is attested, with all its reports: if no operation of a
 -- selection is refused, no report is of RANGE, PUNCH or INSERT, each optimal verdict is shown by SOLUTION before the next verdict, the next
@@ -54,5 +72,5 @@ MakesSelections bytes =
 abbrev pub ComesAttestedAtAnyLength : Type 0
 ComesAttestedAtAnyLength =
     (bytes : List ℕ) (reports : List Report) (cards : List (List ℕ)) (ending : Ending) →
-    IsJobRun linear_programming_of_128_bits bytes reports cards ending → MakesSelections bytes → ShowsAll false reports →
+    (runs : IsJobRun linear_programming_of_128_bits bytes reports cards ending) → MakesSelections runs → ShowsAll false reports →
     is_open_stop (ending_text ending) ≡ false → EndsIn checker_of_any_length bytes (listing reports ending) (Attested (length reports))
