@@ -2,6 +2,7 @@
 --     waits_after waiting report   whether an optimal verdict is still to be shown after a report
 --     MayCome waiting report       the report isn't open, and leaves no optimal verdict open before it
 --     ShowsAll waiting reports     no report is open, and each optimal verdict is shown before the next verdict and the end
+--     EachSoFar, EachInRun ..      each statement of a run keeps this
 --     MakesSelections runs         no operation of a selection is refused of a statement of the run
 --     ComesAttestedAtAnyLength     the listing of such a run is attested, where its end can be
 use Rattle.std.specs.Prelude.{◌≡◌, ℕ, Bool, true, false, List, [], ◌∷◌, length}
