@@ -1,9 +1,9 @@
 // A problem in the making, card by card.
-ghost use Rattle.std.specs.Prelude.{◌≡◌, ◌≤◌, ◌++◌, None, length, sum_by, OnOk, IfErr};
+ghost use Rattle.std.specs.Prelude.{◌≡◌, ◌≤◌, ◌++◌, None, length, sum_by, OnOk};
 ghost use Rattle.problem_definitions.specs.Groups.{in_set};
 ghost use Rattle.deck_definitions.specs.DataCards.{entries_of};
 ghost use Rattle.deck_definitions.specs.Tests.{columns_fault};
-ghost use Rattle.deck_fields.specs.Reported.{ReportsDeckFault};
+ghost use Rattle.named_problem.specs.Taken.{TakesCard};
 ghost use Rattle.named_problem.specs.Views.{columns_alone};
 ghost use Rattle.deck_fields.specs.Views.{viewed};
 ghost use Rattle.problem_definitions.specs.declared.TheConstants.{MAX_ENTRIES};
@@ -46,13 +46,10 @@ fn take_column(
     requires few { entries.old ≤ MAX_ENTRIES }
     ensures counted { entries.new ≡ sum_by (λ column. length column.items) columns.new }
     ensures few { entries.new ≤ MAX_ENTRIES }
-    ensures no_fault { OnOk result (columns_fault (columns_alone rows.now columns.old)
-        (viewed card.now) ≡ None) }
-    ensures step { OnOk result (columns.new ≡ in_set card.now.name1
-        (λ items. items ++ entries_of (viewed card.now)) columns.old) }
-    ensures stop { IfErr result
-        (ReportsDeckFault (columns_fault (columns_alone rows.now columns.old)
-        (viewed card.now))) }
+    ensures taken { TakesCard (columns_fault (columns_alone rows.now columns.old) (viewed card.now))
+        columns.new
+        (in_set card.now.name1 (λ items. items ++ entries_of (viewed card.now)) columns.old)
+        result }
 {
     let _ = columns.len();
     match take_column_card(alloc, rows, columns, *entries, card) {
@@ -85,14 +82,14 @@ pub struct DeckDraft {
 }
 
 impl DeckDraft {
-    ghost use Rattle.std.specs.Prelude.{◌≡◌, [], None, Some, OnOk, IfErr};
+    ghost use Rattle.std.specs.Prelude.{◌≡◌, [], None, Some, OnOk};
     ghost use Rattle.card_reader.specs.Card.{card_bytes};
     ghost use Rattle.deck_definitions.specs.declared.Style.TheVariants.{FixedFields};
     ghost use Rattle.deck_definitions.specs.DataCards.{style_begun};
     ghost use Rattle.deck_definitions.specs.Conversion.{section_fault, data_card_fault};
     ghost use Rattle.deck_definitions.specs.Steps.{with_card};
     ghost use Rattle.mps_convert.specs.State.{with_data, fault_at, state_with};
-    ghost use Rattle.deck_fields.specs.Reported.{ReportsDeckFault};
+    ghost use Rattle.named_problem.specs.Taken.{TakesCard};
     ghost use Rattle.deck_fields.specs.Views.{viewed};
     ghost use Rattle.mps_convert.specs.DraftView.{problem_view, state_view};
 
@@ -129,14 +126,11 @@ impl DeckDraft {
         section: Section,
         card: &DataCard<'_>,
     ) -> Result<(), CardStop<DeckFaultKind>>
-        ensures no_fault { OnOk result (section_fault (problem_view self.old) section
-            (viewed card.now) ≡ None) }
+        ensures taken { TakesCard (section_fault (problem_view self.old) section (viewed card.now))
+            (problem_view self.new) (with_card section (viewed card.now) (problem_view self.old))
+            result }
         ensures same_section { OnOk result (self.new.section ≡ self.old.section) }
         ensures same_style { OnOk result (self.new.style ≡ self.old.style) }
-        ensures step { OnOk result (problem_view self.new ≡ with_card section (viewed card.now)
-            (problem_view self.old)) }
-        ensures stop { IfErr result (ReportsDeckFault (section_fault (problem_view self.old) section
-            (viewed card.now))) }
     {
         match section {
             Section::Rows => take_row_card(self.alloc, &mut self.rows, card),
@@ -170,15 +164,13 @@ impl DeckDraft {
 
     // Takes a data card.
     fn take_data(&mut self, card: Card<'_>) -> Result<(), CardStop<DeckFaultKind>>
-        ensures no_fault { OnOk result (data_card_fault (problem_view self.old) self.old.style
-            self.old.section (card_bytes card.entry) ≡ None) }
+        ensures taken { TakesCard
+            (data_card_fault (problem_view self.old) self.old.style self.old.section
+            (card_bytes card.entry)) (problem_view self.new)
+            (with_data self.old.section self.old.style (card_bytes card.entry)
+            (problem_view self.old)) result }
         ensures same_section { OnOk result (self.new.section ≡ self.old.section) }
         ensures same_style { OnOk result (self.new.style ≡ self.old.style) }
-        ensures step { OnOk result (problem_view self.new ≡ with_data self.old.section
-            self.old.style (card_bytes card.entry) (problem_view self.old)) }
-        ensures stop { IfErr result
-            (ReportsDeckFault (data_card_fault (problem_view self.old) self.old.style
-            self.old.section (card_bytes card.entry))) }
     {
         let Some(section) = self.section else {
             return Err(CardStop::Fault(DeckFaultKind::SectionOrder));
@@ -194,12 +186,8 @@ impl DeckDraft {
 
     // Takes a card.
     fn take_card(&mut self, card: Card<'_>) -> Result<(), CardStop<DeckFaultKind>>
-        ensures no_fault { OnOk result (fault_at (state_view self.old)
-            (card_bytes card.entry) ≡ None) }
-        ensures step { OnOk result (state_view self.new ≡ state_with (state_view self.old)
-            (card_bytes card.entry)) }
-        ensures stop { IfErr result
-            (ReportsDeckFault (fault_at (state_view self.old) (card_bytes card.entry))) }
+        ensures { TakesCard (fault_at (state_view self.old) (card_bytes card.entry))
+            (state_view self.new) (state_with (state_view self.old) (card_bytes card.entry)) result }
     {
         if begins_section(card.bytes()) {
             let section = next_section::<DeckDraft>(self.section, card.bytes())?;

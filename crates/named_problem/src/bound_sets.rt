@@ -6,7 +6,7 @@ ghost use Rattle.problem_definitions.specs.Kinds.{takes_value};
 ghost use Rattle.deck_definitions.specs.DataCards.{bound_of, bound_group};
 ghost use Rattle.deck_definitions.specs.Tests.{bound_value_fault, bounds_fault};
 ghost use Rattle.deck_definitions.specs.Steps.{with_group};
-ghost use Rattle.deck_fields.specs.Reported.{ReportsDeckFault};
+ghost use Rattle.named_problem.specs.Taken.{TakesCard};
 ghost use Rattle.problem_definitions.specs.Groups.{in_group, in_set, in_all, without_group, filled, items_of};
 ghost use Rattle.problem_definitions.specs.Names.{same};
 ghost use Rattle.problem_definitions.specs.Numbering.{bound_by, group_by};
@@ -94,10 +94,8 @@ fn take_bound(
     kind: BoundKind,
     card: &DataCard<'_>,
 ) -> Result<(), CardStop<DeckFaultKind>>
-    ensures no_fault { OnOk result (bound_rest_fault items.old (viewed card.now) kind ≡ None) }
-    ensures step { OnOk result (items.new ≡ items.old ++ bound_of (viewed card.now) kind ∷ []) }
-    ensures stop { IfErr result
-        (ReportsDeckFault (bound_rest_fault items.old (viewed card.now) kind)) }
+    ensures { TakesCard (bound_rest_fault items.old (viewed card.now) kind) items.new
+        (items.old ++ bound_of (viewed card.now) kind ∷ []) result }
 {
     if items.has_met(&card.name2, kind) {
         return Err(CardStop::Fault(DeckFaultKind::BoundTwice));
@@ -118,15 +116,11 @@ fn take_bound_into(
     kind: BoundKind,
     card: &DataCard<'_>,
 ) -> Result<(), CardStop<DeckFaultKind>>
-    ensures no_fault { OnOk result
-        (bound_rest_fault
-        (items_of card.now.name1 (map group_at sets.old.entries)) (viewed card.now)
-        kind ≡ None) }
-    ensures step { OnOk result (map group_at sets.new.entries ≡ in_set card.now.name1
-        (λ items. items ++ bound_of (viewed card.now) kind ∷ []) (map group_at sets.old.entries)) }
-    ensures stop { IfErr result (ReportsDeckFault
+    ensures { TakesCard
         (bound_rest_fault (items_of card.now.name1 (map group_at sets.old.entries))
-        (viewed card.now) kind)) }
+        (viewed card.now) kind) (map group_at sets.new.entries)
+        (in_set card.now.name1 (λ items. items ++ bound_of (viewed card.now) kind ∷ [])
+        (map group_at sets.old.entries)) result }
 {
     let items = sets.entry(card.name1)?.or_insert(Bounds::new(alloc));
     take_bound(items, kind, card)
@@ -199,13 +193,10 @@ impl BoundSets {
         kind: BoundKind,
         card: &DataCard<'_>,
     ) -> Result<(), CardStop<DeckFaultKind>>
-        ensures no_fault { OnOk result (bound_rest_fault (items_of card.now.name1 self.old)
-            (viewed card.now) kind ≡ None) }
-        ensures step { OnOk result (self.new ≡ in_set card.now.name1
-            (λ items. items ++ bound_of (viewed card.now) kind ∷ []) self.old) }
-        ensures stop { IfErr result
-            (ReportsDeckFault (bound_rest_fault (items_of card.now.name1 self.old)
-            (viewed card.now) kind)) }
+        ensures { TakesCard
+            (bound_rest_fault (items_of card.now.name1 self.old) (viewed card.now) kind) self.new
+            (in_set card.now.name1 (λ items. items ++ bound_of (viewed card.now) kind ∷ [])
+            self.old) result }
     {
         let taken = take_bound_into(alloc, &mut self.sets, kind, card);
         let _names = self.sets.len();
@@ -320,11 +311,8 @@ pub fn take_bound_card(
     sets: &mut BoundSets,
     card: &DataCard<'_>,
 ) -> Result<(), CardStop<DeckFaultKind>>
-    ensures no_fault { OnOk result (bounds_fault (bounds_alone columns.now sets.old)
-        (viewed card.now) ≡ None) }
-    ensures step { OnOk result (sets.new ≡ with_group (bound_group (viewed card.now)) sets.old) }
-    ensures stop { IfErr result (ReportsDeckFault (bounds_fault (bounds_alone columns.now sets.old)
-        (viewed card.now))) }
+    ensures { TakesCard (bounds_fault (bounds_alone columns.now sets.old) (viewed card.now))
+        sets.new (with_group (bound_group (viewed card.now)) sets.old) result }
 {
     let Some(kind) = bound_kind(card.kind) else {
         return Err(CardStop::Fault(DeckFaultKind::BadBoundType));

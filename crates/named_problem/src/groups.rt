@@ -11,6 +11,7 @@ ghost use Rattle.problem_definitions.specs.Numbering.{entry_by, group_by};
 ghost use Rattle.problem_definitions.specs.Problem.{has_group, has_entry, group_names};
 ghost use Rattle.named_problem.specs.Views.{AreShort, IsPut, IsCountBefore, IsSettled, group_at, rows_alone, column_fault, row_number, column_number};
 ghost use Rattle.deck_fields.specs.Reported.{ReportsDeckFault};
+ghost use Rattle.named_problem.specs.Taken.{TakesCard};
 ghost use Rattle.deck_fields.specs.Views.{viewed};
 ghost use Rattle.deck_definitions.specs.DataCards.{entries_of, pairs_of};
 ghost use Rattle.deck_definitions.specs.declared.Section.TheVariants.{Columns};
@@ -405,13 +406,11 @@ impl Groups {
         card: &DataCard<'_>,
     ) -> Result<(), CardStop<DeckFaultKind>>
         requires { count ≤ 100000 }
-        ensures no_fault { OnOk result
+        ensures { TakesCard
             (pairs_fault (rows_alone rows.now) section (items_of card.now.name1 self.old) count
-            (pairs_of (viewed card.now)) ≡ None) }
-        ensures step { OnOk result (self.new ≡ in_set card.now.name1
-            (λ items. items ++ entries_of (viewed card.now)) self.old) }
-        ensures stop { IfErr result (ReportsDeckFault (pairs_fault (rows_alone rows.now) section
-            (items_of card.now.name1 self.old) count (pairs_of (viewed card.now)))) }
+            (pairs_of (viewed card.now))) self.new
+            (in_set card.now.name1 (λ items. items ++ entries_of (viewed card.now)) self.old)
+            result }
     {
         let taken = take_into(alloc, rows, section, &mut self.groups, count, card);
         settle(&mut self.groups, &mut self.count, taken)
@@ -426,16 +425,12 @@ impl Groups {
         card: &DataCard<'_>,
     ) -> Result<(), CardStop<DeckFaultKind>>
         requires { count ≤ 100000 }
-        ensures no_fault { OnOk result
+        ensures { TakesCard
             (column_fault self.old card.now.name1
             (pairs_fault (rows_alone rows.now) Columns (items_of card.now.name1 self.old) count
-            (pairs_of (viewed card.now))) ≡ None) }
-        ensures step { OnOk result (self.new ≡ in_set card.now.name1
-            (λ items. items ++ entries_of (viewed card.now)) self.old) }
-        ensures stop { IfErr result (ReportsDeckFault
-            (column_fault self.old card.now.name1
-            (pairs_fault (rows_alone rows.now) Columns (items_of card.now.name1 self.old) count
-            (pairs_of (viewed card.now))))) }
+            (pairs_of (viewed card.now)))) self.new
+            (in_set card.now.name1 (λ items. items ++ entries_of (viewed card.now)) self.old)
+            result }
     {
         let taken = take_column_into(alloc, rows, &mut self.groups, count, card);
         settle(&mut self.groups, &mut self.count, taken)

@@ -5,7 +5,7 @@ ghost use Rattle.card_definitions.specs.Numbers.{decimal_of};
 ghost use Rattle.card_definitions.specs.declared.NumberFault.TheVariants.{BadCharacter};
 ghost use Rattle.deck_definitions.specs.DataCards.{entry_of, entries_of, pairs_of, part_pairs_of, parts_on};
 ghost use Rattle.deck_definitions.specs.Tests.{number_fault_from, value_fault, pair_row_fault, pair_fault, pairs_fault};
-ghost use Rattle.deck_fields.specs.Reported.{ReportsDeckFault};
+ghost use Rattle.named_problem.specs.Taken.{TakesCard};
 ghost use Rattle.named_problem.specs.Views.{rows_alone, pair_value_fault, parts_fault};
 ghost use Rattle.deck_fields.specs.Views.{viewed, pair_view};
 ghost use Rattle.card_definitions.specs.declared.TheConstants.{CARD_COLUMNS};
@@ -98,12 +98,9 @@ pub fn take_pair(
     count: u32,
     pair: &PairText<'_>,
 ) -> Result<(), CardStop<DeckFaultKind>>
-    ensures no_fault { OnOk result (pair_fault (rows_alone rows.now) section items.old count
-        (pair_view pair.now) ≡ None) }
-    ensures step { OnOk result (items.new ≡ items.old ++ entry_of (pair_view pair.now) ∷ []) }
-    ensures stop { IfErr result
-        (ReportsDeckFault (pair_fault (rows_alone rows.now) section items.old count
-        (pair_view pair.now))) }
+    ensures { TakesCard
+        (pair_fault (rows_alone rows.now) section items.old count (pair_view pair.now)) items.new
+        (items.old ++ entry_of (pair_view pair.now) ∷ []) result }
 {
     let found = row_of(rows, section, &pair.row).map_err(CardStop::Fault)?;
     match decimal_of(section, count, pair) {
@@ -128,12 +125,9 @@ pub fn take_pairs(
     card: &DataCard<'_>,
 ) -> Result<(), CardStop<DeckFaultKind>>
     requires { count ≤ 100000 }
-    ensures no_fault { OnOk result (pairs_fault (rows_alone rows.now) section items.old count
-        (pairs_of (viewed card.now)) ≡ None) }
-    ensures step { OnOk result (items.new ≡ items.old ++ entries_of (viewed card.now)) }
-    ensures stop { IfErr result
-        (ReportsDeckFault (pairs_fault (rows_alone rows.now) section items.old count
-        (pairs_of (viewed card.now)))) }
+    ensures { TakesCard
+        (pairs_fault (rows_alone rows.now) section items.old count (pairs_of (viewed card.now)))
+        items.new (items.old ++ entries_of (viewed card.now)) result }
 {
     take_pair(rows, section, items, count, &first_pair(card))?;
     match second_pair(card) {
@@ -148,12 +142,9 @@ fn take_part(
     parts: &mut Entries,
     pair: &Option<PairText<'_>>,
 ) -> Result<(), CardStop<DeckFaultKind>>
-    ensures no_fault { OnOk result (parts_fault rows.now parts.old
-        (option_to_list (option_map pair_view pair.now)) ≡ None) }
-    ensures step { OnOk result (parts.new ≡ parts.old ++ map entry_of
-        (option_to_list (option_map pair_view pair.now))) }
-    ensures stop { IfErr result (ReportsDeckFault (parts_fault rows.now parts.old
-        (option_to_list (option_map pair_view pair.now)))) }
+    ensures { TakesCard
+        (parts_fault rows.now parts.old (option_to_list (option_map pair_view pair.now))) parts.new
+        (parts.old ++ map entry_of (option_to_list (option_map pair_view pair.now))) result }
 {
     match pair {
         Some(pair) => take_pair(rows, Section::Rows, parts, 0, pair),
@@ -167,11 +158,8 @@ pub fn take_parts(
     parts: &mut Entries,
     card: &DataCard<'_>,
 ) -> Result<(), CardStop<DeckFaultKind>>
-    ensures no_fault { OnOk result (parts_fault rows.now parts.old
-        (part_pairs_of (viewed card.now)) ≡ None) }
-    ensures step { OnOk result (parts.new ≡ parts.old ++ parts_on (viewed card.now)) }
-    ensures stop { IfErr result (ReportsDeckFault (parts_fault rows.now parts.old
-        (part_pairs_of (viewed card.now)))) }
+    ensures { TakesCard (parts_fault rows.now parts.old (part_pairs_of (viewed card.now))) parts.new
+        (parts.old ++ parts_on (viewed card.now)) result }
 {
     match take_part(rows, parts, &first_part(card)) {
         Ok(()) => take_part(rows, parts, &second_pair(card)),

@@ -5,6 +5,7 @@ ghost use Rattle.problem_definitions.specs.Problem.{plain_row, combination, has_
 ghost use Rattle.deck_definitions.specs.DataCards.{part_pairs_of, parts_on, goes_on_last, with_row};
 ghost use Rattle.deck_definitions.specs.Tests.{filled_from_3, row_fault};
 ghost use Rattle.deck_fields.specs.Reported.{ReportsDeckFault};
+ghost use Rattle.named_problem.specs.Taken.{TakesCard};
 ghost use Rattle.deck_fields.specs.Views.{viewed};
 ghost use Rattle.named_problem.specs.Bodies.{row_at};
 ghost use Rattle.named_problem.specs.Views.{rows_alone, new_row_fault, begun_fault, parts_fault};
@@ -53,11 +54,8 @@ fn begin_plain(
     kind: RowKind,
     card: &DataCard<'_>,
 ) -> Result<(), CardStop<DeckFaultKind>>
-    ensures no_fault { OnOk result (begun_fault rows.old card.now.name1
-        (filled_from_3 (viewed card.now)) ≡ None) }
-    ensures step { OnOk result (rows.new ≡ rows.old ++ plain_row kind card.now.name1 ∷ []) }
-    ensures stop { IfErr result (ReportsDeckFault (begun_fault rows.old card.now.name1
-        (filled_from_3 (viewed card.now)))) }
+    ensures { TakesCard (begun_fault rows.old card.now.name1 (filled_from_3 (viewed card.now)))
+        rows.new (rows.old ++ plain_row kind card.now.name1 ∷ []) result }
 {
     name_new_row(rows, &card.name1)?;
     if has_more(card) {
@@ -74,12 +72,10 @@ fn begin_combination(
     kind: RowKind,
     card: &DataCard<'_>,
 ) -> Result<(), CardStop<DeckFaultKind>>
-    ensures no_fault { OnOk result (begun_fault rows.old card.now.name1
-        (parts_fault rows.old [] (part_pairs_of (viewed card.now))) ≡ None) }
-    ensures step { OnOk result (rows.new ≡ rows.old ++ combination kind card.now.name1
-        (parts_on (viewed card.now)) ∷ []) }
-    ensures stop { IfErr result (ReportsDeckFault (begun_fault rows.old card.now.name1
-        (parts_fault rows.old [] (part_pairs_of (viewed card.now))))) }
+    ensures { TakesCard
+        (begun_fault rows.old card.now.name1
+        (parts_fault rows.old [] (part_pairs_of (viewed card.now)))) rows.new
+        (rows.old ++ combination kind card.now.name1 (parts_on (viewed card.now)) ∷ []) result }
 {
     name_new_row(rows, &card.name1)?;
     let mut parts = Entries::new(alloc);
@@ -95,10 +91,8 @@ fn begin_row(
     card: &DataCard<'_>,
 ) -> Result<(), CardStop<DeckFaultKind>>
     requires { goes_on_last rows.old (viewed card.now) ≡ false }
-    ensures no_fault { OnOk result (row_fault (rows_alone rows.old) (viewed card.now) ≡ None) }
-    ensures step { OnOk result (rows.new ≡ with_row rows.old (viewed card.now)) }
-    ensures stop { IfErr result
-        (ReportsDeckFault (row_fault (rows_alone rows.old) (viewed card.now))) }
+    ensures { TakesCard (row_fault (rows_alone rows.old) (viewed card.now)) rows.new
+        (with_row rows.old (viewed card.now)) result }
 {
     if let Some(kind) = row_kind(card.kind) {
         return begin_plain(rows, kind, card);
@@ -119,12 +113,9 @@ fn put_back(
     requires goes_on { goes_on_last (rows.old ++ row_at (name, body) ∷ [])
         (viewed card.now) ≡ true }
     requires apart { has_row rows.old name ≡ false }
-    ensures no_fault { OnOk result (row_fault (rows_alone (rows.old ++ row_at (name, body) ∷ []))
-        (viewed card.now) ≡ None) }
-    ensures step { OnOk result (rows.new ≡ with_row (rows.old ++ row_at (name, body) ∷ [])
-        (viewed card.now)) }
-    ensures stop { IfErr result (ReportsDeckFault
-        (row_fault (rows_alone (rows.old ++ row_at (name, body) ∷ [])) (viewed card.now))) }
+    ensures { TakesCard
+        (row_fault (rows_alone (rows.old ++ row_at (name, body) ∷ [])) (viewed card.now)) rows.new
+        (with_row (rows.old ++ row_at (name, body) ∷ []) (viewed card.now)) result }
 {
     if is_blank(card.name1.bytes()) {
         return Err(CardStop::Fault(DeckFaultKind::EmptyName));
@@ -145,10 +136,8 @@ fn put_back(
 // Takes a card that goes on with the last row.
 fn go_on(rows: &mut Rows, card: &DataCard<'_>) -> Result<(), CardStop<DeckFaultKind>>
     requires { goes_on_last rows.old (viewed card.now) ≡ true }
-    ensures no_fault { OnOk result (row_fault (rows_alone rows.old) (viewed card.now) ≡ None) }
-    ensures step { OnOk result (rows.new ≡ with_row rows.old (viewed card.now)) }
-    ensures stop { IfErr result
-        (ReportsDeckFault (row_fault (rows_alone rows.old) (viewed card.now))) }
+    ensures { TakesCard (row_fault (rows_alone rows.old) (viewed card.now)) rows.new
+        (with_row rows.old (viewed card.now)) result }
 {
     let Some((name, body)) = rows.take_last() else {
         unreachable!();
@@ -162,10 +151,8 @@ pub fn take_row_card(
     rows: &mut Rows,
     card: &DataCard<'_>,
 ) -> Result<(), CardStop<DeckFaultKind>>
-    ensures no_fault { OnOk result (row_fault (rows_alone rows.old) (viewed card.now) ≡ None) }
-    ensures step { OnOk result (rows.new ≡ with_row rows.old (viewed card.now)) }
-    ensures stop { IfErr result
-        (ReportsDeckFault (row_fault (rows_alone rows.old) (viewed card.now))) }
+    ensures { TakesCard (row_fault (rows_alone rows.old) (viewed card.now)) rows.new
+        (with_row rows.old (viewed card.now)) result }
 {
     if rows.goes_on(card) {
         return go_on(rows, card);

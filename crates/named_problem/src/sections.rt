@@ -1,12 +1,12 @@
 // The cards of the sections: a section card, and the data cards of COLUMNS, RHS and RANGES.
-ghost use Rattle.std.specs.Prelude.{◌≡◌, ◌≤◌, ◌++◌, None, OnOk, IfErr, ◌||◌};
+ghost use Rattle.std.specs.Prelude.{◌≡◌, ◌≤◌, ◌++◌, ◌||◌};
 ghost use Rattle.problem_definitions.specs.Names.{same, marker};
 ghost use Rattle.problem_definitions.specs.Problem.{entry_count};
 ghost use Rattle.problem_definitions.specs.Groups.{in_set};
 ghost use Rattle.deck_definitions.specs.DataCards.{entries_of};
 ghost use Rattle.deck_definitions.specs.Sections.{may_follow, furthest_next};
 ghost use Rattle.deck_definitions.specs.Tests.{columns_fault, set_fault};
-ghost use Rattle.deck_fields.specs.Reported.{ReportsDeckFault};
+ghost use Rattle.named_problem.specs.Taken.{TakesCard};
 ghost use Rattle.named_problem.specs.Views.{rows_alone, columns_alone};
 ghost use Rattle.deck_fields.specs.Views.{viewed};
 
@@ -33,13 +33,10 @@ pub fn take_column_card(
 ) -> Result<(), CardStop<DeckFaultKind>>
     requires few { count ≤ 100000 }
     requires counted { count ≡ entry_count (columns_alone rows.now columns.old) }
-    ensures no_fault { OnOk result (columns_fault (columns_alone rows.now columns.old)
-        (viewed card.now) ≡ None) }
-    ensures step { OnOk result (columns.new ≡ in_set card.now.name1
-        (λ items. items ++ entries_of (viewed card.now)) columns.old) }
-    ensures stop { IfErr result
-        (ReportsDeckFault (columns_fault (columns_alone rows.now columns.old)
-        (viewed card.now))) }
+    ensures { TakesCard (columns_fault (columns_alone rows.now columns.old) (viewed card.now))
+        columns.new
+        (in_set card.now.name1 (λ items. items ++ entries_of (viewed card.now)) columns.old)
+        result }
 {
     if !is_blank(card.kind) {
         return Err(CardStop::Fault(DeckFaultKind::ExtraField));
@@ -61,12 +58,9 @@ pub fn take_set_card(
     sets: &mut Groups,
     card: &DataCard<'_>,
 ) -> Result<(), CardStop<DeckFaultKind>>
-    ensures no_fault { OnOk result (set_fault (rows_alone rows.now) section sets.old
-        (viewed card.now) ≡ None) }
-    ensures step { OnOk result (sets.new ≡ in_set card.now.name1
-        (λ items. items ++ entries_of (viewed card.now)) sets.old) }
-    ensures stop { IfErr result (ReportsDeckFault (set_fault (rows_alone rows.now) section sets.old
-        (viewed card.now))) }
+    ensures { TakesCard (set_fault (rows_alone rows.now) section sets.old (viewed card.now))
+        sets.new
+        (in_set card.now.name1 (λ items. items ++ entries_of (viewed card.now)) sets.old) result }
 {
     if !is_blank(card.kind) {
         return Err(CardStop::Fault(DeckFaultKind::ExtraField));

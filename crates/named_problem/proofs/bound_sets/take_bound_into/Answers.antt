@@ -9,26 +9,22 @@ use Rattle.deck_fields.specs.Views.{viewed}
 use Rattle.named_problem.proofs.Grouped.{items_found, put_in_set}
 use Rattle.named_problem.proofs.bound_sets.take_bound_into.Goals as goal
 
-pub returns-clause-no_fault : goal.returns-clause-no_fault
-returns-clause-no_fault c =
+pub returns : goal.returns
+returns c =
     let taken = c.or_insert-items.ensures.value ∙ ap₂ unwrap_or c.in_ok-sets.ensures.value c.new.ensures in
-    subst (λ items. OnOk c.take_bound.result (bound_rest_fault items (viewed c.args.card.now) c.args.kind ≡ None))
-    (taken ∙ items_found c.args.card.now.name1 c.args.sets.now.entries c.in_ok-sets.ensures.unique) c.take_bound.ensures.no_fault
-
-pub returns-clause-step : goal.returns-clause-step
-returns-clause-step c =
-    let taken = c.or_insert-items.ensures.value ∙ ap₂ unwrap_or c.in_ok-sets.ensures.value c.new.ensures in
-    on_ok_weaker {P = c.take_bound.new.items ≡ c.or_insert-items.result.now ++ bound_of (viewed c.args.card.now) c.args.kind ∷ []} c.take_bound.result
-    (λ step. ap (λ m. map group_at m.entries) (c.sets-3-1.given.1 (sym c.in_ok-sets.ensures.same_map))
-    ∙ ap (map group_at) (c.in_ok-sets.ensures.update.1 c.take_bound.new.items)
-    ∙ ap (λ items. map group_at (insert_entry same c.args.sets.now.entries c.args.card.now.name1 items))
-    (step ∙ ap (λ items. items ++ bound_of (viewed c.args.card.now) c.args.kind ∷ []) taken)
-    ∙ put_in_set c.args.card.now.name1
-    (λ items. items ++ bound_of (viewed c.args.card.now) c.args.kind ∷ []) c.args.sets.now.entries c.in_ok-sets.ensures.unique)
-    c.take_bound.ensures.step
-
-pub returns-clause-stop : goal.returns-clause-stop
-returns-clause-stop c =
-    let taken = c.or_insert-items.ensures.value ∙ ap₂ unwrap_or c.in_ok-sets.ensures.value c.new.ensures in
-    subst (λ items. IfErr c.take_bound.result (ReportsDeckFault (bound_rest_fault items (viewed c.args.card.now) c.args.kind)))
-    (taken ∙ items_found c.args.card.now.name1 c.args.sets.now.entries c.in_ok-sets.ensures.unique) c.take_bound.ensures.stop
+    let found = taken ∙ items_found c.args.card.now.name1 c.args.sets.now.entries c.in_ok-sets.ensures.unique in
+    record {
+      no_fault = subst (λ items. OnOk c.take_bound.result (bound_rest_fault items (viewed c.args.card.now) c.args.kind ≡ None)) found
+          c.take_bound.ensures.no_fault;
+      step = on_ok_weaker {P = c.take_bound.new.items ≡ c.or_insert-items.result.now ++ bound_of (viewed c.args.card.now) c.args.kind ∷ []}
+          c.take_bound.result
+          (λ step. ap (λ m. map group_at m.entries) (c.sets-3-1.given.1 (sym c.in_ok-sets.ensures.same_map))
+          ∙ ap (map group_at) (c.in_ok-sets.ensures.update.1 c.take_bound.new.items)
+          ∙ ap (λ items. map group_at (insert_entry same c.args.sets.now.entries c.args.card.now.name1 items))
+          (step ∙ ap (λ items. items ++ bound_of (viewed c.args.card.now) c.args.kind ∷ []) taken)
+          ∙ put_in_set c.args.card.now.name1
+          (λ items. items ++ bound_of (viewed c.args.card.now) c.args.kind ∷ []) c.args.sets.now.entries c.in_ok-sets.ensures.unique)
+          c.take_bound.ensures.step;
+      stop = subst (λ items. IfErr c.take_bound.result (ReportsDeckFault (bound_rest_fault items (viewed c.args.card.now) c.args.kind))) found
+          c.take_bound.ensures.stop;
+    }

@@ -1,4 +1,4 @@
-use Rattle.std.proofs.Common.{◌≡◌, ◌++◌, ◌∷◌, [], sym, ap, subst, ◌∙◌}
+use Rattle.std.proofs.Common.{◌≡◌, ◌++◌, ◌∷◌, [], rules, sym, ap, subst, ◌∙◌}
 use Rattle.card_definitions.specs.Words.{is_empty}
 use Rattle.problem_definitions.specs.Problem.{combination}
 use Rattle.deck_fields.specs.Reported.{ReportsDeckFault}
@@ -16,31 +16,32 @@ unreachable-requires c =
       c.requires.goes_on,
     ))
 
-pub returns-in_ok-add-in-Ok-clause-no_fault : goal.returns-in_ok-add-in-Ok-clause-no_fault
-returns-in_ok-add-in-Ok-clause-no_fault c =
+pub returns-in_ok-add-in-Ok : goal.returns-in_ok-add-in-Ok
+returns-in_ok-add-in-Ok c =
     let row = row_at (c.args.name, c.args.body) in
     let taken : c.args.rows.now ++ row ∷ [] ≡ c.args.rows.now ++ combination c.args.body.kind c.args.name c.in-Some.parts ∷ [] =
     ap (λ parts. c.args.rows.now ++ record { kind = c.args.body.kind; name = c.args.name; parts = parts } ∷ []) c.in-Some.is in
-    tells_more (viewed c.args.card.now)
-    (c.args.rows.now ++ row ∷ []) c.args.rows.now c.args.body.kind c.args.name c.in-Some.parts c.requires.goes_on taken c.requires.apart
-    (ap is_empty (sym c.bytes.ensures.bytes) ∙ sym c.is_blank.ensures ∙ c.if-is_blank.false) ∙ c.in-Ok.ensures.no_fault
+    record {
+      no_fault = tells_more (viewed c.args.card.now)
+          (c.args.rows.now ++ row ∷ []) c.args.rows.now c.args.body.kind c.args.name c.in-Some.parts c.requires.goes_on taken c.requires.apart
+          (ap is_empty (sym c.bytes.ensures.bytes) ∙ sym c.is_blank.ensures ∙ c.if-is_blank.false) ∙ c.in-Ok.ensures.no_fault;
+      step = c.in_ok-add-in-Ok.ensures ∙ ap (λ parts. c.args.rows.now ++ combination c.args.body.kind c.args.name parts ∷ []) c.in-Ok.ensures.step
+          ∙ sym (more_parts (viewed c.args.card.now)
+          (c.args.rows.now ++ row ∷ []) c.args.rows.now c.args.body.kind c.args.name c.in-Some.parts c.requires.goes_on taken c.requires.apart);
+      stop = search rules;
+    }
 
-pub returns-in_ok-add-in-Ok-clause-step : goal.returns-in_ok-add-in-Ok-clause-step
-returns-in_ok-add-in-Ok-clause-step c =
-    let row = row_at (c.args.name, c.args.body) in
-    let taken : c.args.rows.now ++ row ∷ [] ≡ c.args.rows.now ++ combination c.args.body.kind c.args.name c.in-Some.parts ∷ [] =
-    ap (λ parts. c.args.rows.now ++ record { kind = c.args.body.kind; name = c.args.name; parts = parts } ∷ []) c.in-Some.is in
-    c.in_ok-add-in-Ok.ensures ∙ ap (λ parts. c.args.rows.now ++ combination c.args.body.kind c.args.name parts ∷ []) c.in-Ok.ensures.step
-    ∙ sym (more_parts (viewed c.args.card.now)
-    (c.args.rows.now ++ row ∷ []) c.args.rows.now c.args.body.kind c.args.name c.in-Some.parts c.requires.goes_on taken c.requires.apart)
-
-pub returns-in-Err-clause-stop : goal.returns-in-Err-clause-stop
-returns-in-Err-clause-stop c =
-    let row = row_at (c.args.name, c.args.body) in
-    let taken : c.args.rows.now ++ row ∷ [] ≡ c.args.rows.now ++ combination c.args.body.kind c.args.name c.in-Some.parts ∷ [] =
-    ap (λ parts. c.args.rows.now ++ record { kind = c.args.body.kind; name = c.args.name; parts = parts } ∷ []) c.in-Some.is in
-    subst (λ fault. ReportsDeckFault fault c.in-Err.stop)
-    (sym (tells_more (viewed c.args.card.now)
-    (c.args.rows.now ++ row ∷ []) c.args.rows.now c.args.body.kind c.args.name c.in-Some.parts c.requires.goes_on taken c.requires.apart
-    (ap is_empty (sym c.bytes.ensures.bytes) ∙ sym c.is_blank.ensures ∙ c.if-is_blank.false)))
-    c.in-Err.ensures.stop
+pub returns-in-Err : goal.returns-in-Err
+returns-in-Err c = record {
+  no_fault = search rules;
+  step = search rules;
+  stop =
+      let row = row_at (c.args.name, c.args.body) in
+      let taken : c.args.rows.now ++ row ∷ [] ≡ c.args.rows.now ++ combination c.args.body.kind c.args.name c.in-Some.parts ∷ [] =
+      ap (λ parts. c.args.rows.now ++ record { kind = c.args.body.kind; name = c.args.name; parts = parts } ∷ []) c.in-Some.is in
+      subst (λ fault. ReportsDeckFault fault c.in-Err.stop)
+      (sym (tells_more (viewed c.args.card.now)
+      (c.args.rows.now ++ row ∷ []) c.args.rows.now c.args.body.kind c.args.name c.in-Some.parts c.requires.goes_on taken c.requires.apart
+      (ap is_empty (sym c.bytes.ensures.bytes) ∙ sym c.is_blank.ensures ∙ c.if-is_blank.false)))
+      c.in-Err.ensures.stop;
+}

@@ -21,14 +21,12 @@ settle-requires c =
 pub invariant_of-self : goal.invariant_of-self
 invariant_of-self c = (c.settle.ensures.distinct, c.settle.ensures.count, c.settle.ensures.short)
 
-pub returns-clause-no_fault : goal.returns-clause-no_fault
-returns-clause-no_fault c = on_ok_settled _ c.take_column_into-taken.result c.settle.result c.settle.ensures.same (search rules)
-
-pub returns-clause-step : goal.returns-clause-step
-returns-clause-step c = rw (← c.self.view_is) (with_ok_settled _ _ _ c.take_column_into-taken.result c.settle.result c.settle.ensures.same
-    (λ lengths put kept. ap (map group_at) (kept ∙ put.0)
-    ∙ put_in_set c.args.card.now.name1 (λ items. items ++ entries_of (viewed c.args.card.now)) c.self.inside.groups.entries c.self.invariant.0)
-    c.take_column_into-taken.ensures.put c.settle.ensures.kept)
-
-pub returns-clause-stop : goal.returns-clause-stop
-returns-clause-stop c = if_err_settled _ c.take_column_into-taken.result c.settle.result c.settle.ensures.same (search rules)
+pub returns : goal.returns
+returns c = record {
+  no_fault = on_ok_settled _ c.take_column_into-taken.result c.settle.result c.settle.ensures.same (search rules);
+  step = rw (← c.self.view_is) (with_ok_settled _ _ _ c.take_column_into-taken.result c.settle.result c.settle.ensures.same
+      (λ lengths put kept. ap (map group_at) (kept ∙ put.0)
+      ∙ put_in_set c.args.card.now.name1 (λ items. items ++ entries_of (viewed c.args.card.now)) c.self.inside.groups.entries c.self.invariant.0)
+      c.take_column_into-taken.ensures.put c.settle.ensures.kept);
+  stop = if_err_settled _ c.take_column_into-taken.result c.settle.result c.settle.ensures.same (search rules);
+}
