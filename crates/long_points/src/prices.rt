@@ -10,9 +10,10 @@ ghost use Rattle.long_programs.specs.Places.{IsSpread};
 ghost use Rattle.long_points.specs.Tests.{cost_test};
 
 use crate::rows::column_top;
+use exact_sums::Sum;
 use frac128::Frac;
 use long_programs::{ProgramAt, Spread, subtract_cost, top_of};
-use long_vectors::{Column, Sum};
+use long_vectors::Column;
 use lp_definitions::Entry;
 use std::alloc::{AllocError, Global};
 

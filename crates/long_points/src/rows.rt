@@ -8,10 +8,11 @@ ghost use Rattle.check_definitions.specs.Checks.{row_products, equations};
 ghost use Rattle.long_vectors.specs.Vectors.{IsOver};
 ghost use Rattle.long_points.specs.Tests.{UpTo, rate_on, rates_on};
 
+use exact_sums::Sum;
 use frac128::Frac;
 use integers::Integer;
 use long_programs::top_of;
-use long_vectors::{Column, Sum};
+use long_vectors::Column;
 use lp_definitions::Entry;
 use lp_model::Lp;
 use std::alloc::{AllocError, Global};

@@ -11,11 +11,12 @@ ghost use Rattle.walk_definitions.specs.Tests.{slack_steps};
 ghost use Rattle.long_vectors.specs.Vectors.{IsValue, IsOver};
 ghost use Rattle.long_points.specs.Tests.{slack_test};
 
+use exact_sums::Sum;
 use frac128::Frac;
 use integers::Integer;
 use listing_words::Number;
 use long_programs::top_of;
-use long_vectors::{Column, Sum, Value, value_of};
+use long_vectors::{Column, Value, value_of};
 use lp_model::Lp;
 use std::alloc::{AllocError, Global};
 

@@ -7,28 +7,12 @@ ghost use Rattle.long_programs.specs.Places.{IsSpread};
 
 use crate::programs::{ChangeAt, ProgramAt};
 use crate::spreads::{Spread, spread_by};
+use exact_sums::{denominator_of, numerator_of};
 use frac128::Frac;
 use integers::Integer;
 use long_vectors::{Column, Value};
 use lp_model::Lp;
-use naturals::Natural;
 use std::alloc::{AllocError, Global};
-
-// The numerator of a fraction.
-fn numerator_of(alloc: Global, fraction: Frac) -> Result<Integer, AllocError>
-    ensures { IfOk result (λ made. made ≡ fraction.numerator) }
-{
-    let top = fraction.num();
-    let size = Natural::from_wide(alloc, top.unsigned_abs())?;
-    Ok(Integer::new(top < 0, size))
-}
-
-// The denominator of a fraction.
-fn denominator_of(alloc: Global, fraction: Frac) -> Result<Natural, AllocError>
-    ensures { IfOk result (λ made. made ≡ fraction.denominator) }
-{
-    Natural::from_wide(alloc, fraction.den().unsigned_abs())
-}
 
 // A fraction as a whole number over another one.
 fn fraction_value(alloc: Global, fraction: Frac) -> Result<Value, AllocError>

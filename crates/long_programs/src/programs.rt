@@ -10,9 +10,9 @@ ghost use Rattle.parametric_request.specs.Asking.{ServesChange, changing_of};
 ghost use Rattle.long_programs.specs.Programs.{program_of, IsChangeIn, IsPlain, shift_at, rate_at, order_to};
 ghost use Rattle.long_programs.specs.Places.{IsPlace};
 
+use exact_sums::Sum;
 use frac128::Frac;
 use integers::Integer;
-use long_vectors::Sum;
 use lp_definitions::Entry;
 use lp_model::Lp;
 use parametric_request::Change;

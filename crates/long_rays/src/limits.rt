@@ -6,11 +6,12 @@ ghost use Rattle.long_vectors.specs.Vectors.{IsOver, IsValue};
 ghost use Rattle.long_programs.specs.Programs.{program_of, IsChangeIn, shift_at};
 ghost use Rattle.long_rays.specs.Tests.{limit_by, IsMet, SumsTo};
 
+use exact_sums::Sum;
 use frac128::Frac;
 use integers::Integer;
 use long_points::sign_of;
 use long_programs::{ChangeAt, ProgramAt, top_of};
-use long_vectors::{Column, Sum, Value};
+use long_vectors::{Column, Value};
 use std::alloc::{AllocError, Global};
 use std::cmp::Ordering;
 

@@ -11,11 +11,12 @@ ghost use Rattle.long_vectors.specs.Vectors.{IsOver, IsValue};
 ghost use Rattle.long_programs.specs.Programs.{program_of, IsChangeIn, IsPlain};
 ghost use Rattle.long_rays.specs.Tests.{change_value};
 
+use exact_sums::Sum;
 use frac128::Frac;
 use integers::Integer;
 use long_points::counted;
 use long_programs::{ChangeAt, ProgramAt, top_of};
-use long_vectors::{Column, Sum, Value};
+use long_vectors::{Column, Value};
 use lp_model::Lp;
 use std::alloc::{AllocError, Global};
 use std::cmp::Ordering;

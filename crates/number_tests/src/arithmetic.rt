@@ -1,6 +1,6 @@
 //! The arithmetic of natural numbers, against tables of remainders by a prime of 61 bits.
 
-use crate::made::{number, residue};
+use crate::made::{number, number_in_parts, residue};
 use naturals::{Natural, gcd};
 use std::alloc::{AllocError, Global};
 use std::cmp::Ordering;
@@ -275,6 +275,26 @@ const QUOTIENTS: [(&[u64], &[u64], &[u64], &[u64]); 13] = [
     ),
 ];
 
+/// The seeds and the parts of two numbers, and the remainder of their product: on both sides of the length from which products are
+/// made of halves, one number much longer than the other, runs of zeros, and words with all their bits set.
+const PRODUCTS: [(u64, (usize, usize, usize), u64, (usize, usize, usize), u64); 15] = [
+    (21, (63, 0, 0), 22, (63, 0, 0), 1995853065683816706),
+    (21, (64, 0, 0), 22, (63, 0, 0), 1919522126583992835),
+    (23, (64, 0, 0), 24, (64, 0, 0), 2136183311031113382),
+    (25, (65, 0, 0), 26, (64, 0, 0), 1046938147672306321),
+    (27, (129, 0, 0), 28, (128, 0, 0), 2294078386291353860),
+    (29, (64, 0, 0), 30, (300, 0, 0), 1082155874087409789),
+    (31, (300, 0, 0), 32, (151, 0, 0), 1772170036025857271),
+    (33, (300, 0, 0), 34, (150, 0, 0), 589337655166775141),
+    (35, (7, 0, 0), 36, (1000, 0, 0), 173869496293490532),
+    (0, (64, 0, 0), 0, (64, 0, 0), 261121),
+    (0, (130, 0, 0), 0, (131, 0, 0), 2251799662690305),
+    (37, (1, 126, 1), 38, (1, 126, 1), 846529636941758120),
+    (39, (40, 100, 1), 0, (1, 64, 64), 862518610393246864),
+    (41, (1, 200, 0), 42, (70, 100, 90), 1955950951437263696),
+    (43, (520, 0, 0), 45, (519, 0, 0), 2238547518913684169),
+];
+
 fn distance(alloc: Global, a: &Natural, b: &Natural) -> Result<Natural, AllocError> {
     if let Some(rest) = a.difference(alloc, b)? {
         return Ok(rest);
@@ -372,6 +392,18 @@ fn common_divisors(rt: HostRuntime) -> Result<(), Fail> {
 fn quotients_of_hard_digits(rt: HostRuntime) -> Result<(), Fail> {
     for case in QUOTIENTS {
         assert!(rt; divides_so(rt.alloc(), case)?);
+    }
+    Ok(())
+}
+
+#[test]
+fn products_of_long_numbers(rt: HostRuntime) -> Result<(), Fail> {
+    let alloc = rt.alloc();
+    for (a, a_parts, b, b_parts, wanted) in PRODUCTS {
+        let first = number_in_parts(alloc, a, a_parts)?;
+        let second = number_in_parts(alloc, b, b_parts)?;
+        let product = first.product(alloc, &second)?;
+        assert_eq!(rt; residue(&product), wanted);
     }
     Ok(())
 }

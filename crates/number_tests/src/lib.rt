@@ -8,4 +8,6 @@ mod made;
 #[cfg(test)]
 mod printed;
 #[cfg(test)]
+mod sums;
+#[cfg(test)]
 mod vectors;

@@ -1,108 +1,13 @@
-//! Sums of products and vectors over one denominator, against Python's fractions: each table was printed by a script that drew its
-//! numbers by `random.getrandbits` after `random.seed(360)`, and worked out what is wanted of them by `fractions.Fraction` and
-//! `math.lcm`.
+//! Vectors over one denominator, against Python's fractions: the table was printed by a script that drew its numbers by
+//! `random.getrandbits` after `random.seed(360)`, and worked out what is wanted of them by `fractions.Fraction` and `math.lcm`.
 
-use integers::Integer;
-use listing_words::{Number, fraction_in};
-use long_numbers::{is_number, number_in};
-use long_vectors::{Column, Sum, along, column_of, value_of};
+use crate::made::integer;
+use listing_words::Number;
+use long_numbers::is_number;
+use long_vectors::{Column, along, column_of, value_of};
 use std::alloc::{AllocError, Global};
 use std::cmp::Ordering;
 use std::test::Fail;
-
-/// The terms of a sum, each a fraction and a whole number, and what times what is the sum's opposite.
-const SUMS: [(&[(&[u8], &[u8])], &[u8], &[u8]); 6] = [
-    (&[(b"14/3", b"248")], b"-1/3", b"3472"),
-    (
-        &[
-            (b"246/11", b"1061564219276842811845"),
-            (b"10", b"-906084967751653530184"),
-        ],
-        b"-1/11",
-        b"161475451489421443393630",
-    ),
-    (
-        &[
-            (b"477994/555", b"-1151326402921885234526255606360567245463"),
-            (b"287828/283", b"-1129618702251170552871022689440030728091"),
-            (b"791276/667", b"-1089325859976547013983589718798742647570"),
-        ],
-        b"-1/104762355",
-        b"-359624066699038378476264541118508579382263408486122",
-    ),
-    (
-        &[
-            (
-                b"174047176830726149/20413",
-                b"-1433317394779870107000375115253623199435495391250787063187077",
-            ),
-            (
-                b"-184274207370639818/7045",
-                b"-1275363659366704037710696912487869888643379101119603108059870",
-            ),
-            (
-                b"-926810984487722581/12681",
-                b"723249994554711368649922340671249883023492192713935666466081",
-            ),
-            (
-                b"70474812501580030/6379",
-                b"-858643387402930942856597876311621943121304043621687940878939",
-            ),
-        ],
-        b"-1/8256252084435",
-        b"-340220691961171317381440135646360279561631076341087490861887442698608680489167125255540",
-    ),
-    (
-        &[
-            (
-                b"-64529077193702852215982309296488079887/464918",
-                b"13617726869989101056",
-            ),
-            (
-                b"58370810943024353645977586344226356076/745165",
-                b"10606527648864479205",
-            ),
-            (
-                b"-73268722730815494396958219664095108793/15795",
-                b"3181400682225504517",
-            ),
-        ],
-        b"-1/1094405923223730",
-        b"-17310122493750043747290000823242218713351387405944522671027236764374",
-    ),
-    (
-        &[
-            (
-                b"-4",
-                b"-172107604734064901507121209022971408379398488328010481057433\
-                  3683586104991585786171717645258994002704282864447922865069540",
-            ),
-            (
-                b"-905/54",
-                b"1506472590671220326220682054326804109669711944690255455571937\
-                  469801108407622163733121278346545216198046390971587217762027",
-            ),
-            (
-                b"87/17",
-                b"-160900121022884873471707310390431305231897248597930441328605\
-                  0352419196735378672769467838782551982763702900458116630436619",
-            ),
-            (
-                b"62/3",
-                b"1623105997101150135453394977187820085411431391968287356020655\
-                  597558705315684684378662408543068165707759336699327049615498",
-            ),
-            (
-                b"-697/42",
-                b"481717054396712807280110792885461744254782282688280185154689\
-                  57090746742806255071040135196257594636905289994901585640220",
-            ),
-        ],
-        b"-1/6426",
-        b"395032492681502073017852526755835692164715412206396931343168362\
-          28081146249776069015706382692508810874201008289829901205201333",
-    ),
-];
 
 /// A number theta, a vector, the least common denominator of its numbers, rates, and the vector with theta times the rates.
 const VECTORS: [(&[u8], &[&[u8]], &[u8], &[&[u8]], &[&[u8]]); 4] = [
@@ -159,46 +64,12 @@ const VECTORS: [(&[u8], &[&[u8]], &[u8], &[&[u8]], &[&[u8]]); 4] = [
     ),
 ];
 
-fn integer(alloc: Global, word: &[u8]) -> Result<Integer, AllocError> {
-    match number_in(alloc, word)? {
-        Some(number) => Ok(number.top),
-        None => Err(AllocError),
-    }
-}
-
 fn number(alloc: Global, word: &'static [u8]) -> Result<Number<'static>, AllocError> {
     if is_number(alloc, word)? {
         Ok(Number::new(word))
     } else {
         Err(AllocError)
     }
-}
-
-fn add(alloc: Global, sum: &mut Sum, by: &[u8], n: &[u8]) -> Result<Ordering, AllocError> {
-    let Some(by) = fraction_in(by) else {
-        return Err(AllocError);
-    };
-    sum.add(alloc, by, &integer(alloc, n)?)?;
-    Ok(sum.sign())
-}
-
-// The signs of a sum, of 0 made of it, and of what is one unit above and below.
-fn signs(
-    alloc: Global,
-    terms: &[(&[u8], &[u8])],
-    unit: &[u8],
-    total: &[u8],
-) -> Result<[Ordering; 4], AllocError> {
-    let mut sum = Sum::zero(alloc)?;
-    for (by, n) in terms {
-        add(alloc, &mut sum, by, n)?;
-    }
-    Ok([
-        sum.sign(),
-        add(alloc, &mut sum, unit, total)?,
-        add(alloc, &mut sum, unit, b"-1")?,
-        add(alloc, &mut sum, unit, b"2")?,
-    ])
 }
 
 fn column(alloc: Global, words: &[&'static [u8]]) -> Result<Column, AllocError> {
@@ -237,19 +108,6 @@ fn are_equal(alloc: Global, a: &Column, b: &Column) -> Result<bool, AllocError> 
         }
     }
     Ok(true)
-}
-
-#[test]
-fn sums_of_products(rt: HostRuntime) -> Result<(), Fail> {
-    let alloc = rt.alloc();
-    for (terms, unit, total) in SUMS {
-        let sign = integer(alloc, total)?.compare(&integer(alloc, b"0")?);
-        assert_eq!(rt;
-            signs(alloc, terms, unit, total)?,
-            [sign, Ordering::Equal, Ordering::Greater, Ordering::Less]
-        );
-    }
-    Ok(())
 }
 
 #[test]

@@ -8,13 +8,13 @@ ghost use Rattle.price_row.specs.Sums.{weighted, products};
 ghost use Rattle.price_row.specs.Places.{IsRowPlace};
 
 use eta_file::EtaEntry;
-use exact_sums::ExactSum;
+use exact_sums::Sum;
 use frac128::Frac;
 use lp_model::Entry;
 use std::alloc::{AllocError, Global};
 
 /// The sum, with one product more. Most values of a row are 0, and nothing is made of these.
-fn exactly_added(alloc: Global, sum: ExactSum, x: Frac, y: Frac) -> Result<ExactSum, AllocError>
+fn exactly_added(alloc: Global, sum: Sum, x: Frac, y: Frac) -> Result<Sum, AllocError>
     ensures { IfOk result (λ next. next ≡ sum +ℚ x *ℚ y) }
 {
     if x.is_zero() {
@@ -32,11 +32,11 @@ fn long_sum_over(
     p: u32,
     first: Frac,
     values: &[Frac],
-) -> Result<ExactSum, AllocError>
+) -> Result<Sum, AllocError>
     requires { All (IsEntryWithin (length values.now)) entries.now }
     ensures { IfOk result (λ sum. sum ≡ sum_from first (weighted p values.now entries.now)) }
 {
-    let mut sum = ExactSum::new(alloc, first)?;
+    let mut sum = Sum::new(alloc, first)?;
     for entry in entries {
         if entry.i != p {
             sum = exactly_added(alloc, sum, values[entry.i as usize - 1], entry.rate)?;
@@ -46,15 +46,11 @@ fn long_sum_over(
 }
 
 /// The sum of the numbers of a column, each times the value at its row.
-fn long_sum_of_column(
-    alloc: Global,
-    column: &[Entry],
-    values: &[Frac],
-) -> Result<ExactSum, AllocError>
+fn long_sum_of_column(alloc: Global, column: &[Entry], values: &[Frac]) -> Result<Sum, AllocError>
     requires { All (IsRowPlace (length values.now)) column.now }
     ensures { IfOk result (λ sum. sum ≡ sum_from zero_ℚ (products values.now column.now)) }
 {
-    let mut sum = ExactSum::new(alloc, Frac::whole(0))?;
+    let mut sum = Sum::new(alloc, Frac::whole(0))?;
     for entry in column {
         sum = exactly_added(alloc, sum, values[entry.row as usize - 1], entry.value)?;
     }

@@ -1,6 +1,6 @@
 //! The product form: rates that are carried through an eta file, which is made anew from time to time.
 
-ghost use Rattle.std.specs.Prelude.{◌≡◌, ◌≢◌, ◌+◌, ◌<◌, ◌≤◌, ◌^◌, false, length, All, IfOk, OnOk, OnErr};
+ghost use Rattle.std.specs.Prelude.{◌≡◌, ◌≢◌, ◌+◌, ◌<◌, ◌≤◌, ◌^◌, false, length, All, IfOk, OnOk, OnErr, MatchBool};
 ghost use Rattle.exact_values.specs.Rational.{zero_ℚ};
 ghost use Rattle.lp_definitions.specs.LinearProgram.{size, value_at};
 ghost use Rattle.lp_definitions.specs.Basis.{IsBasic, IsNonbasic, IsDirectionOf, exchanged, row_basics};
@@ -11,7 +11,7 @@ ghost use Rattle.lp_model.specs.Wanted.{IsFirstWanted};
 ghost use Rattle.eta_file.specs.Prefixes.{basic_columns};
 ghost use Rattle.eta_file.specs.Inverse.{ways_of, IsAppended, file_state};
 ghost use Rattle.reinversion.specs.Rebuilt.{KeptRefused};
-ghost use Rattle.reinversion.specs.Form.{IfDone, IfKept, IsShort, IsPrepared, IsTurn};
+ghost use Rattle.reinversion.specs.Form.{IfDone, IfKept, HasLongPivot, IsDue, IsShort, IsPrepared, IsTurn};
 
 use crate::last_column::LastColumn;
 use crate::rebuild::rebuild;
@@ -24,6 +24,27 @@ use std::marker::Model;
 
 /// Each of so many exchanges makes the file anew first, counted from the last time.
 const EXCHANGES: u32 = 50;
+
+/// Where the pivot of the last exchange is a long number, each of so many exchanges does.
+const EXCHANGES_OF_LONG_NUMBERS: u32 = 20;
+
+/// A fraction whose denominator is of this size or more is a long number.
+const LONG: u128 = 1 << 32;
+
+/// Whether the pivot of the last exchange is a long number.
+fn has_long_pivot(file: &EtaFile) -> bool
+    ensures { MatchBool result (HasLongPivot file.now.etas) (HasLongPivot file.now.etas → ⊥) }
+{
+    let etas = file.etas();
+    if etas == 0 {
+        return false;
+    }
+    let pivot = file.pivot(etas);
+    if pivot.den().unsigned_abs() < LONG {
+        return false;
+    }
+    true
+}
 
 /// How a reinversion ended.
 #[derive(Clone, Copy, Debug, PartialEq, Eq)]
@@ -111,14 +132,29 @@ impl ProductForm {
         }
     }
 
-    /// Makes the file anew before each 50th exchange.
+    /// Whether the next exchange makes the file anew first.
+    fn is_due(&self) -> bool
+        ensures due { MatchBool result (IsDue self.now) (IsDue self.now → ⊥) }
+        ensures few { self.now.since < 50 }
+    {
+        let exchanges = self.since + 1;
+        if exchanges >= EXCHANGES {
+            return true;
+        }
+        if exchanges < EXCHANGES_OF_LONG_NUMBERS {
+            return false;
+        }
+        has_long_pivot(&self.file)
+    }
+
+    /// Makes the file anew before each 50th exchange, and where numbers are long before each 20th.
     fn reinvert_if_due(&mut self) -> Result<(), NoMemory>
         ensures same_matrix { self.new.file.matrix ≡ self.old.file.matrix }
         ensures same_basics { self.new.file.basics ≡ self.old.file.basics }
         ensures waypoints { LeavesWaypoints (file_state self.old.file) (file_state self.new.file) }
         ensures prepared { OnOk result (IsPrepared self.old self.new) }
     {
-        if self.since + 1 >= EXCHANGES {
+        if self.is_due() {
             self.reinvert()?;
         }
         Ok(())
@@ -248,7 +284,7 @@ impl Rates for ProductForm {
         self.price.first_wanted(&self.file, i, wanted, up, out)
     }
 
-    /// Each 50th exchange makes the file anew first. After a Stop the basics are as before.
+    /// Each 50th exchange makes the file anew first, and where numbers are long each 20th. After a Stop the basics are as before.
     fn exchange(&mut self, p: u32, q: u32) -> Result<(), Stop>
         requires leaves { IsBasic self.old.file.matrix self.old.file.basics p }
         requires enters { IsNonbasic self.old.file.matrix self.old.file.basics q }

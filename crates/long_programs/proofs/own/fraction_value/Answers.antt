@@ -1,7 +1,7 @@
 use Rattle.std.proofs.Common.{◌∙◌, ap, pos, subst, sym}
 use Rattle.std.specs.Prelude.{ℤ}
 use Rattle.exact_values.specs.Rational.{whole, zero_ℚ, ◌*ℚ◌, ◌<ℚ◌}
-use Rattle.long_vectors.proofs.Over.{numerator_is}
+use Rattle.exact_sums.proofs.Ratios.{numerator_is}
 use Rattle.long_programs.proofs.Scaled.{denominator_above}
 use Rattle.long_programs.proofs.own.fraction_value.Goals as goal
 
