@@ -1,5 +1,5 @@
 // A problem under revision, card by card.
-ghost use Rattle.std.specs.Prelude.{◌≡◌, [], None, Some, OnOk, IfErr};
+ghost use Rattle.std.specs.Prelude.{◌≡◌, [], None, Some};
 
 use crate::numbering::renumbered;
 use crate::sections::{action_fault_of, action_of, anchor_of, comes_after, is_action, is_deletion};
@@ -30,7 +30,7 @@ pub struct ReviseDraft {
 }
 
 impl ReviseDraft {
-    ghost use Rattle.std.specs.Prelude.{◌≡◌, [], None, Some, OnOk, IfErr, unwrap_or};
+    ghost use Rattle.std.specs.Prelude.{◌≡◌, [], None, Some, unwrap_or};
     ghost use Rattle.std.specs.Option.{option_or};
     ghost use Rattle.card_definitions.specs.Words.{named};
     ghost use Rattle.card_reader.specs.Card.{card_bytes};
@@ -39,7 +39,7 @@ impl ReviseDraft {
     ghost use Rattle.deck_definitions.specs.DataCards.{style_begun};
     ghost use Rattle.deck_definitions.specs.Conversion.{section_card_fault};
     ghost use Rattle.revise_definitions.specs.Revision.{may_come_after};
-    ghost use Rattle.deck_fields.specs.Reported.{ReportsDeckFault};
+    ghost use Rattle.named_problem.specs.Taken.{TakesCard};
     ghost use Rattle.deck_fields.specs.Views.{viewed};
     ghost use Rattle.revise_definitions.specs.Actions.{action_on, anchor_on};
     ghost use Rattle.revise_definitions.specs.Tests.{action_fault};
@@ -76,16 +76,13 @@ impl ReviseDraft {
         action: Action,
         card: &DataCard<'_>,
     ) -> Result<(), CardStop<DeckFaultKind>>
-        ensures no_fault { OnOk result (edit_test self.old.problem section action self.old.under
-            (viewed card.now) ≡ None) }
-        ensures step { OnOk result (state_view self.new ≡ record (state_view self.old) {
-          under = with_card_under self.old.under (viewed card.now);
-          problem = edited_by section
-              action self.old.under (viewed card.now) self.old.problem;
-        }) }
-        ensures stop { IfErr result
-            (ReportsDeckFault (edit_test self.old.problem section action self.old.under
-            (viewed card.now))) }
+        ensures { TakesCard
+            (edit_test self.old.problem section action self.old.under (viewed card.now))
+            (state_view self.new) (record (state_view self.old) {
+              under = with_card_under self.old.under (viewed card.now);
+              problem = edited_by section
+                  action self.old.under (viewed card.now) self.old.problem;
+            }) result }
     {
         if let Some(kind) = edit_fault_of(&self.problem, section, action, &self.under, card) {
             return Err(CardStop::Fault(kind));
@@ -104,16 +101,13 @@ impl ReviseDraft {
     // Takes a data card of this section.
     fn take_data(&mut self, section: Section, card: Card<'_>) -> Result<(), CardStop<DeckFaultKind>>
         requires { self.old.section ≡ Some section }
-        ensures no_fault { OnOk result (data_fault (state_view self.old) section
-            (card_bytes card.entry) ≡ None) }
-        ensures step { OnOk result (state_view self.new ≡ record (state_view self.old) {
-          under = with_card_under self.old.under (read_at (state_view self.old)
-              (card_bytes card.entry));
-          problem = problem_with (state_view self.old) (read_at (state_view self.old)
-              (card_bytes card.entry));
-        }) }
-        ensures stop { IfErr result (ReportsDeckFault (data_fault (state_view self.old) section
-            (card_bytes card.entry))) }
+        ensures { TakesCard (data_fault (state_view self.old) section (card_bytes card.entry))
+            (state_view self.new) (record (state_view self.old) {
+              under = with_card_under self.old.under (read_at (state_view self.old)
+                  (card_bytes card.entry));
+              problem = problem_with (state_view self.old) (read_at (state_view self.old)
+                  (card_bytes card.entry));
+            }) result }
     {
         let Some(action) = self.action else {
             return Err(CardStop::Fault(DeckFaultKind::UnknownAction));
@@ -130,19 +124,15 @@ impl ReviseDraft {
         section: Section,
         card: Card<'_>,
     ) -> Result<(), CardStop<DeckFaultKind>>
-        ensures no_fault { OnOk result
+        ensures { TakesCard
             (action_fault self.old.problem section
             (action_on self.old.style (card_bytes card.entry))
-            (anchor_on self.old.style (card_bytes card.entry)) ≡ None) }
-        ensures step { OnOk result (state_view self.new ≡ record (state_view self.old) {
-          action = action_on self.old.style (card_bytes card.entry);
-          under = under_of
-              (unwrap_or (anchor_on self.old.style (card_bytes card.entry)) []) [];
-        }) }
-        ensures stop { IfErr result (ReportsDeckFault
-            (action_fault self.old.problem section
-            (action_on self.old.style (card_bytes card.entry))
-            (anchor_on self.old.style (card_bytes card.entry)))) }
+            (anchor_on self.old.style (card_bytes card.entry)))
+            (state_view self.new) (record (state_view self.old) {
+              action = action_on self.old.style (card_bytes card.entry);
+              under = under_of
+                  (unwrap_or (anchor_on self.old.style (card_bytes card.entry)) []) [];
+            }) result }
     {
         let action = action_of(card, self.style);
         let anchor = anchor_of(card, self.style);
@@ -165,12 +155,8 @@ impl ReviseDraft {
         card: Card<'_>,
     ) -> Result<(), CardStop<DeckFaultKind>>
         requires { self.old.section ≡ Some section }
-        ensures no_fault { OnOk result (standing_fault (state_view self.old) section
-            (card_bytes card.entry) ≡ None) }
-        ensures step { OnOk result (state_view self.new ≡ inner_with (state_view self.old)
-            (card_bytes card.entry)) }
-        ensures stop { IfErr result (ReportsDeckFault (standing_fault (state_view self.old) section
-            (card_bytes card.entry))) }
+        ensures { TakesCard (standing_fault (state_view self.old) section (card_bytes card.entry))
+            (state_view self.new) (inner_with (state_view self.old) (card_bytes card.entry)) result }
     {
         if is_action(card, self.style) {
             return self.take_action(section, card);
@@ -180,12 +166,8 @@ impl ReviseDraft {
 
     // Takes an action card or a data card.
     fn take_inner(&mut self, card: Card<'_>) -> Result<(), CardStop<DeckFaultKind>>
-        ensures no_fault { OnOk result (inner_fault (state_view self.old)
-            (card_bytes card.entry) ≡ None) }
-        ensures step { OnOk result (state_view self.new ≡ inner_with (state_view self.old)
-            (card_bytes card.entry)) }
-        ensures stop { IfErr result (ReportsDeckFault (inner_fault (state_view self.old)
-            (card_bytes card.entry))) }
+        ensures { TakesCard (inner_fault (state_view self.old) (card_bytes card.entry))
+            (state_view self.new) (inner_with (state_view self.old) (card_bytes card.entry)) result }
     {
         let Some(section) = self.section else {
             return Err(CardStop::Fault(DeckFaultKind::SectionOrder));
@@ -198,18 +180,15 @@ impl ReviseDraft {
 
     // Takes a section card.
     fn take_section(&mut self, card: Card<'_>) -> Result<(), CardStop<DeckFaultKind>>
-        ensures no_fault { OnOk result (section_card_fault may_come_after self.old.section
-            (card_bytes card.entry) ≡ None) }
-        ensures step { OnOk result (state_view self.new ≡ record (state_view self.old) {
-          style = unwrap_or (style_begun (card_bytes card.entry)) self.old.style;
-          section = option_or (named section_words (section_word (card_bytes card.entry)))
-              self.old.section;
-          action = None;
-          under = under_of [] [];
-        }) }
-        ensures stop { IfErr result
-            (ReportsDeckFault (section_card_fault may_come_after self.old.section
-            (card_bytes card.entry))) }
+        ensures { TakesCard
+            (section_card_fault may_come_after self.old.section (card_bytes card.entry))
+            (state_view self.new) (record (state_view self.old) {
+              style = unwrap_or (style_begun (card_bytes card.entry)) self.old.style;
+              section = option_or (named section_words (section_word (card_bytes card.entry)))
+                  self.old.section;
+              action = None;
+              under = under_of [] [];
+            }) result }
     {
         let section = next_section::<ReviseDraft>(self.section, card.bytes())?;
         self.style = style_begun(card).unwrap_or(self.style);
@@ -221,12 +200,8 @@ impl ReviseDraft {
 
     // Takes a card.
     fn take_card(&mut self, card: Card<'_>) -> Result<(), CardStop<DeckFaultKind>>
-        ensures no_fault { OnOk result (fault_at (state_view self.old)
-            (card_bytes card.entry) ≡ None) }
-        ensures step { OnOk result (state_view self.new ≡ state_with (state_view self.old)
-            (card_bytes card.entry)) }
-        ensures stop { IfErr result
-            (ReportsDeckFault (fault_at (state_view self.old) (card_bytes card.entry))) }
+        ensures { TakesCard (fault_at (state_view self.old) (card_bytes card.entry))
+            (state_view self.new) (state_with (state_view self.old) (card_bytes card.entry)) result }
     {
         if begins_section(card.bytes()) {
             return self.take_section(card);
