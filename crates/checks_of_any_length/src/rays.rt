@@ -16,7 +16,7 @@ ghost use Rattle.long_solutions.specs.Answers.{Answers};
 ghost use Rattle.checks_of_any_length.specs.Orders.{negative_by, at_most_by};
 
 use frac128::Frac;
-use listing_words::Number;
+use listing_words::{Allowance, Number};
 use long_points::both;
 use long_programs::{ChangeAt, ProgramAt};
 use long_rays::{limits_order, ray_vanishes, shift_order};
@@ -52,6 +52,7 @@ pub fn ray_holds(
     at: &ProgramAt<'_>,
     theta: &Value,
     ray: &[Number<'_>],
+    allowance: &mut Allowance,
 ) -> Result<bool, AllocError>
     requires change { IsChangeIn at.now.lp.now at.now.change }
     requires places { length ray.now ≡ size at.now.lp.now.matrix }
@@ -60,7 +61,7 @@ pub fn ray_holds(
         IsTrue holds ↔ AllHold
         (infeasible_steps (program_of at.now.lp.now at.now.change x) (value_at ray.now))) }
 {
-    let column = column_of(alloc, ray)?;
+    let column = column_of(alloc, ray, allowance)?;
     let vanishes = ray_vanishes(alloc, at.lp, &column)?;
     let order = limits_order(alloc, at, &column, theta)?;
     let contradicts = is_negative(order);
@@ -74,6 +75,7 @@ pub fn past_ray_holds(
     shift: &[Frac],
     theta: &Value,
     ray: &[Number<'_>],
+    allowance: &mut Allowance,
 ) -> Result<bool, AllocError>
     requires shifts { length shift.now ≡ lp.now.matrix.rows }
     requires places { length ray.now ≡ size lp.now.matrix }
@@ -89,7 +91,7 @@ pub fn past_ray_holds(
         lp,
         change: ChangeAt::Set(shift),
     };
-    let column = column_of(alloc, ray)?;
+    let column = column_of(alloc, ray, allowance)?;
     let vanishes = ray_vanishes(alloc, lp, &column)?;
     let order = limits_order(alloc, &at, &column, theta)?;
     let fall = shift_order(alloc, lp, shift, &column)?;
