@@ -17,7 +17,7 @@ ghost use Rattle.checks_of_any_length.specs.Orders.{improves_past};
 
 use listing_claims::Pair;
 use listing_words::{Allowance, Number};
-use long_points::{both, counted, equations_hold, feasible, sign_of};
+use long_points::{both, counted, equations_hold, feasible, sign_of, take_sums};
 use long_programs::{ChangeAt, ProgramAt, spread_by, top_of};
 use long_rays::{direction_is_free, is_value_of, objective_order};
 use long_solutions::is_at_most;
@@ -67,6 +67,7 @@ fn point_holds(
         (feasible_point (program_of at.now.lp.now at.now.change x) (value_at z))) }
 {
     let point = spread_by(alloc, theta, column, allowance)?;
+    take_sums(allowance, at.lp, &point.column)?;
     let holds = feasible(alloc, at, &point)?;
     Ok(holds)
 }
@@ -94,6 +95,7 @@ pub fn pair_holds(
     let own = value_of(alloc, objective)?;
     let point = column_of(alloc, &pair.point, allowance)?;
     let direction = column_of(alloc, &pair.direction, allowance)?;
+    take_sums(allowance, lp, &direction)?;
     let begins = point_holds(alloc, at, theta, &point, allowance)?;
     let goes_on = direction_holds(alloc, at, theta, &direction)?;
     let is_value = is_value_of(alloc, &own, &point, lp.objective)?;
@@ -152,6 +154,7 @@ pub fn past_pair_holds(
     };
     let point = column_of(alloc, &pair.point, allowance)?;
     let direction = column_of(alloc, &pair.direction, allowance)?;
+    take_sums(allowance, lp, &direction)?;
     let begins = point_holds(alloc, &at, theta, &point, allowance)?;
     let keeps = equations_hold(alloc, lp, &direction)?;
     let free = direction_is_free(alloc, lp, &direction);

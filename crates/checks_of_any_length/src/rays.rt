@@ -17,7 +17,7 @@ ghost use Rattle.checks_of_any_length.specs.Orders.{negative_by, at_most_by};
 
 use frac128::Frac;
 use listing_words::{Allowance, Number};
-use long_points::both;
+use long_points::{both, take_sums};
 use long_programs::{ChangeAt, ProgramAt};
 use long_rays::{limits_order, ray_vanishes, shift_order};
 use long_vectors::{Value, column_of};
@@ -62,6 +62,7 @@ pub fn ray_holds(
         (infeasible_steps (program_of at.now.lp.now at.now.change x) (value_at ray.now))) }
 {
     let column = column_of(alloc, ray, allowance)?;
+    take_sums(allowance, at.lp, &column)?;
     let vanishes = ray_vanishes(alloc, at.lp, &column)?;
     let order = limits_order(alloc, at, &column, theta)?;
     let contradicts = is_negative(order);
@@ -92,6 +93,7 @@ pub fn past_ray_holds(
         change: ChangeAt::Set(shift),
     };
     let column = column_of(alloc, ray, allowance)?;
+    take_sums(allowance, lp, &column)?;
     let vanishes = ray_vanishes(alloc, lp, &column)?;
     let order = limits_order(alloc, &at, &column, theta)?;
     let fall = shift_order(alloc, lp, shift, &column)?;

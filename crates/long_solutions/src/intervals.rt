@@ -23,9 +23,10 @@ use crate::verdicts::judged;
 use listing_claims::{AskedRun, Columns, Part, Stop};
 use listing_tables::Sheet;
 use listing_words::{Allowance, Number};
-use long_points::{End, all_prices_keep, both, optimal};
+use long_points::{End, all_prices_keep, both, optimal, take_sums};
 use long_programs::{ProgramAt, Spread, change_at, spread_by};
 use long_vectors::{Column, Value, along, column_of, value_of};
+use lp_model::Lp;
 use std::alloc::{AllocError, Global};
 use std::cmp::Ordering;
 
@@ -151,6 +152,12 @@ fn last_end(
     Ok(End { point, prices })
 }
 
+// Takes from the allowance what the sums of a point and of prices are.
+fn take_end(allowance: &mut Allowance, lp: &Lp, end: &End) -> Result<(), AllocError> {
+    take_sums(allowance, lp, &end.point.column)?;
+    take_sums(allowance, lp, &end.prices.column)
+}
+
 // Whether both ends are best, and what they keep between them.
 fn ends_hold(
     alloc: Global,
@@ -172,8 +179,10 @@ fn ends_hold(
         AreOver columns lines → Answers holds (ends_verdict sheet changing first last columns)) }
 {
     let start = end_at(alloc, from, &lines, allowance)?;
+    take_end(allowance, at.lp, &start)?;
     let begins = optimal(alloc, at, &start.point, &start.prices)?;
     let end = last_end(alloc, to, lines, allowance)?;
+    take_end(allowance, at.lp, &end)?;
     let closes = optimal(alloc, at, &end.point, &end.prices)?;
     let keeps = all_prices_keep(alloc, at, &start, &end)?;
     let rest = both(closes, keeps);
