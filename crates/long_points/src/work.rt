@@ -4,6 +4,13 @@ use long_vectors::Column;
 use lp_model::Lp;
 use std::alloc::AllocError;
 
+/// A sum with one number counts as so many products with each limb of what is added: it is multiplied, and then added.
+const PRODUCTS_OF_A_NUMBER: usize = 2;
+
+/// A variable counts as so many numbers beside those of its column: it is compared with its limits, each by a sum of three products, and
+/// its own number is one of the sum of its row.
+const NUMBERS_OF_A_VARIABLE: usize = 10;
+
 // How many numbers the columns of a linear program have.
 fn count_of_entries(lp: &Lp) -> usize {
     let mut count: usize = 0;
@@ -11,6 +18,12 @@ fn count_of_entries(lp: &Lp) -> usize {
         count = count.saturating_add(lp.column(j + 1).len());
     }
     count
+}
+
+// How many numbers of a linear program a vector is tested with.
+fn count_of_numbers(lp: &Lp) -> usize {
+    let variables = lp.number_of_variables() as usize;
+    count_of_entries(lp).saturating_add(variables.saturating_mul(NUMBERS_OF_A_VARIABLE))
 }
 
 // The limbs of the longest number of a vector.
@@ -25,9 +38,9 @@ fn most_limbs(column: &Column) -> usize {
     most
 }
 
-/// Takes from the allowance what the sums of a vector over the rows, or over the columns, of a linear program are: a product of each number
-/// of the program with each limb of the vector's longest number.
+/// Takes from the allowance what the sums of a vector with the numbers of a linear program are, in its rows or its columns and at its
+/// limits, as if each number of the vector were as long as its longest one.
 pub fn take_sums(allowance: &mut Allowance, lp: &Lp, column: &Column) -> Result<(), AllocError> {
-    let count = count_of_entries(lp);
-    allowance.take(count.saturating_mul(most_limbs(column)))
+    let products = count_of_numbers(lp).saturating_mul(PRODUCTS_OF_A_NUMBER);
+    allowance.take(products.saturating_mul(most_limbs(column)))
 }
