@@ -17,7 +17,7 @@ ghost use Rattle.checks_of_any_length.specs.Orders.{improves_past};
 
 use listing_claims::Pair;
 use listing_words::{Allowance, Number};
-use long_points::{both, counted, equations_hold, feasible, sign_of, take_sums};
+use long_points::{both, counted, equations_hold, feasible, sign_of, take_spread, take_sums};
 use long_programs::{ChangeAt, ProgramAt, spread_by, top_of};
 use long_rays::{direction_is_free, is_value_of, objective_order};
 use long_solutions::is_at_most;
@@ -67,7 +67,7 @@ fn point_holds(
         (feasible_point (program_of at.now.lp.now at.now.change x) (value_at z))) }
 {
     let point = spread_by(alloc, theta, column, allowance)?;
-    take_sums(allowance, at.lp, &point.column)?;
+    take_spread(allowance, at.lp, &point)?;
     let holds = feasible(alloc, at, &point)?;
     Ok(holds)
 }

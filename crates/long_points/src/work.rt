@@ -1,5 +1,6 @@
 // How much work the sums over a linear program are.
 use listing_words::Allowance;
+use long_programs::Spread;
 use long_vectors::Column;
 use lp_model::Lp;
 use std::alloc::AllocError;
@@ -26,9 +27,9 @@ fn count_of_numbers(lp: &Lp) -> usize {
     count_of_entries(lp).saturating_add(variables.saturating_mul(NUMBERS_OF_A_VARIABLE))
 }
 
-// The limbs of the longest number of a vector.
+// The limbs of the longest number of a vector, or of its denominator.
 fn most_limbs(column: &Column) -> usize {
-    let mut most: usize = 0;
+    let mut most = column.bottom.size().limbs().len();
     for top in &column.tops {
         let limbs = top.size().limbs().len();
         if limbs > most {
@@ -38,9 +39,25 @@ fn most_limbs(column: &Column) -> usize {
     most
 }
 
+// Takes what the sums of so long numbers with those of a linear program are.
+fn take_long(allowance: &mut Allowance, lp: &Lp, limbs: usize) -> Result<(), AllocError> {
+    let products = count_of_numbers(lp).saturating_mul(PRODUCTS_OF_A_NUMBER);
+    allowance.take(products.saturating_mul(limbs))
+}
+
 /// Takes from the allowance what the sums of a vector with the numbers of a linear program are, in its rows or its columns and at its
 /// limits, as if each number of the vector were as long as its longest one.
 pub fn take_sums(allowance: &mut Allowance, lp: &Lp, column: &Column) -> Result<(), AllocError> {
-    let products = count_of_numbers(lp).saturating_mul(PRODUCTS_OF_A_NUMBER);
-    allowance.take(products.saturating_mul(most_limbs(column)))
+    take_long(allowance, lp, most_limbs(column))
+}
+
+/// The same for a vector over whose denominator the parameter is a whole number.
+pub fn take_spread(allowance: &mut Allowance, lp: &Lp, spread: &Spread) -> Result<(), AllocError> {
+    let limbs = most_limbs(&spread.column);
+    let moved = spread.moved.size().limbs().len();
+    if moved > limbs {
+        take_long(allowance, lp, moved)
+    } else {
+        take_long(allowance, lp, limbs)
+    }
 }

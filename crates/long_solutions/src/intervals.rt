@@ -23,7 +23,7 @@ use crate::verdicts::judged;
 use listing_claims::{AskedRun, Columns, Part, Stop};
 use listing_tables::Sheet;
 use listing_words::{Allowance, Number};
-use long_points::{End, all_prices_keep, both, optimal, take_sums};
+use long_points::{End, all_prices_keep, both, optimal, take_spread};
 use long_programs::{ProgramAt, Spread, change_at, spread_by};
 use long_vectors::{Column, Value, along, column_of, value_of};
 use lp_model::Lp;
@@ -154,8 +154,8 @@ fn last_end(
 
 // Takes from the allowance what the sums of a point and of prices are.
 fn take_end(allowance: &mut Allowance, lp: &Lp, end: &End) -> Result<(), AllocError> {
-    take_sums(allowance, lp, &end.point.column)?;
-    take_sums(allowance, lp, &end.prices.column)
+    take_spread(allowance, lp, &end.point)?;
+    take_spread(allowance, lp, &end.prices)
 }
 
 // Whether both ends are best, and what they keep between them.

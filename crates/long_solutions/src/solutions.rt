@@ -20,7 +20,7 @@ use listing_definitions::Mark;
 use listing_tables::Sheet;
 use listing_words::{Allowance, Number};
 use long_points::{
-    both, equations_hold, limits_hold, prices_stand, reduced_costs_hold, slacks_hold, take_sums,
+    both, equations_hold, limits_hold, prices_stand, reduced_costs_hold, slacks_hold, take_spread,
 };
 use long_programs::{Spread, as_it_is, spread_own};
 use long_vectors::column_of;
@@ -111,8 +111,8 @@ fn printed_holds(
     let price_column = column_of(alloc, &printed.prices, allowance)?;
     let point = spread_own(alloc, lp, point_column, allowance)?;
     let prices = spread_own(alloc, lp, price_column, allowance)?;
-    take_sums(allowance, lp, &point.column)?;
-    take_sums(allowance, lp, &prices.column)?;
+    take_spread(allowance, lp, &point)?;
+    take_spread(allowance, lp, &prices)?;
     let holds = values_hold(alloc, lp, mark, &point, &prices, &printed.slacks)?;
     Ok(holds)
 }
