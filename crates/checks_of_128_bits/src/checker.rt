@@ -10,7 +10,7 @@ use frac128::Frac;
 use listing_claims::{AskedRun, Checks, Claim, Closing, Part, Printed, Stop};
 use listing_definitions::Mark;
 use listing_tables::Sheet;
-use listing_words::{Number, fraction_in};
+use listing_words::{Allowance, Number, fraction_in};
 use lp_model::{Lp, NoMemory};
 use std::alloc::Global;
 
@@ -45,7 +45,12 @@ impl Checks for Of128Bits {
         is_checked
     }
 
-    fn test_claim(alloc: Global, lp: &Lp, claim: &Claim<'_>) -> Result<(), Stop> {
+    fn test_claim(
+        alloc: Global,
+        lp: &Lp,
+        claim: &Claim<'_>,
+        _allowance: &mut Allowance,
+    ) -> Result<(), Stop> {
         check_claim(alloc, lp, claim)
     }
 
@@ -54,6 +59,7 @@ impl Checks for Of128Bits {
         sheet: Sheet<'_>,
         request: &AskedRun<'_>,
         claim: &Claim<'_>,
+        _allowance: &mut Allowance,
     ) -> Result<(), Stop> {
         check_opening(alloc, sheet, request, claim)
     }
@@ -63,6 +69,7 @@ impl Checks for Of128Bits {
         sheet: Sheet<'_>,
         mark: Mark,
         printed: &Printed<'_>,
+        _allowance: &mut Allowance,
     ) -> Result<(), Stop> {
         check_printed(alloc, sheet, mark, printed)
     }
@@ -74,6 +81,7 @@ impl Checks for Of128Bits {
         is_first: bool,
         from: &Number<'_>,
         part: &Part<'_>,
+        _allowance: &mut Allowance,
     ) -> Result<(), Stop> {
         check_part(alloc, sheet, request, is_first, from, part)
     }
@@ -84,6 +92,7 @@ impl Checks for Of128Bits {
         request: &AskedRun<'_>,
         last: &Number<'_>,
         closing: &Closing<'_>,
+        _allowance: &mut Allowance,
     ) -> Result<(), Stop> {
         check_closing(alloc, sheet, request, last, closing)
     }

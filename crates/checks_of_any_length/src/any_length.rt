@@ -8,7 +8,7 @@ use frac128::Frac;
 use listing_claims::{AskedRun, Checks, Claim, Closing, Part, Printed, Stop};
 use listing_definitions::Mark;
 use listing_tables::Sheet;
-use listing_words::Number;
+use listing_words::{Allowance, Number};
 use long_numbers::is_number;
 use long_solutions::{exceeds, test_interval, test_solution};
 use lp_model::{Lp, NoMemory};
@@ -51,8 +51,13 @@ impl Checks for OfAnyLength {
         true
     }
 
-    fn test_claim(alloc: Global, lp: &Lp, claim: &Claim<'_>) -> Result<(), Stop> {
-        test_claim(alloc, lp, claim)
+    fn test_claim(
+        alloc: Global,
+        lp: &Lp,
+        claim: &Claim<'_>,
+        allowance: &mut Allowance,
+    ) -> Result<(), Stop> {
+        test_claim(alloc, lp, claim, allowance)
     }
 
     fn test_opening(
@@ -60,8 +65,9 @@ impl Checks for OfAnyLength {
         sheet: Sheet<'_>,
         request: &AskedRun<'_>,
         claim: &Claim<'_>,
+        allowance: &mut Allowance,
     ) -> Result<(), Stop> {
-        test_opening(alloc, sheet, request, claim)
+        test_opening(alloc, sheet, request, claim, allowance)
     }
 
     fn test_solution(
@@ -69,8 +75,9 @@ impl Checks for OfAnyLength {
         sheet: Sheet<'_>,
         mark: Mark,
         printed: &Printed<'_>,
+        allowance: &mut Allowance,
     ) -> Result<(), Stop> {
-        test_solution(alloc, sheet, mark, printed)
+        test_solution(alloc, sheet, mark, printed, allowance)
     }
 
     fn test_interval(
@@ -80,8 +87,9 @@ impl Checks for OfAnyLength {
         is_first: bool,
         from: &Number<'_>,
         part: &Part<'_>,
+        allowance: &mut Allowance,
     ) -> Result<(), Stop> {
-        test_interval(alloc, sheet, request, is_first, from, part)
+        test_interval(alloc, sheet, request, is_first, from, part, allowance)
     }
 
     fn test_close(
@@ -90,7 +98,8 @@ impl Checks for OfAnyLength {
         request: &AskedRun<'_>,
         last: &Number<'_>,
         closing: &Closing<'_>,
+        allowance: &mut Allowance,
     ) -> Result<(), Stop> {
-        test_close(alloc, sheet, request, last, closing)
+        test_close(alloc, sheet, request, last, closing, allowance)
     }
 }

@@ -17,6 +17,7 @@ use crate::directions::pair_holds;
 use crate::rays::ray_holds;
 use listing_claims::{AskedRun, Claim, Stop};
 use listing_tables::Sheet;
+use listing_words::Allowance;
 use long_programs::{ProgramAt, as_it_is, change_at, own_theta};
 use long_rays::limits_cross;
 use long_solutions::judged;
@@ -30,6 +31,7 @@ fn claim_holds(
     at: &ProgramAt<'_>,
     theta: &Value,
     claim: &Claim<'_>,
+    allowance: &mut Allowance,
 ) -> Result<bool, AllocError>
     requires change { IsChangeIn at.now.lp.now at.now.change }
     requires plain { IsPlain at.now.lp.now at.now.change }
@@ -47,34 +49,44 @@ fn claim_holds(
             Ok(crosses)
         }
         Claim::Infeasible(ray) => {
-            let shown = ray_holds(alloc, at, theta, ray)?;
+            let shown = ray_holds(alloc, at, theta, ray, allowance)?;
             Ok(shown)
         }
         Claim::Unbounded(objective, pair) => {
-            let goes_on = pair_holds(alloc, at, theta, objective, pair)?;
+            let goes_on = pair_holds(alloc, at, theta, objective, pair, allowance)?;
             Ok(goes_on)
         }
     }
 }
 
 // Whether a claim of a linear program passes.
-fn own_claim_holds(alloc: Global, lp: &Lp, claim: &Claim<'_>) -> Result<bool, AllocError>
+fn own_claim_holds(
+    alloc: Global,
+    lp: &Lp,
+    claim: &Claim<'_>,
+    allowance: &mut Allowance,
+) -> Result<bool, AllocError>
     requires { Fits lp.now claim.now }
     ensures { IfOk result
         (λ holds. Answers holds (claim_test checker_of_any_length lp.now claim.now)) }
 {
     let at = as_it_is(lp);
     let theta = own_theta(alloc, lp)?;
-    let holds = claim_holds(alloc, &at, &theta, claim)?;
+    let holds = claim_holds(alloc, &at, &theta, claim, allowance)?;
     Ok(holds)
 }
 
 /// Tests a claim of a linear program.
-pub fn test_claim(alloc: Global, lp: &Lp, claim: &Claim<'_>) -> Result<(), Stop>
+pub fn test_claim(
+    alloc: Global,
+    lp: &Lp,
+    claim: &Claim<'_>,
+    allowance: &mut Allowance,
+) -> Result<(), Stop>
     requires { Fits lp.now claim.now }
     ensures { Judges (claim_test checker_of_any_length lp.now claim.now) result }
 {
-    match own_claim_holds(alloc, lp, claim) {
+    match own_claim_holds(alloc, lp, claim, allowance) {
         Ok(holds) => judged(holds),
         Err(_) => Err(Stop::NoMemory),
     }
@@ -86,6 +98,7 @@ fn opening_holds(
     sheet: Sheet<'_>,
     request: &AskedRun<'_>,
     claim: &Claim<'_>,
+    allowance: &mut Allowance,
 ) -> Result<bool, AllocError>
     requires asked { IsAskedOf sheet request.now }
     requires fits { Fits sheet.lp.now claim.now }
@@ -100,7 +113,7 @@ fn opening_holds(
         change: change_at(&request.change),
     };
     let theta = value_of(alloc, &request.from)?;
-    let holds = claim_holds(alloc, &at, &theta, claim)?;
+    let holds = claim_holds(alloc, &at, &theta, claim, allowance)?;
     Ok(holds)
 }
 
@@ -110,6 +123,7 @@ pub fn test_opening(
     sheet: Sheet<'_>,
     request: &AskedRun<'_>,
     claim: &Claim<'_>,
+    allowance: &mut Allowance,
 ) -> Result<(), Stop>
     requires asked { IsAskedOf sheet request.now }
     requires fits { Fits sheet.lp.now claim.now }
@@ -118,7 +132,7 @@ pub fn test_opening(
         (changing_of request.now.name request.now.change)
         request.now.from claim.now) result }
 {
-    match opening_holds(alloc, sheet, request, claim) {
+    match opening_holds(alloc, sheet, request, claim, allowance) {
         Ok(holds) => judged(holds),
         Err(_) => Err(Stop::NoMemory),
     }

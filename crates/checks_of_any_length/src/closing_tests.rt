@@ -20,7 +20,7 @@ use crate::rays::past_ray_holds;
 use frac128::Frac;
 use listing_claims::{AskedRun, Closing, Pair, Stop};
 use listing_tables::Sheet;
-use listing_words::Number;
+use listing_words::{Allowance, Number};
 use long_points::both;
 use long_solutions::{compare_values, compare_with_fraction, judged};
 use long_vectors::{Value, value_of};
@@ -77,6 +77,7 @@ fn unbounded_holds(
     last: &Value,
     value: &Number<'_>,
     pair: &Pair<'_>,
+    allowance: &mut Allowance,
 ) -> Result<bool, AllocError>
     requires serves { ServesChange sheet.problem.now sheet.lp.now request.now.name request.now.change }
     requires pair { IsPairOf sheet.lp.now pair.now }
@@ -89,7 +90,7 @@ fn unbounded_holds(
         Change::Row(row) => {
             let theta = value_of(alloc, value)?;
             let past = goes_past(alloc, &theta, last, request.to)?;
-            let shown = past_pair_holds(alloc, sheet.lp, *row, &theta, pair)?;
+            let shown = past_pair_holds(alloc, sheet.lp, *row, &theta, pair, allowance)?;
             Ok(both(past, shown))
         }
         Change::Set(_) => Ok(false),
@@ -104,6 +105,7 @@ fn infeasible_holds(
     last: &Value,
     value: &Number<'_>,
     ray: &[Number<'_>],
+    allowance: &mut Allowance,
 ) -> Result<bool, AllocError>
     requires serves { ServesChange sheet.problem.now sheet.lp.now request.now.name request.now.change }
     requires places { length ray.now ≡ size sheet.lp.now.matrix }
@@ -117,7 +119,7 @@ fn infeasible_holds(
         Change::Set(shift) => {
             let theta = value_of(alloc, value)?;
             let past = goes_past(alloc, &theta, last, request.to)?;
-            let shown = past_ray_holds(alloc, sheet.lp, shift, &theta, ray)?;
+            let shown = past_ray_holds(alloc, sheet.lp, shift, &theta, ray, allowance)?;
             Ok(both(past, shown))
         }
     }
@@ -130,6 +132,7 @@ fn closing_holds(
     request: &AskedRun<'_>,
     last: &Number<'_>,
     closing: &Closing<'_>,
+    allowance: &mut Allowance,
 ) -> Result<bool, AllocError>
     requires serves { ServesChange sheet.problem.now sheet.lp.now request.now.name request.now.change }
     requires fits { ClosingFits sheet.lp.now closing.now }
@@ -146,11 +149,11 @@ fn closing_holds(
             Ok(ends)
         }
         Closing::Unbounded(value, pair) => {
-            let goes_on = unbounded_holds(alloc, sheet, request, &end, value, pair)?;
+            let goes_on = unbounded_holds(alloc, sheet, request, &end, value, pair, allowance)?;
             Ok(goes_on)
         }
         Closing::Infeasible(value, ray) => {
-            let shown = infeasible_holds(alloc, sheet, request, &end, value, ray)?;
+            let shown = infeasible_holds(alloc, sheet, request, &end, value, ray, allowance)?;
             Ok(shown)
         }
     }
@@ -163,6 +166,7 @@ pub fn test_close(
     request: &AskedRun<'_>,
     last: &Number<'_>,
     closing: &Closing<'_>,
+    allowance: &mut Allowance,
 ) -> Result<(), Stop>
     requires asked { IsAskedOf sheet request.now }
     requires fits { ClosingFits sheet.lp.now closing.now }
@@ -171,7 +175,7 @@ pub fn test_close(
         (changing_of request.now.name request.now.change)
         request.now.to last.now closing.now) result }
 {
-    match closing_holds(alloc, sheet, request, last, closing) {
+    match closing_holds(alloc, sheet, request, last, closing, allowance) {
         Ok(holds) => judged(holds),
         Err(_) => Err(Stop::NoMemory),
     }

@@ -16,8 +16,8 @@ ghost use Rattle.long_solutions.specs.Lines.{IsNumber};
 ghost use Rattle.checks_of_any_length.specs.Orders.{improves_past};
 
 use listing_claims::Pair;
-use listing_words::Number;
-use long_points::{both, counted, equations_hold, feasible, sign_of};
+use listing_words::{Allowance, Number};
+use long_points::{both, counted, equations_hold, feasible, sign_of, take_spread, take_sums};
 use long_programs::{ChangeAt, ProgramAt, spread_by, top_of};
 use long_rays::{direction_is_free, is_value_of, objective_order};
 use long_solutions::is_at_most;
@@ -56,6 +56,7 @@ fn point_holds(
     at: &ProgramAt<'_>,
     theta: &Value,
     column: &Column,
+    allowance: &mut Allowance,
 ) -> Result<bool, AllocError>
     requires change { IsChangeIn at.now.lp.now at.now.change }
     requires number { IsNumber theta.now }
@@ -65,7 +66,8 @@ fn point_holds(
         IsTrue holds ↔ AllHold
         (feasible_point (program_of at.now.lp.now at.now.change x) (value_at z))) }
 {
-    let point = spread_by(alloc, theta, column)?;
+    let point = spread_by(alloc, theta, column, allowance)?;
+    take_spread(allowance, at.lp, &point)?;
     let holds = feasible(alloc, at, &point)?;
     Ok(holds)
 }
@@ -77,6 +79,7 @@ pub fn pair_holds(
     theta: &Value,
     objective: &Number<'_>,
     pair: &Pair<'_>,
+    allowance: &mut Allowance,
 ) -> Result<bool, AllocError>
     requires change { IsChangeIn at.now.lp.now at.now.change }
     requires plain { IsPlain at.now.lp.now at.now.change }
@@ -90,9 +93,10 @@ pub fn pair_holds(
     let lp = at.lp;
     let _size = lp.number_of_variables();
     let own = value_of(alloc, objective)?;
-    let point = column_of(alloc, &pair.point)?;
-    let direction = column_of(alloc, &pair.direction)?;
-    let begins = point_holds(alloc, at, theta, &point)?;
+    let point = column_of(alloc, &pair.point, allowance)?;
+    let direction = column_of(alloc, &pair.direction, allowance)?;
+    take_sums(allowance, lp, &direction)?;
+    let begins = point_holds(alloc, at, theta, &point, allowance)?;
     let goes_on = direction_holds(alloc, at, theta, &direction)?;
     let is_value = is_value_of(alloc, &own, &point, lp.objective)?;
     let proof = both(begins, goes_on);
@@ -132,6 +136,7 @@ pub fn past_pair_holds(
     row: u32,
     theta: &Value,
     pair: &Pair<'_>,
+    allowance: &mut Allowance,
 ) -> Result<bool, AllocError>
     requires row { IsRow lp.now.matrix row }
     requires number { IsNumber theta.now }
@@ -147,9 +152,10 @@ pub fn past_pair_holds(
         lp,
         change: ChangeAt::Unchanged,
     };
-    let point = column_of(alloc, &pair.point)?;
-    let direction = column_of(alloc, &pair.direction)?;
-    let begins = point_holds(alloc, &at, theta, &point)?;
+    let point = column_of(alloc, &pair.point, allowance)?;
+    let direction = column_of(alloc, &pair.direction, allowance)?;
+    take_sums(allowance, lp, &direction)?;
+    let begins = point_holds(alloc, &at, theta, &point, allowance)?;
     let keeps = equations_hold(alloc, lp, &direction)?;
     let free = direction_is_free(alloc, lp, &direction);
     let improves = past_improves(alloc, lp, row, theta, &direction)?;

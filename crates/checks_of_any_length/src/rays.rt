@@ -16,11 +16,11 @@ ghost use Rattle.long_solutions.specs.Answers.{Answers};
 ghost use Rattle.checks_of_any_length.specs.Orders.{negative_by, at_most_by};
 
 use frac128::Frac;
-use listing_words::Number;
-use long_points::both;
+use listing_words::{Allowance, Number};
+use long_points::{both, take_sums};
 use long_programs::{ChangeAt, ProgramAt};
 use long_rays::{limits_order, ray_vanishes, shift_order};
-use long_vectors::{Value, column_of};
+use long_vectors::{Column, Value, column_of, take_products};
 use lp_model::Lp;
 use std::alloc::{AllocError, Global};
 use std::cmp::Ordering;
@@ -46,12 +46,25 @@ fn is_at_most(order: Option<Ordering>) -> bool
     }
 }
 
+// Takes from the allowance what the sums of multipliers are, and their products with both numbers of theta.
+fn take_ray(
+    allowance: &mut Allowance,
+    lp: &Lp,
+    ray: &Column,
+    theta: &Value,
+) -> Result<(), AllocError> {
+    take_sums(allowance, lp, ray)?;
+    take_products(allowance, ray, &theta.top)?;
+    take_products(allowance, ray, &theta.bottom)
+}
+
 /// Whether multipliers show that no point is feasible at theta.
 pub fn ray_holds(
     alloc: Global,
     at: &ProgramAt<'_>,
     theta: &Value,
     ray: &[Number<'_>],
+    allowance: &mut Allowance,
 ) -> Result<bool, AllocError>
     requires change { IsChangeIn at.now.lp.now at.now.change }
     requires places { length ray.now ≡ size at.now.lp.now.matrix }
@@ -60,7 +73,8 @@ pub fn ray_holds(
         IsTrue holds ↔ AllHold
         (infeasible_steps (program_of at.now.lp.now at.now.change x) (value_at ray.now))) }
 {
-    let column = column_of(alloc, ray)?;
+    let column = column_of(alloc, ray, allowance)?;
+    take_ray(allowance, at.lp, &column, theta)?;
     let vanishes = ray_vanishes(alloc, at.lp, &column)?;
     let order = limits_order(alloc, at, &column, theta)?;
     let contradicts = is_negative(order);
@@ -74,6 +88,7 @@ pub fn past_ray_holds(
     shift: &[Frac],
     theta: &Value,
     ray: &[Number<'_>],
+    allowance: &mut Allowance,
 ) -> Result<bool, AllocError>
     requires shifts { length shift.now ≡ lp.now.matrix.rows }
     requires places { length ray.now ≡ size lp.now.matrix }
@@ -89,7 +104,8 @@ pub fn past_ray_holds(
         lp,
         change: ChangeAt::Set(shift),
     };
-    let column = column_of(alloc, ray)?;
+    let column = column_of(alloc, ray, allowance)?;
+    take_ray(allowance, lp, &column, theta)?;
     let vanishes = ray_vanishes(alloc, lp, &column)?;
     let order = limits_order(alloc, &at, &column, theta)?;
     let fall = shift_order(alloc, lp, shift, &column)?;

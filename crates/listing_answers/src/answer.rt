@@ -83,7 +83,9 @@ pub fn answer_to_path<'a, T: Checks>(
         cursor.new result }
 {
     let stated = verdict::<T>(alloc, cursor, sheet, solver)?;
-    T::test_claim(alloc, sheet.lp, &stated.claim)?;
+    let mut allowance = cursor.allowance();
+    T::test_claim(alloc, sheet.lp, &stated.claim, &mut allowance)?;
+    cursor.set_allowance(allowance);
     take_word::<T>(&stated)?;
     Ok(comes_to(&stated))
 }
@@ -105,7 +107,9 @@ pub fn answer_to_solution<'a, T: Checks>(
 {
     let lines = solution_lines::<T>(alloc, cursor, sheet, mark)?;
     let printed = printed_of(alloc, &lines)?;
-    T::test_solution(alloc, sheet, mark, &printed)?;
+    let mut allowance = cursor.allowance();
+    T::test_solution(alloc, sheet, mark, &printed, &mut allowance)?;
+    cursor.set_allowance(allowance);
     Ok(objective_of(sheet.lp, &printed.point))
 }
 
@@ -126,7 +130,7 @@ pub fn answer_to_parametric_run<'a, T: Checks>(
         (sheet_view sheet.entry) cursor.old)
         cursor.new result }
 {
-    let mut ahead = Cursor::new(cursor.left());
+    let mut ahead = cursor.again();
     if !take_parametric_run_head(&mut ahead, request) {
         let mark = read_opening::<T>(alloc, cursor, sheet, request)?;
         return Ok(ParametricRunAnswer::Opened(mark));

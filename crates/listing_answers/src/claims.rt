@@ -159,7 +159,7 @@ fn try_optimal<'a, T: Checks>(
         (Tried (sheet_view sheet.entry)
         (optimal_in (number_in T.checker by)) cursor.old cursor.new) }
 {
-    let mut ahead = Cursor::new(cursor.left());
+    let mut ahead = cursor.again();
     let Some(stated) = optimal::<T>(alloc, &mut ahead, by, sheet)? else {
         return Ok(None);
     };
@@ -171,7 +171,7 @@ fn try_optimal<'a, T: Checks>(
 fn try_crossed<'a>(cursor: &mut Cursor<'a>, sheet: Sheet<'_>) -> Option<Stated<'a>>
     ensures { Tried (sheet_view sheet.entry) crossed_in cursor.old cursor.new result }
 {
-    let mut ahead = Cursor::new(cursor.left());
+    let mut ahead = cursor.again();
     let stated = crossed(&mut ahead, sheet)?;
     *cursor = ahead;
     Some(stated)
@@ -189,7 +189,7 @@ fn try_infeasible<'a, T: Checks>(
         (Tried (sheet_view sheet.entry)
         (infeasible_in (number_in T.checker by)) cursor.old cursor.new) }
 {
-    let mut ahead = Cursor::new(cursor.left());
+    let mut ahead = cursor.again();
     let Some(stated) = infeasible::<T>(alloc, &mut ahead, by, sheet)? else {
         return Ok(None);
     };

@@ -51,7 +51,7 @@ fn try_end<'a, T: Checks>(
 ) -> Result<Option<Number<'a>>, NoMemory>
     ensures { IfOk result (IsEndRead (number_in T.checker by) cursor.old cursor.new) }
 {
-    let mut ahead = Cursor::new(cursor.left());
+    let mut ahead = cursor.again();
     let Some(value) = value_line::<T>(alloc, &mut ahead, by, b" ENDS AT ")? else {
         return Ok(None);
     };
@@ -214,6 +214,8 @@ pub fn read_close<'a, T: Checks>(
         (parametric_solver changing)) cursor.old) cursor.new result }
 {
     let closing = run_closing::<T>(alloc, cursor, sheet, request)?;
-    T::test_close(alloc, sheet, request, last, &closing)?;
+    let mut allowance = cursor.allowance();
+    T::test_close(alloc, sheet, request, last, &closing, &mut allowance)?;
+    cursor.set_allowance(allowance);
     Ok(value_of(&closing))
 }

@@ -208,6 +208,16 @@ pub fn read_part<'a, T: Checks>(
         (sheet_view sheet.entry) number last.now) cursor.old) cursor.new result }
 {
     let part = interval::<T>(alloc, cursor, sheet, number, last)?;
-    T::test_interval(alloc, sheet, request, number == 1, last, &part)?;
+    let mut allowance = cursor.allowance();
+    T::test_interval(
+        alloc,
+        sheet,
+        request,
+        number == 1,
+        last,
+        &part,
+        &mut allowance,
+    )?;
+    cursor.set_allowance(allowance);
     Ok(part.to)
 }

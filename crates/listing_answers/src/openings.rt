@@ -120,7 +120,9 @@ pub fn read_opening<T: Checks>(
         (parametric_run_of limit request.now) cursor.old) cursor.new result }
 {
     let stated = verdict::<T>(alloc, cursor, sheet, solver_of(request))?;
-    T::test_opening(alloc, sheet, request, &stated.claim)?;
+    let mut allowance = cursor.allowance();
+    T::test_opening(alloc, sheet, request, &stated.claim, &mut allowance)?;
+    cursor.set_allowance(allowance);
     take_word::<T>(&stated)?;
     Ok(mark_left(&stated.claim))
 }

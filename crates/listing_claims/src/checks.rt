@@ -18,12 +18,13 @@ use crate::claims::{AskedRun, Claim, Closing, Part, Printed, Stop};
 use frac128::Frac;
 use listing_definitions::Mark;
 use listing_tables::Sheet;
-use listing_words::Number;
+use listing_words::{Allowance, Number};
 use lp_model::{Lp, NoMemory};
 use std::alloc::Global;
 
 /// How a checker reads numbers and tests claims. Each test may be made in any order and by any means: the verdict that it lets pass, or
-/// by which it stops, is that of the definition.
+/// by which it stops, is that of the definition. What a test takes for its columns it takes from the allowance of the listing; where that
+/// isn't enough there is no memory.
 pub trait Checks {
     ghost use Rattle.std.specs.Prelude.{is_some, true};
     ghost use Rattle.listing_definitions.specs.Report.{Check};
@@ -53,7 +54,12 @@ pub trait Checks {
             checker.takes check ≡ result };
 
     /// Tests what a verdict claims of a linear program. An optimal one passes: it is tested where SOLUTION shows it.
-    fn test_claim(alloc: Global, lp: &Lp, claim: &Claim<'_>) -> Result<(), Stop>
+    fn test_claim(
+        alloc: Global,
+        lp: &Lp,
+        claim: &Claim<'_>,
+        allowance: &mut Allowance,
+    ) -> Result<(), Stop>
         requires lawful { IsLinearProgram lp.now }
         requires fits { Fits lp.now claim.now }
         ensures { Judges (claim_test checker lp.now claim.now) result };
@@ -64,6 +70,7 @@ pub trait Checks {
         sheet: Sheet<'_>,
         request: &AskedRun<'_>,
         claim: &Claim<'_>,
+        allowance: &mut Allowance,
     ) -> Result<(), Stop>
         requires asked { IsAskedOf sheet request.now }
         requires fits { Fits sheet.lp.now claim.now }
@@ -78,6 +85,7 @@ pub trait Checks {
         sheet: Sheet<'_>,
         mark: Mark,
         printed: &Printed<'_>,
+        allowance: &mut Allowance,
     ) -> Result<(), Stop>
         requires lawful { IsLinearProgram sheet.lp.now }
         requires counted { Counted sheet.lp.now printed.now }
@@ -93,6 +101,7 @@ pub trait Checks {
         is_first: bool,
         from: &Number<'_>,
         part: &Part<'_>,
+        allowance: &mut Allowance,
     ) -> Result<(), Stop>
         requires asked { IsAskedOf sheet request.now }
         requires counted { AreCounted sheet.lp.now part.now.columns }
@@ -108,6 +117,7 @@ pub trait Checks {
         request: &AskedRun<'_>,
         last: &Number<'_>,
         closing: &Closing<'_>,
+        allowance: &mut Allowance,
     ) -> Result<(), Stop>
         requires asked { IsAskedOf sheet request.now }
         requires fits { ClosingFits sheet.lp.now closing.now }

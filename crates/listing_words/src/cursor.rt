@@ -4,13 +4,15 @@ ghost use Rattle.std.specs.List.{position_or_len};
 ghost use Rattle.walk_definitions.specs.Words.{left_after, ends_word, word_in};
 ghost use Rattle.listing_words.specs.Read.{taken};
 
+use crate::allowance::Allowance;
 use std::marker::Model;
 
-/// A place in a text, seen as what is left of it.
+/// A place in a text, seen as what is left of it; and how much work the tests of what stands there may still take.
 #[derive(Drop)]
 pub struct Cursor<'a> {
     bytes: &'a [u8],
     at: usize,
+    allowance: Allowance,
 }
 
 impl<'a> Model for Cursor<'a> {
@@ -24,11 +26,38 @@ impl<'a> Model for Cursor<'a> {
 }
 
 impl<'a> Cursor<'a> {
-    /// At the beginning.
+    /// At the beginning, with the whole allowance.
     pub fn new(bytes: &'a [u8]) -> Cursor<'a>
         ensures { result ≡ bytes.now }
     {
-        Cursor { bytes, at: 0 }
+        Cursor {
+            bytes,
+            at: 0,
+            allowance: Allowance::new(),
+        }
+    }
+
+    /// The same place once more, with what is left of the allowance.
+    pub fn again(&self) -> Cursor<'a>
+        ensures { result ≡ self.now }
+    {
+        Cursor {
+            bytes: self.bytes,
+            at: self.at,
+            allowance: self.allowance,
+        }
+    }
+
+    /// What is left of the allowance. What a test takes of it is set again behind the test.
+    pub fn allowance(&self) -> Allowance {
+        self.allowance
+    }
+
+    /// Sets what is left of the allowance.
+    pub fn set_allowance(&mut self, allowance: Allowance)
+        ensures { self.new ≡ self.old }
+    {
+        self.allowance = allowance;
     }
 
     /// What is left.

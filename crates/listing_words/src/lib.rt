@@ -2,11 +2,13 @@
 //! copied, and no memory is taken.
 #![tactic(auto)]
 
+mod allowance;
 mod cursor;
 mod number;
 mod numbers;
 mod slash;
 
+pub use allowance::Allowance;
 pub use cursor::Cursor;
 pub use number::Number;
 pub use numbers::{count_in, fraction_in};

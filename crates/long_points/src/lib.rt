@@ -7,9 +7,11 @@ mod limits;
 mod prices;
 mod rows;
 mod slacks;
+mod work;
 
 pub use keeping::{End, all_prices_keep};
 pub use limits::{asked_by, both, counted, feasible, limits_hold, optimal, prices_stand, sign_of};
 pub use prices::{column_sum, reduced_costs_hold};
 pub use rows::{column_top, equations_hold};
 pub use slacks::slacks_hold;
+pub use work::{take_spread, take_sums};

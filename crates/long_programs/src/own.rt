@@ -10,6 +10,7 @@ use crate::spreads::{Spread, spread_by};
 use exact_sums::{denominator_of, numerator_of};
 use frac128::Frac;
 use integers::Integer;
+use listing_words::Allowance;
 use long_vectors::{Column, Value};
 use lp_model::Lp;
 use std::alloc::{AllocError, Global};
@@ -55,12 +56,17 @@ pub fn own_theta(alloc: Global, lp: &Lp) -> Result<Value, AllocError>
 }
 
 /// A vector over a denominator over which theta of the change row that a linear program has is a whole number too.
-pub fn spread_own(alloc: Global, lp: &Lp, column: Column) -> Result<Spread, AllocError>
+pub fn spread_own(
+    alloc: Global,
+    lp: &Lp,
+    column: Column,
+    allowance: &mut Allowance,
+) -> Result<Spread, AllocError>
     ensures { IfOk result
         (λ made. (values : List ℚ) → IsOver values column →
         IsSpread values (own_theta lp.now) made) }
 {
     let theta = own_theta(alloc, lp)?;
-    let made = spread_by(alloc, &theta, &column)?;
+    let made = spread_by(alloc, &theta, &column, allowance)?;
     Ok(made)
 }

@@ -22,10 +22,11 @@ use crate::values::{compare_values, compare_with_fraction, is_at_most};
 use crate::verdicts::judged;
 use listing_claims::{AskedRun, Columns, Part, Stop};
 use listing_tables::Sheet;
-use listing_words::Number;
-use long_points::{End, all_prices_keep, both, optimal};
+use listing_words::{Allowance, Number};
+use long_points::{End, all_prices_keep, both, optimal, take_spread};
 use long_programs::{ProgramAt, Spread, change_at, spread_by};
 use long_vectors::{Column, Value, along, column_of, value_of};
+use lp_model::Lp;
 use std::alloc::{AllocError, Global};
 use std::cmp::Ordering;
 
@@ -39,13 +40,17 @@ pub struct Lines {
 }
 
 // The lines of an interval over denominators.
-fn lines_of(alloc: Global, columns: &Columns<'_>) -> Result<Lines, AllocError>
+fn lines_of(
+    alloc: Global,
+    columns: &Columns<'_>,
+    allowance: &mut Allowance,
+) -> Result<Lines, AllocError>
     ensures { IfOk result (AreOver columns.now) }
 {
-    let value = column_of(alloc, &columns.value)?;
-    let value_rate = column_of(alloc, &columns.value_rate)?;
-    let price = column_of(alloc, &columns.price)?;
-    let price_rate = column_of(alloc, &columns.price_rate)?;
+    let value = column_of(alloc, &columns.value, allowance)?;
+    let value_rate = column_of(alloc, &columns.value_rate, allowance)?;
+    let price = column_of(alloc, &columns.price, allowance)?;
+    let price_rate = column_of(alloc, &columns.price_rate, allowance)?;
     Ok(Lines {
         value,
         value_rate,
@@ -60,37 +65,49 @@ fn numbers_at(
     theta: &Value,
     value: &Column,
     rate: &Column,
+    allowance: &mut Allowance,
 ) -> Result<Spread, AllocError>
     requires { length value.now.tops.items ≡ length rate.now.tops.items }
     ensures { IfOk result
         (λ made. (x : ℚ) (values rates : List ℚ) → IsValue x theta.now → IsOver values value.now →
         IsOver rates rate.now → IsSpread (list_along x values rates) x made) }
 {
-    let column = along(alloc, theta, value, rate)?;
-    let made = spread_by(alloc, theta, &column)?;
+    let column = along(alloc, theta, value, rate, allowance)?;
+    let made = spread_by(alloc, theta, &column, allowance)?;
     Ok(made)
 }
 
 // The point and the prices at theta.
-fn end_at(alloc: Global, theta: &Value, lines: &Lines) -> Result<End, AllocError>
+fn end_at(
+    alloc: Global,
+    theta: &Value,
+    lines: &Lines,
+    allowance: &mut Allowance,
+) -> Result<End, AllocError>
     requires lines { (p : LinearProgram) × AreLinesOf p lines.now }
     ensures { IfOk result
         (λ end. (x : ℚ) (columns : ColumnsView) → IsValue x theta.now → AreOver columns lines.now →
         IsEnd (points_at x columns) x end) }
 {
-    let point = numbers_at(alloc, theta, &lines.value, &lines.value_rate)?;
-    let prices = numbers_at(alloc, theta, &lines.price, &lines.price_rate)?;
+    let point = numbers_at(alloc, theta, &lines.value, &lines.value_rate, allowance)?;
+    let prices = numbers_at(alloc, theta, &lines.price, &lines.price_rate, allowance)?;
     Ok(End { point, prices })
 }
 
 // Two lines at theta, which are let go.
-fn joined(alloc: Global, theta: &Value, value: Column, rate: Column) -> Result<Column, AllocError>
+fn joined(
+    alloc: Global,
+    theta: &Value,
+    value: Column,
+    rate: Column,
+    allowance: &mut Allowance,
+) -> Result<Column, AllocError>
     requires { length value.tops.items ≡ length rate.tops.items }
     ensures { IfOk result
         (λ made. (x : ℚ) (values rates : List ℚ) → IsValue x theta.now → IsOver values value →
         IsOver rates rate → IsOver (list_along x values rates) made) }
 {
-    let made = along(alloc, theta, &value, &rate)?;
+    let made = along(alloc, theta, &value, &rate, allowance)?;
     Ok(made)
 }
 
@@ -100,19 +117,25 @@ fn last_numbers(
     theta: &Value,
     value: Column,
     rate: Column,
+    allowance: &mut Allowance,
 ) -> Result<Spread, AllocError>
     requires { length value.tops.items ≡ length rate.tops.items }
     ensures { IfOk result
         (λ made. (x : ℚ) (values rates : List ℚ) → IsValue x theta.now → IsOver values value →
         IsOver rates rate → IsSpread (list_along x values rates) x made) }
 {
-    let column = joined(alloc, theta, value, rate)?;
-    let made = spread_by(alloc, theta, &column)?;
+    let column = joined(alloc, theta, value, rate, allowance)?;
+    let made = spread_by(alloc, theta, &column, allowance)?;
     Ok(made)
 }
 
 // The point and the prices at theta, of lines that are let go.
-fn last_end(alloc: Global, theta: &Value, lines: Lines) -> Result<End, AllocError>
+fn last_end(
+    alloc: Global,
+    theta: &Value,
+    lines: Lines,
+    allowance: &mut Allowance,
+) -> Result<End, AllocError>
     requires lines { (p : LinearProgram) × AreLinesOf p lines }
     ensures { IfOk result
         (λ end. (x : ℚ) (columns : ColumnsView) → IsValue x theta.now → AreOver columns lines →
@@ -124,9 +147,15 @@ fn last_end(alloc: Global, theta: &Value, lines: Lines) -> Result<End, AllocErro
         price,
         price_rate,
     } = lines;
-    let point = last_numbers(alloc, theta, value, value_rate)?;
-    let prices = last_numbers(alloc, theta, price, price_rate)?;
+    let point = last_numbers(alloc, theta, value, value_rate, allowance)?;
+    let prices = last_numbers(alloc, theta, price, price_rate, allowance)?;
     Ok(End { point, prices })
+}
+
+// Takes from the allowance what the sums of a point and of prices are.
+fn take_end(allowance: &mut Allowance, lp: &Lp, end: &End) -> Result<(), AllocError> {
+    take_spread(allowance, lp, &end.point)?;
+    take_spread(allowance, lp, &end.prices)
 }
 
 // Whether both ends are best, and what they keep between them.
@@ -136,6 +165,7 @@ fn ends_hold(
     from: &Value,
     to: &Value,
     lines: Lines,
+    allowance: &mut Allowance,
 ) -> Result<bool, AllocError>
     requires change { IsChangeIn at.now.lp.now at.now.change }
     requires plain { IsPlain at.now.lp.now at.now.change }
@@ -148,9 +178,11 @@ fn ends_hold(
         AreCounted sheet.lp columns → IsValue first from.now → IsValue last to.now →
         AreOver columns lines → Answers holds (ends_verdict sheet changing first last columns)) }
 {
-    let start = end_at(alloc, from, &lines)?;
+    let start = end_at(alloc, from, &lines, allowance)?;
+    take_end(allowance, at.lp, &start)?;
     let begins = optimal(alloc, at, &start.point, &start.prices)?;
-    let end = last_end(alloc, to, lines)?;
+    let end = last_end(alloc, to, lines, allowance)?;
+    take_end(allowance, at.lp, &end)?;
     let closes = optimal(alloc, at, &end.point, &end.prices)?;
     let keeps = all_prices_keep(alloc, at, &start, &end)?;
     let rest = both(closes, keeps);
@@ -172,6 +204,7 @@ fn interval_holds(
     is_first: bool,
     from: &Number<'_>,
     part: &Part<'_>,
+    allowance: &mut Allowance,
 ) -> Result<bool, AllocError>
     requires asked { IsAskedOf sheet request.now }
     requires counted { AreCounted sheet.lp.now part.now.columns }
@@ -187,12 +220,12 @@ fn interval_holds(
     };
     let first = value_of(alloc, from)?;
     let last = value_of(alloc, &part.to)?;
-    let lines = lines_of(alloc, &part.columns)?;
+    let lines = lines_of(alloc, &part.columns, allowance)?;
     let order = compare_values(alloc, &first, &last)?;
     let most = compare_with_fraction(alloc, &last, request.to)?;
     let goes = goes_on(order, is_first);
     let within = is_at_most(most);
-    let ends = ends_hold(alloc, &at, &first, &last, lines)?;
+    let ends = ends_hold(alloc, &at, &first, &last, lines, allowance)?;
     let rest = both(within, ends);
     Ok(both(goes, rest))
 }
@@ -205,6 +238,7 @@ pub fn test_interval(
     is_first: bool,
     from: &Number<'_>,
     part: &Part<'_>,
+    allowance: &mut Allowance,
 ) -> Result<(), Stop>
     requires asked { IsAskedOf sheet request.now }
     requires counted { AreCounted sheet.lp.now part.now.columns }
@@ -213,7 +247,7 @@ pub fn test_interval(
         (changing_of request.now.name request.now.change) from.now
         part.now.to part.now.columns is_first request.now.to) result }
 {
-    match interval_holds(alloc, sheet, request, is_first, from, part) {
+    match interval_holds(alloc, sheet, request, is_first, from, part, allowance) {
         Ok(holds) => judged(holds),
         Err(_) => Err(Stop::NoMemory),
     }

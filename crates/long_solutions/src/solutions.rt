@@ -18,9 +18,9 @@ use crate::verdicts::judged;
 use listing_claims::{Printed, Stop};
 use listing_definitions::Mark;
 use listing_tables::Sheet;
-use listing_words::Number;
+use listing_words::{Allowance, Number};
 use long_points::{
-    both, equations_hold, limits_hold, prices_stand, reduced_costs_hold, slacks_hold,
+    both, equations_hold, limits_hold, prices_stand, reduced_costs_hold, slacks_hold, take_spread,
 };
 use long_programs::{Spread, as_it_is, spread_own};
 use long_vectors::column_of;
@@ -98,6 +98,7 @@ fn printed_holds(
     lp: &Lp,
     mark: Mark,
     printed: &Printed<'_>,
+    allowance: &mut Allowance,
 ) -> Result<bool, AllocError>
     requires { Counted lp.now printed.now }
     ensures { IfOk result (λ holds. (problem : Problem ℕ) →
@@ -106,10 +107,12 @@ fn printed_holds(
         (value_at printed.now.point.items)
         (value_at printed.now.prices.items) (value_at printed.now.slacks.items))) }
 {
-    let point_column = column_of(alloc, &printed.point)?;
-    let price_column = column_of(alloc, &printed.prices)?;
-    let point = spread_own(alloc, lp, point_column)?;
-    let prices = spread_own(alloc, lp, price_column)?;
+    let point_column = column_of(alloc, &printed.point, allowance)?;
+    let price_column = column_of(alloc, &printed.prices, allowance)?;
+    let point = spread_own(alloc, lp, point_column, allowance)?;
+    let prices = spread_own(alloc, lp, price_column, allowance)?;
+    take_spread(allowance, lp, &point)?;
+    take_spread(allowance, lp, &prices)?;
     let holds = values_hold(alloc, lp, mark, &point, &prices, &printed.slacks)?;
     Ok(holds)
 }
@@ -120,6 +123,7 @@ pub fn test_solution(
     sheet: Sheet<'_>,
     mark: Mark,
     printed: &Printed<'_>,
+    allowance: &mut Allowance,
 ) -> Result<(), Stop>
     requires lawful { IsLinearProgram sheet.lp.now }
     requires counted { Counted sheet.lp.now printed.now }
@@ -129,7 +133,7 @@ pub fn test_solution(
         (value_at printed.now.prices.items) (value_at printed.now.slacks.items)) result }
 {
     let lp = sheet.lp;
-    match printed_holds(alloc, lp, mark, printed) {
+    match printed_holds(alloc, lp, mark, printed, allowance) {
         Ok(holds) => judged(holds),
         Err(_) => Err(Stop::NoMemory),
     }

@@ -1,4 +1,4 @@
-use Rattle.std.proofs.Common.{◌≡◌, List, ap, sym, subst, ◌∙◌}
+use Rattle.std.proofs.Common.{◌≡◌, List, Some, ap, sym, subst, ◌∙◌}
 use Rattle.exact_values.specs.Rational.{ℚ}
 use Rattle.lp_definitions.specs.LinearProgram.{value_at}
 use Rattle.check_definitions.specs.declared.Verdict.{Verdict}
@@ -48,11 +48,12 @@ returns g c =
     let sheet = sheet_view c.args.sheet in
     let found = c.in_ok-lines.ensures in
     let shows = printed_shows sheet c.in_ok-lines.lines found.answer c.in_ok-printed.printed found.shows c.in_ok-printed.ensures in
+    let left = found.is_found ∙ ap (λ rest. Some (found.answer, rest)) (sym c.set_allowance.ensures) in
     record {
       answer = found.answer;
       is_right =
           right_by C (λ of. solution_in of sheet c.args.mark) c.args.cursor.now
-          (solution_test C sheet c.args.mark) found.answer c.solution_lines.new.cursor found.is_found
+          (solution_test C sheet c.args.mark) found.answer c.set_allowance.new.self left
           (sym (printed_tested C sheet c.args.mark c.in_ok-printed.printed found.answer shows) ∙ c.in_ok-test_solution.ensures);
       shows = c.objective_of.ensures ∙ ap (λ (z : List ℚ). value_at z sheet.lp.objective) (c.deref.ensures.value ∙ shows.point);
     }

@@ -1,4 +1,4 @@
-use Rattle.std.proofs.Common.{sym, subst, ◌∙◌}
+use Rattle.std.proofs.Common.{Some, ap, sym, subst, ◌∙◌}
 use Rattle.check_definitions.specs.declared.Verdict.{Verdict}
 use Rattle.question_definitions.specs.Answers.{parametric_solver}
 use Rattle.parametric_request.specs.Asking.{changing_of}
@@ -51,11 +51,12 @@ returns g c =
     let changing = changing_of c.args.request.now.name c.args.request.now.change in
     let max = c.args.request.now.to in
     let found = c.in_ok-closing.ensures in
+    let left = found.is_found ∙ ap (λ rest. Some (found.answer, rest)) (sym c.set_allowance.ensures) in
     record {
       answer = found.answer;
       is_right =
           right_by C (λ of. close_in of sheet (parametric_solver changing)) c.args.cursor.now
-          (close_test C sheet changing max c.args.last.now) found.answer c.run_closing.new.cursor found.is_found
+          (close_test C sheet changing max c.args.last.now) found.answer c.set_allowance.new.self left
           (sym (closing_tested C sheet changing max c.args.last.now c.in_ok-closing.closing found.answer found.shows) ∙ c.in_ok-test_close.ensures);
       shows = c.value_of.ensures ∙ closing_value sheet c.in_ok-closing.closing found.answer found.shows;
     }

@@ -1,4 +1,4 @@
-use Rattle.std.proofs.Common.{nat_eq, sym, subst, ◌∙◌}
+use Rattle.std.proofs.Common.{nat_eq, Some, ap, sym, subst, ◌∙◌}
 use Rattle.check_definitions.specs.declared.Verdict.{Verdict}
 use Rattle.parametric_request.specs.Asking.{changing_of}
 use Rattle.walk_definitions.specs.Tests.{interval_test}
@@ -50,11 +50,12 @@ returns g c =
     let first = nat_eq c.args.number 1 in
     let max = c.args.request.now.to in
     let found = c.in_ok-part.ensures in
+    let left = found.is_found ∙ ap (λ rest. Some (found.answer, rest)) (sym c.set_allowance.ensures) in
     record {
       answer = found.answer;
       is_right =
           right_by C (λ of. interval_in of sheet c.args.number c.args.last.now) c.args.cursor.now
-          (interval_test C sheet changing first max) found.answer c.interval.new.cursor found.is_found
+          (interval_test C sheet changing first max) found.answer c.set_allowance.new.self left
           (sym (part_tested C sheet changing first max c.args.last.now c.in_ok-part.part found.answer found.shows) ∙ c.in_ok-test_interval.ensures);
       shows = sym found.shows.ends;
     }

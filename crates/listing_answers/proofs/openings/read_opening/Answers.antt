@@ -1,4 +1,4 @@
-use Rattle.std.proofs.Common.{[], ◌∷◌, ap, sym, subst, ◌∙◌}
+use Rattle.std.proofs.Common.{[], ◌∷◌, Some, ap, sym, subst, ◌∙◌}
 use Rattle.check_definitions.specs.Steps.{in_turn}
 use Rattle.listing_definitions.specs.declared.Solver.{Solver}
 use Rattle.question_definitions.specs.Answers.{parametric_solver, Opening}
@@ -72,7 +72,7 @@ returns-in_err-take_word g c limit =
     subst (λ (solver : Solver). IsFound (IsStated sheet)
     (verdict_in (fraction_in C) sheet solver c.args.cursor.now) c.verdict.new.cursor stated) c.solver_of.ensures c.in_ok-stated.ensures in
     let stop = c.in_err-take_word.field-0.0 in
-    handed_on IsOpened (judged_map made judged) c.verdict.new.cursor c.from_residual-in_err-take_word.result stop
+    handed_on IsOpened (judged_map made judged) c.set_allowance.new.self c.from_residual-in_err-take_word.result stop
     (made_stops made judged stop
     (test_stops C (λ of. verdict_in of sheet (parametric_solver changing)) c.args.cursor.now test found.answer c.verdict.new.cursor stop found.is_found
     (opening_word_stops C sheet other
@@ -94,11 +94,12 @@ returns g c limit =
     let found =
     subst (λ (solver : Solver). IsFound (IsStated sheet)
     (verdict_in (fraction_in C) sheet solver c.args.cursor.now) c.verdict.new.cursor stated) c.solver_of.ensures c.in_ok-stated.ensures in
+    let left = found.is_found ∙ ap (λ rest. Some (found.answer, rest)) (sym c.set_allowance.ensures) in
     record {
       answer = Opening [] found.answer.0 found.answer.1;
       is_right =
           ap (judged_map made)
-          (right_by C (λ of. verdict_in of sheet (parametric_solver changing)) c.args.cursor.now test found.answer c.verdict.new.cursor found.is_found
+          (right_by C (λ of. verdict_in of sheet (parametric_solver changing)) c.args.cursor.now test found.answer c.set_allowance.new.self left
           (opening_passes C sheet other
           (family_matrix sheet changing from) making stated.claim found.answer.0 found.answer.1 found.shows.says c.in_ok-test_opening.ensures
           (c.in_ok-take_word.ensures found.answer.1 (sym found.shows.says_check))));
