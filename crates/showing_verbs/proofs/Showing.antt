@@ -6,7 +6,7 @@ use Rattle.job_devices.specs.Text.{Writes}
 use Rattle.exact_values.specs.Rational.{ℚ}
 use Rattle.lp_definitions.specs.LinearProgram.{Matrix, LinearProgram}
 use Rattle.lp_definitions.specs.Basis.{Basics, basics_of, IsOptimalBasis}
-use Rattle.lp_definitions.specs.Waypoints.{waypoint, KeepsWaypoints}
+use Rattle.lp_definitions.specs.Waypoints.{waypoint}
 use Rattle.lp_definitions.specs.declared.Evidence.{Evidence}
 use Rattle.simplex_definitions.specs.Statements.{Solution as SolutionStatement}
 use Rattle.problem_definitions.specs.Problem.{Problem}
@@ -46,7 +46,7 @@ use Rattle.setup_verbs.specs.Standing.{IsPresent, IsSolved, ShowsSetup, Represen
 use Rattle.setup_verbs.specs.Statements.{LeadsTo, Executes}
 use Rattle.run_machine.specs.Choosing.{refused_act, IsSelected}
 use Rattle.run_machine.specs.Findings.{ReportsFinding, act_of}
-use Rattle.showing_verbs.specs.Shown.{LinesFound, viewed, overflows, Shows}
+use Rattle.showing_verbs.specs.Shown.{LinesFound, viewed, overflows, Shows, IsSameSetup}
 use Rattle.setup_verbs.proofs.Selected.{same_matrix}
 use Rattle.run_machine.proofs.Giving.{quietly}
 use Rattle.setup_verbs.proofs.Giving.{gives_fault, gives_found, gives_selected}
@@ -92,14 +92,6 @@ lines_overflow sheet s before after mark e o place is fit =
     (o.shows earlier lie)) fit
 
 -- ---- a setup
-
--- the setup keeps all but what its engine has passed through
-pub record IsSameSetup (setup new : Setup) : Type 0 where
-  pub name : new.name ≡ setup.name
-  pub options : new.options ≡ setup.options
-  pub lp : new.lp ≡ setup.lp
-  pub basis : new.basis ≡ setup.basis
-  pub keeps : KeepsWaypoints setup.lp.matrix (basics_of setup.basis) setup.engine.waypoints (basics_of setup.basis) new.engine.waypoints
 
 pub still_selected : (cells : Cells) (file : Filed) (setup new : Setup) → IsSameSetup setup new →
     IsSelected file setup.name (choice_of cells setup.options) setup.lp → IsSelected file new.name (choice_of cells new.options) new.lp
