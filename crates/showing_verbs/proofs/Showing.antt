@@ -6,7 +6,8 @@ use Rattle.job_devices.specs.Text.{Writes}
 use Rattle.exact_values.specs.Rational.{ℚ}
 use Rattle.lp_definitions.specs.LinearProgram.{Matrix, LinearProgram}
 use Rattle.lp_definitions.specs.Basis.{Basics, basics_of, IsOptimalBasis}
-use Rattle.lp_definitions.specs.Waypoints.{waypoint}
+use Rattle.lp_definitions.specs.Waypoints.{waypoint, KeepsWaypoints}
+use Rattle.lp_model.specs.RatesState.{RatesState}
 use Rattle.lp_definitions.specs.declared.Evidence.{Evidence}
 use Rattle.simplex_definitions.specs.Statements.{Solution as SolutionStatement}
 use Rattle.problem_definitions.specs.Problem.{Problem}
@@ -107,6 +108,14 @@ still_solved cells file setup new mark k h = record {
       λ is. subst (λ (p : LinearProgram). IsOptimalBasis p new.basis) (sym k.lp)
       (subst (λ (b : Basis). IsOptimalBasis setup.lp b) (sym k.basis) (h.optimal is));
 }
+
+-- a call at its basis changes the engine of a setup alone
+pub same_setup : {setup old : Setup} → setup ≡ old → (engine : RatesState) →
+    KeepsWaypoints setup.lp.matrix (basics_of setup.basis) setup.engine.waypoints (basics_of setup.basis) engine.waypoints →
+    IsSameSetup old (record setup { engine = engine })
+same_setup {setup = setup} is_old engine keeps =
+    subst (λ (s : Setup). IsSameSetup s (record setup { engine = engine })) is_old
+    (record { name = refl; options = refl; lp = refl; basis = refl; keeps = keeps })
 
 -- the setup that code has opened, which is the one that is spoken of
 module _ (file : Filed) {setup old : Setup} (is_old : setup ≡ old) (mark : Mark) (there : Problem ℕ) (is_there : filed_under setup.name file ≡ Some there) where
