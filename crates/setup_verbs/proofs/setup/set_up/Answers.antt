@@ -15,11 +15,11 @@ returns-in_err-text_of-clause-acts g c = λ cards.
     let p = err_from_is_err_and c.from_residual.result c.from_residual.ensures.1 in
     rw (p.1, p.2)
     (setup_cut c.args.card cards c.args.machine.now c.args.options.now c.in-Ok.opened
-    c.in-Ok.ensures.opened _
-    (rw (ap (λ (options : SetupOptions). options.sense) c.options.view_is) at c.in_err-text_of.ensures))
+    c.in-Ok.ensures.opened
+    (ap (λ (options : SetupOptions). options.sense) c.options.view_is) _ c.in_err-text_of.ensures)
 
 pub returns-clause-acts : goal.returns-clause-acts
 returns-clause-acts g c = λ cards.
     setup_done c.args.card cards c.args.machine.now c.args.options.now c.in-Ok.opened
     c.in-Ok.ensures.opened
-    (rw (ap (λ (options : SetupOptions). options.sense) c.options.view_is) at c.in_ok-text_of.ensures)
+    (ap (λ (options : SetupOptions). options.sense) c.options.view_is) c.in_ok-text_of.ensures
