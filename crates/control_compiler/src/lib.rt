@@ -12,4 +12,4 @@ pub use card_reader::CardStop;
 pub use compiler::compile;
 pub use control_definitions::{ControlFault, ControlFaultKind, Demand, NameCell, NumberCell};
 pub use control_verbs::{SetupOptions, Statement, Text, Verb};
-pub use program::Program;
+pub use program::{Program, RunInput};

@@ -3,6 +3,7 @@ ghost use Rattle.std.specs.Prelude.{◌≡◌, ◌≤◌, ◌-◌, length, map, 
 ghost use Rattle.control_verbs.specs.Views.{statement_view};
 ghost use Rattle.control_compiler.specs.Valid.{IsProgram};
 
+use card_reader::Cards;
 use control_verbs::Statement;
 use std::marker::Model;
 
@@ -12,6 +13,13 @@ use std::marker::Model;
 pub struct Program {
     statements: Vec<Statement<u32>>,
     decks_from: u32,
+}
+
+/// What a run goes by: a compiled program, and the cards of its job.
+#[derive(Clone, Copy)]
+pub struct RunInput<'a> {
+    pub program: &'a Program,
+    pub cards: &'a Cards,
 }
 
 impl Model for Program {

@@ -2,7 +2,6 @@ pub mod Gains
 pub mod Reported
 pub mod Underway
 pub mod Answering
-pub mod Clamping
 pub mod Stepping
 pub mod EndingLines
 pub mod Sound

@@ -9,22 +9,15 @@ ghost use Rattle.setup_verbs.specs.Statements.{Performs};
 ghost use Rattle.control_run.specs.Running.{Steps};
 
 use card_reader::Cards;
-use control_compiler::{Program, Statement, Verb};
+use control_compiler::{RunInput, Statement, Verb};
 use job_devices::Sink;
 use lp_model::Engine;
 use parametric_request::ParametricVerb;
-use run_machine::{Act, AfterStatement, Halt, Machine};
+use run_machine::{Act, AfterStatement, DeckVerb, Halt, Machine, SolvingVerb};
 use setup_verbs::{Setup, insert_basis, punch_present, set_up};
 use showing_verbs::{show_ranges, show_solution};
-use solving_verbs::{SolvingVerb, show_parametric_run, solve};
+use solving_verbs::{show_parametric_run, solve};
 use std::alloc::Global;
-
-/// What a run goes by: a compiled program, and the cards of its job.
-#[derive(Clone, Copy)]
-pub struct RunInput<'a> {
-    pub program: &'a Program,
-    pub cards: &'a Cards,
-}
 
 /// Does what a statement says.
 fn execute<E: Engine, P: Sink, U: Sink>(
@@ -52,12 +45,12 @@ fn execute<E: Engine, P: Sink, U: Sink>(
         Verb::MoveLimit(limit) => Ok(machine.move_limit(*limit)),
         Verb::Mvadr(demand, position) => Ok(machine.set_demand(*demand, *position)),
         Verb::Goto(position) => Ok(machine.jump(*position)),
-        Verb::Convert => machine.convert(alloc, cards, print, card),
+        Verb::Convert => machine.make_problem(alloc, DeckVerb::Convert, cards, print, card),
         Verb::Setup(options) => set_up(alloc, machine, print, card, options),
         Verb::Primal => solve(alloc, machine, print, card, SolvingVerb::Primal),
         Verb::Dual => solve(alloc, machine, print, card, SolvingVerb::Dual),
         Verb::Solution => show_solution(alloc, machine, print, card),
-        Verb::Revise => machine.revise(alloc, cards, print, card),
+        Verb::Revise => machine.make_problem(alloc, DeckVerb::Revise, cards, print, card),
         Verb::Ranging => show_ranges(alloc, machine, print, card),
         Verb::Paraobj => show_parametric_run(alloc, machine, print, card, ParametricVerb::Paraobj),
         Verb::Pararhs => show_parametric_run(alloc, machine, print, card, ParametricVerb::Pararhs),

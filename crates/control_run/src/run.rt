@@ -1,39 +1,25 @@
 // The run of a program.
-ghost use Rattle.std.specs.Prelude.{◌≡◌, ◌≤◌, ◌-◌, ◌+◌, length, drop};
-ghost use Rattle.card_definitions.specs.Cards.{numbered_cards};
+ghost use Rattle.std.specs.Prelude.{◌≤◌, length};
 ghost use Rattle.run_definitions.specs.State.{start};
 ghost use Rattle.fitting_answers.specs.Real.{linear_programming_of_128_bits};
 ghost use Rattle.setup_verbs.specs.Standing.{IsSound, Represents};
 ghost use Rattle.control_run.specs.Running.{decks_after, Runs};
 ghost use Rattle.control_run.specs.Ended.{IsEndOfRun};
 
-use crate::execute::{RunInput, step};
+use crate::execute::step;
 use crate::finish::{finish, finish_halted};
 use crate::status::RunStatus;
 use card_reader::Cards;
-use control_compiler::Program;
+use control_compiler::{Program, RunInput};
 use job_devices::Sink;
 use lp_model::Engine;
 use reinversion::ProductForm;
-use run_machine::{AfterStatement, End, Halt, Machine};
+use run_machine::{AfterStatement, End, Halt, MAX_EXECUTED, Machine};
 use setup_verbs::Setup;
 use std::alloc::Global;
 
 /// What keeps the rates of a run.
 pub type RunEngine = ProductForm;
-
-/// A run executes at most so many statements.
-const MAX_EXECUTED: u32 = 100_000;
-
-// The number of the first card after the program; where the job has none, it is one more than that of its last card.
-fn first_after(program: &Program, cards: &Cards) -> u32
-    ensures first { 1 ≤ result }
-    ensures last { result ≤ length cards.now + 1 }
-    ensures same { drop (result - 1) (numbered_cards cards.now) ≡ drop (program.now.decks_from - 1)
-        (numbered_cards cards.now) }
-{
-    program.decks_from().max(1).min(cards.count() + 1)
-}
 
 // Executes the statements of a program, from the first one until the run ends.
 fn run_statements<E: Engine, P: Sink, U: Sink>(
@@ -77,8 +63,8 @@ fn run<E: Engine, P: Sink, U: Sink>(
         (P.taken print.old) (P.taken print.new) (U.taken punch.old) (U.taken punch.new)
         result }
 {
-    let first = first_after(input.program, input.cards);
-    let mut machine = Machine::<Setup<E>>::new(alloc, first);
+    let decks_from = input.program.decks_from();
+    let mut machine = Machine::<Setup<E>>::new(alloc, input.cards, decks_from);
     run_statements(alloc, &mut machine, input, print, punch)
 }
 

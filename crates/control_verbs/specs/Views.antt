@@ -4,7 +4,6 @@ use Rattle.card_definitions.specs.Words.{is_empty}
 use Rattle.control_definitions.specs.declared.TheConstants.{MAX_STEPS}
 use Rattle.control_definitions.specs.Program as program
 use Rattle.control_definitions.specs.Verbs as table
-use Rattle.control_verbs.specs.declared.verb.SetupOptions.{SetupOptions}
 use Rattle.control_verbs.specs.declared.verb.Verb.{Verb}
 use Rattle.control_verbs.specs.declared.verb.Verb.TheVariants.{Initialz, Title, MoveName, MoveNumber, MoveLimit, Mvadr, Goto, Convert, Setup, Primal, Dual, Revise, Ranging, Paraobj, Pararhs, Solution, Bcdout, Punch, Insert, Exit}
 use Rattle.control_verbs.specs.declared.verb.Statement.{Statement}
@@ -15,9 +14,6 @@ use Rattle.control_verbs.specs.declared.tables.VerbWord.TheVariants.{Alone, Take
 use Rattle.control_verbs.specs.declared.tables.Plain.{Plain}
 use Rattle.control_verbs.specs.declared.tables.Plain.TheVariants as plain
 
-abbrev pub options_view : SetupOptions → program.SetupOptions
-options_view options = record { bound = options.bound; range = options.range; sense = options.sense }
-
 abbrev pub viewed : {L : Type 0} → Verb L → program.Verb L
 viewed Initialz = program.Initialz
 viewed (Title text) = program.Title text
@@ -27,7 +23,7 @@ viewed (MoveLimit limit) = program.MoveLimit limit
 viewed (Mvadr demand label) = program.Mvadr demand label
 viewed (Goto label) = program.Goto label
 viewed Convert = program.Convert
-viewed (Setup options) = program.Setup (options_view options)
+viewed (Setup options) = program.Setup options
 viewed Primal = program.Primal
 viewed Dual = program.Dual
 viewed Revise = program.Revise

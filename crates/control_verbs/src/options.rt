@@ -5,7 +5,6 @@ ghost use Rattle.control_definitions.specs.Arguments.{set_words, sense_choice, s
 ghost use Rattle.control_definitions.specs.Arguments.{Direction as TheDirection};
 ghost use Rattle.card_definitions.specs.Words.{named};
 ghost use Rattle.control_verbs.specs.Pieces.{parts_after};
-ghost use Rattle.control_verbs.specs.Views.{options_view};
 ghost use Rattle.control_verbs.specs.Chosen.{set_view, choice_view, first_choice, after_first_word, added, all_added, nothing_chosen, chosen_options};
 
 use crate::given::name_in;
@@ -139,7 +138,7 @@ fn chosen_in(text: &[u8]) -> Option<Chosen>
 /// The options of SETUP that stand between parentheses.
 #[tactic(auto, using(crate::proofs::Choices::setup_is))]
 pub fn options_in(text: &[u8]) -> Option<SetupOptions>
-    ensures { option_map options_view result ≡ setup_arguments (split_outside is_comma text.now) }
+    ensures { result ≡ setup_arguments (split_outside is_comma text.now) }
 {
     let chosen = chosen_in(text)?;
     Some(SetupOptions {

@@ -5,13 +5,24 @@ use control_definitions::{Demand, NameCell, NumberCell};
 use frac128::Frac;
 use lp_definitions::Sense;
 use name_table::Name;
+use std::marker::Model;
 
-/// The sets that SETUP names, if it does, and whether it wants the least or the greatest objective.
+/// The options of SETUP: the bound set and the range set, if one is to apply, and what is to be best.
 #[derive(Clone, Copy, Debug)]
 pub struct SetupOptions {
     pub bound: Option<Name>,
     pub range: Option<Name>,
     pub sense: Sense,
+}
+
+impl Model for SetupOptions {
+    ghost use Rattle.control_definitions.specs.Program.{SetupOptions as Options};
+
+    ghost Value = { Options };
+
+    ghost view = { λ options. record { bound = options.bound; range = options.range; sense = options.sense } };
+
+    ghost inverse = { λ options. record { bound = options.bound; range = options.range; sense = options.sense } };
 }
 
 /// A verb with its arguments. `L` is what stands for a label: its name on a card, and a position in a program. A position is

@@ -3,7 +3,7 @@ use basis_deck::{CardStop, DeckFault, DeckFaultKind, read_basis};
 use card_reader::read_job;
 use job_devices::SureSource;
 use lp_model::{Basis, Lp, Sense, Status};
-use lp_setup::{Choice, SetupChoice, select};
+use lp_setup::{Choice, SetupOptions, select};
 use name_table::Name;
 use problem_file::Problem;
 use std::alloc::Global;
@@ -49,7 +49,7 @@ fn program_of(alloc: Global, problem: &Problem) -> Result<Lp, Fail> {
         [] => None,
         _ => Name::of(b"BND"),
     };
-    let options = SetupChoice {
+    let options = SetupOptions {
         bound,
         range: None,
         sense: Sense::Min,

@@ -7,7 +7,6 @@ mod SettingUp
 mod Sound
 mod HeldMoves
 mod HeldWalks
-mod Clamping
 mod Stepping
 mod Asked
 mod SolvingWalks

@@ -1,5 +1,5 @@
 -- What the verbs come to that select again by the present cells.
-use Rattle.std.proofs.Common.{◌≡◌, ℕ, ◌≤◌, true, List, [], Option, Some, None, IfSome, Result, Ok, Err, IfOk, refl, sym, ap, subst, ◌∙◌}
+use Rattle.std.proofs.Common.{◌≡◌, ℕ, ◌≤◌, true, List, [], Option, Some, None, IfSome, IsSome, Result, Ok, Err, IfOk, refl, sym, ap, subst, ◌∙◌}
 use Rattle.std.proofs.lemmas.Option.{same_Some}
 use Rattle.std.specs.declared.alloc.AllocError.{AllocError as NoMemory}
 use Rattle.lp_definitions.specs.LinearProgram.{LinearProgram}
@@ -78,8 +78,8 @@ pub ready_of : (file : Filed) (kept : Option Chosen) (chosen : Chosen) → kept 
 ready_of file kept chosen is h = subst (λ (o : Option Chosen). IfSome o (IsReady file)) is h
 
 pub stays_on_file : (file : Filed) (kept : Option Chosen) (chosen : Chosen) → kept ≡ Some chosen → IfSome kept (IsReady file) →
-    filed_under chosen.name file ≡ None → ⊥
-stays_on_file file kept chosen is h none = let on = (ready_of file kept chosen is h).on_file in cc
+    IsSome (filed_under chosen.name file)
+stays_on_file file kept chosen is h = subst IsSome (sym (ready_of file kept chosen is h).on_file) refl
 
 -- ---- a verb that selects again
 

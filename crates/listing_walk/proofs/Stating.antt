@@ -19,6 +19,9 @@ use Rattle.deck_definitions.specs.Conversion.{conversion}
 use Rattle.revise_definitions.specs.Revision.{revision}
 use Rattle.run_machine.specs.declared.act.Act.{Act}
 use Rattle.run_machine.specs.declared.machine.Machine.{Machine}
+use Rattle.run_machine.specs.declared.taking.DeckVerb.{DeckVerb}
+use Rattle.run_machine.specs.declared.taking.DeckVerb.TheVariants as deck_verb
+use Rattle.run_machine.specs.Describing.{verb_of}
 use Rattle.run_machine.specs.Statements.{Decides, Executes}
 use Rattle.run_machine.specs.Statements as statements
 use Rattle.run_machine.specs.Punching.{Performs}
@@ -69,18 +72,22 @@ pub plain_exit : (card : ℕ) → IsPlain Exit card
 unfolding verb_move
 plain_exit card = λ state. refl
 
-pub plain_convert : (card : ℕ) → IsPlain Convert card
+plain_convert : (card : ℕ) → IsPlain Convert card
 unfolding verb_move
 plain_convert card = λ state.
     plain_fault card DeckNotFound (deck_taken state.cells.xdata state.decks) _
     (λ taken. plain_deck (conversion taken.0 state.cells.xpbname) _ (λ problem. refl))
 
-pub plain_revise : (card : ℕ) → IsPlain Revise card
+plain_revise : (card : ℕ) → IsPlain Revise card
 unfolding verb_move
 plain_revise card = λ state.
     plain_fault card NoProblem (problem_of state.cells.xoldname state.file) _ (λ old.
     plain_fault card DeckNotFound (deck_taken state.cells.xdata state.decks) _
     (λ taken. plain_deck (revision old taken.0 state.cells.xpbname) _ (λ problem. refl)))
+
+pub plain_deck_verb : (verb : DeckVerb) (card : ℕ) → IsPlain (verb_of verb) card
+plain_deck_verb deck_verb.Convert = plain_convert
+plain_deck_verb deck_verb.Revise = plain_revise
 
 pub plain_bcdout : (card : ℕ) → IsPlain Bcdout card
 unfolding verb_move

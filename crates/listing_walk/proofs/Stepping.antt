@@ -132,11 +132,10 @@ module _ (C : Checker) (program : Program) (cards : List (List ℕ)) (listing : 
     pub reaches : Reaches C program (decks_after program cards) listing walker
     pub stands : Represents cards (holding last machine) position executed place walker
 
-  pub underway_first : (machine : Machine Chosen) (place : ListingPlace) (decks_from : ℕ) →
-      drop (decks_from - 1) (numbered_cards cards) ≡ drop (program.decks_from - 1) (numbered_cards cards) →
-      IsSound cards machine → machines.Represents IsView cards machine 1 0 (start (decks_of (drop (decks_from - 1) (numbered_cards cards)))) →
+  pub underway_first : (machine : Machine Chosen) (place : ListingPlace) →
+      IsSound cards machine → machines.Represents IsView cards machine 1 0 (start (decks_after program cards)) →
       place.cursor ≡ listing → place.pending ≡ None → place.reports ≡ 0 → IsUnderway None machine place 1 0
-  underway_first machine place decks_from same sound stands rest none no_reports = record {
+  underway_first machine place sound stands rest none no_reports = record {
     sound = sound;
     first = omega arith;
     within = omega arith;
@@ -144,7 +143,7 @@ module _ (C : Checker) (program : Program) (cards : List (List ℕ)) (listing : 
     walker = first_walker (decks_after program cards) listing;
     reaches = begun;
     stands = record {
-      state = subst (λ d. machines.Represents IsView cards machine 1 0 (start (decks_of d))) same stands;
+      state = stands;
       faces = record { rest = sym rest; pending = rw none refl; reports = sym no_reports };
     };
   }

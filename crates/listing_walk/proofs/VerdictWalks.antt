@@ -32,20 +32,16 @@ use Rattle.listing_walk.specs.declared.answering.Stopped.TheVariants.{Finds}
 use Rattle.listing_walk.specs.declared.selecting.Unselected.{Unselected}
 use Rattle.listing_walk.specs.declared.found.Found.{Found}
 use Rattle.listing_walk.specs.declared.place.ListingPlace.{ListingPlace}
-use Rattle.listing_walk.specs.declared.solving.SolvingVerb.{SolvingVerb}
-use Rattle.listing_walk.specs.declared.solving.SolvingVerb.TheVariants.{Primal, Dual}
+use Rattle.run_machine.specs.declared.solving.SolvingVerb.{SolvingVerb}
+use Rattle.run_machine.specs.declared.solving.SolvingVerb.TheVariants.{Primal, Dual}
 use Rattle.listing_walk.specs.declared.walk_step.WalkStep.{WalkStep}
 use Rattle.listing_walk.specs.declared.walk_step.WalkStep.TheVariants as walk_step
 use Rattle.listing_walk.specs.Choosing.{IsMade, IsNotMade}
 use Rattle.listing_walk.specs.Standing.{IsView, IsSound, Faces}
 use Rattle.listing_walk.specs.Walking.{TurnsTo, IsOutcome, Finishes, Passes, Walks, Refuses}
 use Rattle.listing_walk.specs.Asking.{Answered, IsMarked, IsStopStep}
-use Rattle.listing_walk.specs.SolvingVerbs.{verb_of, solver_of}
+use Rattle.run_machine.specs.SolvingVerbs.{verb_of, solver_of, limit_of}
 use Rattle.listing_walk.proofs.SolvingWalks.{present_with, selecting, no_setup_walks, refusal_walks, made_walks, verdict_comes}
-
-abbrev limit_of : SolvingVerb → Cells → Option ℕ
-limit_of Primal cells = cells.xiterlim
-limit_of Dual cells = Some (steps_allowed cells)
 
 abbrev sheet_of : Present → LinearProgram → Sheet
 sheet_of present lp = record { problem = present.problem; lp = lp }

@@ -4,6 +4,5 @@ pub mod Parameter
 pub mod Walking
 pub mod Choosing
 pub mod Asking
-pub mod SolvingVerbs
 pub mod ParametricVerbs
 pub mod Inserting

@@ -1,7 +1,7 @@
 // What SETUP keeps.
 
+use control_verbs::SetupOptions;
 use lp_model::Lp;
-use lp_setup::SetupChoice;
 use name_table::Name;
 use run_machine::Kept;
 
@@ -10,7 +10,7 @@ use run_machine::Kept;
 #[derive(Drop)]
 pub struct Chosen {
     pub name: Name,
-    pub options: SetupChoice,
+    pub options: SetupOptions,
     pub lp: Lp,
 }
 

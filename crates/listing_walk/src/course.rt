@@ -1,6 +1,5 @@
 // The walk.
-ghost use Rattle.std.specs.Prelude.{◌≡◌, ◌-◌, ◌+◌, ◌≤◌, [], IfOk, length, drop};
-ghost use Rattle.card_definitions.specs.Cards.{numbered_cards};
+ghost use Rattle.std.specs.Prelude.{◌≡◌, [], IfOk};
 ghost use Rattle.report_text.specs.Views.{IsEnding, ending_view};
 ghost use Rattle.walk_definitions.specs.Walker as walks;
 ghost use Rattle.walk_definitions.specs.Found.{first_walker};
@@ -12,25 +11,12 @@ use crate::found::Found;
 use crate::place::ListingPlace;
 use crate::walk_step::AfterStep;
 use card_reader::Cards;
-use control_compiler::Program;
+use control_compiler::{Program, RunInput};
 use job_devices::NoMemory;
 use listing_claims::Checks;
 use report_text::Ending;
-use run_machine::Machine;
+use run_machine::{MAX_EXECUTED, Machine};
 use std::alloc::Global;
-
-/// A run executes at most so many statements.
-const MAX_EXECUTED: u32 = 100_000;
-
-// The number of the first card after the program; where the job has none, it is one more than that of its last card.
-fn first_after(program: &Program, cards: &Cards) -> u32
-    ensures first { 1 ≤ result }
-    ensures last { result ≤ length cards.now + 1 }
-    ensures same { drop (result - 1) (numbered_cards cards.now) ≡ drop (program.now.decks_from - 1)
-        (numbered_cards cards.now) }
-{
-    program.decks_from().max(1).min(cards.count() + 1)
-}
 
 /// Walks along a compiled program over the cards of its job and along a listing, with the tests of a checker.
 pub fn walk<'a, T: Checks>(
@@ -41,7 +27,7 @@ pub fn walk<'a, T: Checks>(
 ) -> Result<Found<'a>, NoMemory>
     ensures { IfOk result (IsFoundBy T.checker program.now cards.now listing.now) }
 {
-    let mut machine = Machine::<Chosen>::new(alloc, first_after(program, cards));
+    let mut machine = Machine::<Chosen>::new(alloc, cards, program.decks_from());
     let mut place = ListingPlace::new(listing);
     let mut last = None;
     let mut position = 1;
@@ -51,15 +37,8 @@ pub fn walk<'a, T: Checks>(
             return place.close(alloc, &Ending::Statements);
         }
         executed += 1;
-        match step::<T>(
-            alloc,
-            &mut machine,
-            program,
-            cards,
-            &mut place,
-            &mut last,
-            position,
-        ) {
+        let input = RunInput { program, cards };
+        match step::<T>(alloc, &mut machine, input, &mut place, &mut last, position) {
             Ok(AfterStep::Goes(to)) => position = to,
             Ok(AfterStep::Finds(found)) => return Ok(found),
             Err(refused) => return Err(refused),

@@ -19,37 +19,37 @@ use crate::place::ListingPlace;
 use crate::reporting::{punch_basis, show_ranges};
 use crate::setup::set_up;
 use crate::solution::show_solution;
-use crate::solving::{SolvingVerb, solve};
-use crate::statements::{convert, punch_problem, revise, title};
+use crate::solving::solve;
+use crate::statements::{make_problem, punch_problem, title};
 use crate::walk_step::{AfterStep, WalkStep};
 use card_reader::Cards;
-use control_compiler::{Program, Verb};
+use control_compiler::{RunInput, Statement, Verb};
 use job_devices::NoMemory;
 use listing_claims::Checks;
 use listing_words::Number;
-use run_machine::Machine;
+use run_machine::{DeckVerb, Machine, SolvingVerb};
 use std::alloc::Global;
 
-// Follows the statement of a verb on a card that begins no parametric run.
+// Follows a statement that begins no parametric run.
 fn execute<'a, T: Checks>(
     alloc: Global,
     machine: &mut Machine<Chosen>,
     cards: &Cards,
     place: &mut ListingPlace<'a>,
-    card: u32,
-    verb: &Verb<u32>,
+    statement: &Statement<u32>,
 ) -> Result<WalkStep<'a>, NoMemory>
     requires sound { IsSound cards.now machine.old }
-    requires verb { IsSoundVerb (viewed verb.now) }
-    requires no_run { IsNoRun (use_of (viewed verb.now)) }
+    requires verb { IsSoundVerb (viewed statement.now.verb) }
+    requires no_run { IsNoRun (use_of (viewed statement.now.verb)) }
     requires few { place.old.reports < max_count }
     ensures walks { IfOk result
-        (Walks T.checker
-        (viewed verb.now) card cards.now machine.old machine.new place.old place.new) }
+        (Walks T.checker (viewed statement.now.verb) statement.now.card
+        cards.now machine.old machine.new place.old place.new) }
     ensures sound { IsSound cards.now machine.new }
     ensures few { place.new.reports ≤ place.old.reports + 1 }
 {
-    match verb {
+    let card = statement.card;
+    match &statement.verb {
         Verb::Initialz => {
             let act = machine.initialize();
             follow(alloc, machine, place, &act, &[])
@@ -75,9 +75,9 @@ fn execute<'a, T: Checks>(
             let act = machine.jump(*position);
             follow(alloc, machine, place, &act, &[])
         }
-        Verb::Convert => convert(alloc, machine, cards, place, card),
+        Verb::Convert => make_problem(alloc, machine, DeckVerb::Convert, cards, place, card),
         Verb::Setup(options) => set_up(alloc, machine, place, card, options),
-        Verb::Revise => revise(alloc, machine, cards, place, card),
+        Verb::Revise => make_problem(alloc, machine, DeckVerb::Revise, cards, place, card),
         Verb::Bcdout => punch_problem(alloc, machine, place, card),
         Verb::Exit => {
             let act = machine.exit();
@@ -93,62 +93,62 @@ fn execute<'a, T: Checks>(
     }
 }
 
-// Follows the statement of a verb that leaves XPARAM alone, where a run left a value there that no cell holds.
+// Follows a statement that leaves XPARAM alone, where a run left a value there that no cell holds.
 fn execute_apart<'a, T: Checks>(
     alloc: Global,
     machine: &mut Machine<Chosen>,
     cards: &Cards,
     place: &mut ListingPlace<'a>,
-    card: u32,
-    verb: &Verb<u32>,
+    statement: &Statement<u32>,
 ) -> Result<WalkStep<'a>, NoMemory>
     requires sound { IsSound cards.now machine.old }
-    requires verb { IsSoundVerb (viewed verb.now) }
-    requires apart { use_of (viewed verb.now) ≡ Neither }
+    requires verb { IsSoundVerb (viewed statement.now.verb) }
+    requires apart { use_of (viewed statement.now.verb) ≡ Neither }
     requires few { place.old.reports < max_count }
     ensures walks { (last : ℚ) →
         IfOk result
-        (Walks T.checker (viewed verb.now) card cards.now (holding (Some last) machine.old)
+        (Walks T.checker (viewed statement.now.verb) statement.now.card
+        cards.now (holding (Some last) machine.old)
         (holding (Some last) machine.new) place.old place.new) }
     ensures sound { IsSound cards.now machine.new }
     ensures few { place.new.reports ≤ place.old.reports + 1 }
 {
-    match execute::<T>(alloc, machine, cards, place, card, verb) {
+    match execute::<T>(alloc, machine, cards, place, statement) {
         Ok(next_step) => Ok(as_next(next_step)),
         Err(refused) => Err(refused),
     }
 }
 
-// Follows the statement of a verb, with what a run left in XPARAM where no cell holds it.
+// Follows a statement, with what a run left in XPARAM where no cell holds it.
 fn execute_with<'a, T: Checks>(
     alloc: Global,
     machine: &mut Machine<Chosen>,
     cards: &Cards,
     place: &mut ListingPlace<'a>,
     last: &mut Option<Number<'a>>,
-    card: u32,
-    verb: &Verb<u32>,
+    statement: &Statement<u32>,
 ) -> Result<WalkStep<'a>, NoMemory>
     requires sound { IsSound cards.now machine.old }
-    requires verb { IsSoundVerb (viewed verb.now) }
+    requires verb { IsSoundVerb (viewed statement.now.verb) }
     requires few { place.old.reports < max_count }
     ensures walks { IfOk result
-        (Walks T.checker (viewed verb.now) card cards.now (holding last.old machine.old)
+        (Walks T.checker (viewed statement.now.verb) statement.now.card
+        cards.now (holding last.old machine.old)
         (holding last.new machine.new) place.old place.new) }
     ensures sound { IsSound cards.now machine.new }
     ensures few { place.new.reports ≤ place.old.reports + 1 }
 {
-    match use_of(verb) {
+    match use_of(&statement.verb) {
         ParameterUse::Reads(asked) => {
-            parametric_run::<T>(alloc, machine, place, last, card, asked)
+            parametric_run::<T>(alloc, machine, place, last, statement.card, asked)
         }
         ParameterUse::Sets => {
             *last = None;
-            execute::<T>(alloc, machine, cards, place, card, verb)
+            execute::<T>(alloc, machine, cards, place, statement)
         }
         ParameterUse::Neither => match last {
-            None => execute::<T>(alloc, machine, cards, place, card, verb),
-            Some(_) => execute_apart::<T>(alloc, machine, cards, place, card, verb),
+            None => execute::<T>(alloc, machine, cards, place, statement),
+            Some(_) => execute_apart::<T>(alloc, machine, cards, place, statement),
         },
     }
 }
@@ -157,25 +157,24 @@ fn execute_with<'a, T: Checks>(
 pub fn step<'a, T: Checks>(
     alloc: Global,
     machine: &mut Machine<Chosen>,
-    program: &Program,
-    cards: &Cards,
+    input: RunInput<'_>,
     place: &mut ListingPlace<'a>,
     last: &mut Option<Number<'a>>,
     position: u32,
 ) -> Result<AfterStep<'a>, NoMemory>
-    requires valid { IsProgram program.now }
+    requires valid { IsProgram input.program.now }
     requires first { 1 ≤ position }
-    requires within { position ≤ length program.now.statements }
-    requires sound { IsSound cards.now machine.old }
+    requires within { position ≤ length input.program.now.statements }
+    requires sound { IsSound input.cards.now machine.old }
     requires few { place.old.reports < max_count }
     ensures steps { IfOk result
-        (Steps T.checker program.now cards.now position (holding last.old machine.old)
-        (holding last.new machine.new) place.old place.new) }
-    ensures sound { IsSound cards.now machine.new }
+        (Steps T.checker input.entry.program.now input.entry.cards.now position
+        (holding last.old machine.old) (holding last.new machine.new) place.old place.new) }
+    ensures sound { IsSound input.entry.cards.now machine.new }
     ensures few { place.new.reports ≤ place.old.reports + 1 }
 {
-    let next = program.statement(position);
-    match execute_with::<T>(alloc, machine, cards, place, last, next.card, &next.verb) {
+    let next = input.program.statement(position);
+    match execute_with::<T>(alloc, machine, input.cards, place, last, next) {
         Ok(WalkStep::Next) => Ok(AfterStep::Goes(position + 1)),
         Ok(WalkStep::Leaves(value)) => {
             *last = Some(value);

@@ -25,7 +25,7 @@ use lp_model::Lp;
 use mps_convert::problem_name;
 use problem_file::Problem;
 use run_cells::NameCell;
-use run_machine::{Act, End, Machine};
+use run_machine::{Act, End, Machine, problem_on_file};
 use std::alloc::Global;
 
 // Whether the line of INSERT stands here, for the deck that is taken.
@@ -133,10 +133,7 @@ pub fn insert<'a>(
     let Some(chosen) = &machine.setup else {
         return fault(alloc, machine, place, VerbFault::NoSetup, card);
     };
-    // a problem stays on file while it is chosen
-    let Some(problem) = machine.file.get(&chosen.name) else {
-        unreachable!();
-    };
+    let problem = problem_on_file(&machine.file, &chosen.name);
     let wanted = machine.cells.name(NameCell::Xdata);
     let taken = take_deck(cards, machine.decks_from, wanted);
     let stands = is_line_of(cards, taken, place.cursor.left());

@@ -24,7 +24,7 @@ use listing_tables::{Sheet, fraction};
 use listing_words::Number;
 use parametric_request::{ParametricVerb, RequestStop};
 use run_cells::NumberCell;
-use run_machine::{Finding, Machine, act_of};
+use run_machine::{Finding, Machine, act_of, problem_on_file};
 use std::alloc::Global;
 
 // No run is asked for: the run of the program ends with a verb fault.
@@ -99,10 +99,7 @@ pub fn parametric_run<'a, T: Checks>(
     let Some(chosen) = &machine.setup else {
         return fault(alloc, machine, place, VerbFault::NoSetup, card);
     };
-    // a problem stays on file while it is chosen
-    let Some(problem) = machine.file.get(&chosen.name) else {
-        unreachable!();
-    };
+    let problem = problem_on_file(&machine.file, &chosen.name);
     let lp = match select_present(alloc, problem, &machine.cells, chosen.options) {
         Ok(lp) => lp,
         Err(refusal) => return refuse(alloc, machine, place, refusal, card),

@@ -15,7 +15,7 @@ use crate::walk_step::WalkStep;
 use job_devices::NoMemory;
 use listing_definitions::VerbFault;
 use listing_readers::{is_punched, is_ranges};
-use run_machine::Machine;
+use run_machine::{Machine, problem_on_file};
 use std::alloc::Global;
 
 /// RANGE. It needs a setup, a mark, and the mark OPTIMAL.
@@ -85,10 +85,7 @@ pub fn punch_basis<'a>(
     let Some(chosen) = &machine.setup else {
         return fault(alloc, machine, place, VerbFault::NoSetup, card);
     };
-    // a problem stays on file while it is chosen
-    let Some(problem) = machine.file.get(&chosen.name) else {
-        unreachable!();
-    };
+    let problem = problem_on_file(&machine.file, &chosen.name);
     let stands = is_punched(place.cursor.left(), problem.name());
     match select_present(alloc, problem, &machine.cells, chosen.options) {
         Ok(_lp) => Ok(WalkStep::Finds(place.reported_here(stands, true))),

@@ -3,9 +3,9 @@ ghost use Rattle.std.specs.Prelude.{◌≡◌, IfOk, IfErr};
 ghost use Rattle.run_definitions.specs.State.{choice_of};
 ghost use Rattle.listing_walk.specs.Choosing.{unselected_by, IsMade, IsNotMade};
 
+use control_verbs::SetupOptions;
 use listing_definitions::VerbFault;
 use lp_model::Lp;
-use lp_setup::SetupChoice;
 use problem_file::Problem;
 use run_cells::Cells;
 use run_machine::Refusal;
@@ -42,7 +42,7 @@ pub fn select_present(
     alloc: Global,
     problem: &Problem,
     cells: &Cells,
-    options: SetupChoice,
+    options: SetupOptions,
 ) -> Result<Lp, Unselected>
     ensures made { IfOk result (IsMade problem.now (choice_of cells.now options)) }
     ensures refused { IfErr result (IsNotMade problem.now (choice_of cells.now options)) }

@@ -5,7 +5,6 @@ ghost use Rattle.job_devices.specs.Text.{Writes};
 ghost use Rattle.control_definitions.specs.Program as program;
 ghost use Rattle.listing_definitions.specs.Report.{SetUp};
 ghost use Rattle.listing_definitions.specs.Text.{report_text};
-ghost use Rattle.control_verbs.specs.Views.{options_view};
 ghost use Rattle.walk_definitions.specs.Checkers.{Checker};
 ghost use Rattle.listing_walk.specs.Choosing.{IsOpened, IsNotOpened};
 ghost use Rattle.listing_walk.specs.Standing.{IsSound};
@@ -21,12 +20,11 @@ use control_verbs::SetupOptions;
 use job_devices::{NoMemory, Sink, SureSink, WriteStop};
 use listing_definitions::VerbFault;
 use lp_definitions::Sense;
-use lp_setup::SetupChoice;
 use name_table::Name;
 use problem_file::ProblemFile;
 use report_text::{Report, text_of};
 use run_cells::{Cells, NameCell};
-use run_machine::{Act, Machine, setup_choice, wanted_name};
+use run_machine::{Act, Machine, wanted_name};
 use std::alloc::Global;
 
 // Chooses the problem, and selects of it.
@@ -34,7 +32,7 @@ fn choose(
     alloc: Global,
     cells: &Cells,
     file: &ProblemFile,
-    options: SetupChoice,
+    options: SetupOptions,
 ) -> Result<Named, Unselected>
     ensures opened { IfOk result (IsOpened cells.now file.now options) }
     ensures refused { IfErr result (IsNotOpened cells.now file.now options) }
@@ -84,14 +82,13 @@ pub fn set_up<'a>(
 ) -> Result<WalkStep<'a>, NoMemory>
     requires { place.old.reports < max_count }
     ensures walks { (C : Checker) (cards : List (List ℕ)) → IfOk result
-        (Walks C (program.Setup
-        (options_view options.now)) card cards machine.old machine.new place.old place.new) }
+        (Walks C (program.Setup options.now) card cards
+        machine.old machine.new place.old place.new) }
     ensures sound { (cards : List (List ℕ)) → IsSound cards machine.old →
         IsSound cards machine.new }
     ensures few { place.new.reports ≤ place.old.reports + 1 }
 {
-    let kept = setup_choice(options);
-    match choose(alloc, &machine.cells, &machine.file, kept) {
+    match choose(alloc, &machine.cells, &machine.file, *options) {
         Ok(named) => {
             let Named { name, chosen } = named;
             machine.setup = Some(chosen);

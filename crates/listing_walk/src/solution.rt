@@ -14,7 +14,7 @@ use job_devices::NoMemory;
 use listing_claims::Checks;
 use listing_definitions::VerbFault;
 use listing_tables::Sheet;
-use run_machine::Machine;
+use run_machine::{Machine, problem_on_file};
 use std::alloc::Global;
 
 /// SOLUTION: takes the point and the prices from the listing. It needs a setup and a mark, and speaks of the linear program that PRIMAL
@@ -41,10 +41,7 @@ pub fn show_solution<'a, T: Checks>(
     let Some(mark) = machine.mark else {
         return fault(alloc, machine, place, VerbFault::NotSolved, card);
     };
-    // a problem stays on file while it is chosen
-    let Some(problem) = machine.file.get(&chosen.name) else {
-        unreachable!();
-    };
+    let problem = problem_on_file(&machine.file, &chosen.name);
     let sheet = Sheet {
         problem,
         lp: &chosen.lp,

@@ -1,7 +1,7 @@
 // PRIMAL and DUAL.
 ghost use Rattle.std.specs.Prelude.{◌≡◌, ◌+◌, ◌≤◌, ◌<◌, ℕ, List, Some, IfOk, IfSome};
 ghost use Rattle.run_machine.specs.Standing.{AreDemands};
-ghost use Rattle.listing_walk.specs.SolvingVerbs.{verb_of, solver_of};
+ghost use Rattle.run_machine.specs.SolvingVerbs.{verb_of};
 ghost use Rattle.listing_walk.specs.Standing.{IsReady, IsSound};
 ghost use Rattle.listing_walk.specs.Walking.{Walks};
 ghost use Rattle.walk_definitions.specs.Words.{max_count};
@@ -14,28 +14,11 @@ use crate::selecting::select_present;
 use crate::walk_step::WalkStep;
 use job_devices::NoMemory;
 use listing_claims::Checks;
-use listing_definitions::{Mark, Solver, VerbFault};
+use listing_definitions::{Mark, VerbFault};
 use listing_tables::Sheet;
 use lp_model::Lp;
-use run_machine::{Finding, Machine, act_of};
+use run_machine::{Finding, Machine, SolvingVerb, act_of, problem_on_file, solver_of};
 use std::alloc::Global;
-
-/// A verb that follows a path.
-#[derive(Clone, Copy, Debug)]
-pub enum SolvingVerb {
-    Primal,
-    Dual,
-}
-
-// The verb, as a listing names it.
-fn solver_of(verb: SolvingVerb) -> Solver
-    ensures { result ≡ solver_of verb }
-{
-    match verb {
-        SolvingVerb::Primal => Solver::Primal,
-        SolvingVerb::Dual => Solver::Dual,
-    }
-}
 
 // Keeps what was selected, and the mark of the verdict.
 fn keep(machine: &mut Machine<Chosen>, lp: Lp, mark: Mark)
@@ -71,10 +54,7 @@ pub fn solve<'a, T: Checks>(
     let Some(chosen) = &machine.setup else {
         return fault(alloc, machine, place, VerbFault::NoSetup, card);
     };
-    // a problem stays on file while it is chosen
-    let Some(problem) = machine.file.get(&chosen.name) else {
-        unreachable!();
-    };
+    let problem = problem_on_file(&machine.file, &chosen.name);
     let lp = match select_present(alloc, problem, &machine.cells, chosen.options) {
         Ok(lp) => lp,
         Err(refusal) => return refuse(alloc, machine, place, refusal, card),

@@ -1,6 +1,7 @@
 // The statements that ask nothing of linear programming.
 ghost use Rattle.std.specs.Prelude.{◌≡◌, ◌+◌, ◌≤◌, ◌<◌, ℕ, List, IfOk};
 ghost use Rattle.control_definitions.specs.Program as program;
+ghost use Rattle.run_machine.specs.Describing.{verb_of};
 ghost use Rattle.walk_definitions.specs.Checkers.{Checker};
 ghost use Rattle.listing_walk.specs.Standing.{IsSound};
 ghost use Rattle.listing_walk.specs.Walking.{Walks};
@@ -13,7 +14,7 @@ use crate::walk_step::WalkStep;
 use card_reader::Cards;
 use control_verbs::Text;
 use job_devices::{Discard, NoMemory, SureSink};
-use run_machine::Machine;
+use run_machine::{DeckVerb, Machine};
 use std::alloc::Global;
 
 /// TITLE.
@@ -36,10 +37,11 @@ pub fn title<'a>(
     follow(alloc, machine, place, &act, printed.bytes())
 }
 
-/// CONVERT.
-pub fn convert<'a>(
+/// CONVERT and REVISE.
+pub fn make_problem<'a>(
     alloc: Global,
     machine: &mut Machine<Chosen>,
+    verb: DeckVerb,
     cards: &Cards,
     place: &mut ListingPlace<'a>,
     card: u32,
@@ -48,35 +50,12 @@ pub fn convert<'a>(
     requires few { place.old.reports < max_count }
     ensures walks { (C : Checker) →
         IfOk result
-        (Walks C program.Convert card cards.now machine.old machine.new place.old place.new) }
+        (Walks C (verb_of verb) card cards.now machine.old machine.new place.old place.new) }
     ensures sound { IsSound cards.now machine.new }
     ensures few { place.new.reports ≤ place.old.reports + 1 }
 {
     let mut printed = SureSink::new(alloc)?;
-    let Ok(act) = machine.convert(alloc, cards, &mut printed, card) else {
-        return Err(NoMemory);
-    };
-    follow(alloc, machine, place, &act, printed.bytes())
-}
-
-/// REVISE.
-pub fn revise<'a>(
-    alloc: Global,
-    machine: &mut Machine<Chosen>,
-    cards: &Cards,
-    place: &mut ListingPlace<'a>,
-    card: u32,
-) -> Result<WalkStep<'a>, NoMemory>
-    requires sound { IsSound cards.now machine.old }
-    requires few { place.old.reports < max_count }
-    ensures walks { (C : Checker) →
-        IfOk result
-        (Walks C program.Revise card cards.now machine.old machine.new place.old place.new) }
-    ensures sound { IsSound cards.now machine.new }
-    ensures few { place.new.reports ≤ place.old.reports + 1 }
-{
-    let mut printed = SureSink::new(alloc)?;
-    let Ok(act) = machine.revise(alloc, cards, &mut printed, card) else {
+    let Ok(act) = machine.make_problem(alloc, verb, cards, &mut printed, card) else {
         return Err(NoMemory);
     };
     follow(alloc, machine, place, &act, printed.bytes())

@@ -4,19 +4,14 @@
 use Rattle.std.specs.Prelude.{ℕ, Option, Some, None}
 use Rattle.problem_definitions.specs.Problem.{Problem}
 use Rattle.selection_definitions.specs.declared.SelectionFault.{SelectionFault}
-use Rattle.selection_definitions.specs.declared.SelectionFault.TheVariants as fault
 use Rattle.selection_definitions.specs.Choice.{Choice}
 use Rattle.selection_definitions.specs.Refusals.{IsSelectionRefusal}
 use Rattle.lp_setup.specs.declared.stop.SelectStop.{SelectStop}
-use Rattle.lp_setup.specs.declared.stop.SelectStop.TheVariants.{NoObjective, ObjectiveNotFree, NoRhsSet, NoRangeSet, NoBoundSet, Overflow, NoMemory}
+use Rattle.lp_setup.specs.declared.stop.SelectStop.TheVariants.{Fault, Overflow, NoMemory}
 
--- each fault has a stop of its own; the other stops come where there is no fault
+-- the fault of the choice; the other stops come where there is none
 abbrev pub fault_of : SelectStop → Option SelectionFault
-fault_of NoObjective = Some fault.NoObjective
-fault_of ObjectiveNotFree = Some fault.ObjectiveNotFree
-fault_of NoRhsSet = Some fault.NoRhsSet
-fault_of NoRangeSet = Some fault.NoRangeSet
-fault_of NoBoundSet = Some fault.NoBoundSet
+fault_of (Fault fault) = Some fault
 fault_of (Overflow e) = None
 fault_of NoMemory = None
 

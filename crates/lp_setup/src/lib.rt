@@ -12,7 +12,8 @@ mod selection;
 mod stop;
 
 pub use changes::{free_row, set_values};
-pub use choice::{Choice, SetupChoice};
+pub use choice::Choice;
+pub use control_verbs::SetupOptions;
 pub use lp_model::{Entry, Evidence, Lp, Sense};
 pub use selection::select;
 pub use stop::SelectStop;

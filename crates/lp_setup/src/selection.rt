@@ -23,6 +23,7 @@ use frac128::Frac;
 use lp_definitions::Sense;
 use lp_model::{Lp, Stop};
 use problem_file::{BoundItem, DeckEntry, Problem};
+use selection_definitions::SelectionFault;
 use std::alloc::Global;
 
 /// The limits of the rows, and then of the columns.
@@ -106,7 +107,7 @@ fn program(alloc: Global, problem: &Problem, selection: Selection<'_>) -> Result
 
 /// The linear program that a choice selects of a problem, in memory of its own.
 ///
-/// The faults of the choice come first, in the order of `SelectStop`: an objective row, a right-hand side set, a range set or a
+/// The faults of the choice come first, in the order of `SelectionFault`: an objective row, a right-hand side set, a range set or a
 /// bound set that is chosen and isn't there, no N row where no objective is chosen, or an objective of another type. Without a
 /// fault only three things stop: the sum that a range makes of a row's right-hand side is too large a number, or a product or a sum of a
 /// combination is, or there is no memory. Where there is a linear program, no operation that it takes is refused.
@@ -119,19 +120,19 @@ pub fn select(alloc: Global, problem: &Problem, choice: &Choice) -> Result<Lp, S
     let rows = problem.rows();
     let options = choice.options;
     let Some(objective) = objective_row(rows, choice.objective) else {
-        return Err(SelectStop::NoObjective);
+        return Err(SelectStop::Fault(SelectionFault::NoObjective));
     };
     if is_not_free(rows, choice.objective) {
-        return Err(SelectStop::ObjectiveNotFree);
+        return Err(SelectStop::Fault(SelectionFault::ObjectiveNotFree));
     }
     let Some(rhs) = rhs_items(problem.rhs(), choice.rhs) else {
-        return Err(SelectStop::NoRhsSet);
+        return Err(SelectStop::Fault(SelectionFault::NoRhsSet));
     };
     let Some(ranges) = range_items(problem.ranges(), options.range) else {
-        return Err(SelectStop::NoRangeSet);
+        return Err(SelectStop::Fault(SelectionFault::NoRangeSet));
     };
     let Some(bounds) = bound_items(problem.bounds(), options.bound) else {
-        return Err(SelectStop::NoBoundSet);
+        return Err(SelectStop::Fault(SelectionFault::NoBoundSet));
     };
     let selection = Selection {
         objective,

@@ -5,3 +5,4 @@ mod Filing
 mod Revising
 mod Titling
 mod Unselected
+mod Clamping

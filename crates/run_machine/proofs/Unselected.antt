@@ -22,11 +22,7 @@ has_no_fault problem choice e = ap (λ fault. unless fault (program_of_choice pr
 
 unselected : (problem : Problem ℕ) (choice : Choice) (stop : SelectStop) → fault_of stop ≡ selection_fault problem choice → IsOverflowOf problem choice stop →
     IsUnselected problem choice (refusal_of stop)
-unselected problem choice stops.NoObjective e h = record { why = _; is_refused = is_refused problem choice _ e; is_fault = refl }
-unselected problem choice stops.ObjectiveNotFree e h = record { why = _; is_refused = is_refused problem choice _ e; is_fault = refl }
-unselected problem choice stops.NoRhsSet e h = record { why = _; is_refused = is_refused problem choice _ e; is_fault = refl }
-unselected problem choice stops.NoRangeSet e h = record { why = _; is_refused = is_refused problem choice _ e; is_fault = refl }
-unselected problem choice stops.NoBoundSet e h = record { why = _; is_refused = is_refused problem choice _ e; is_fault = refl }
+unselected problem choice (stops.Fault fault) e h = record { why = fault; is_refused = is_refused problem choice fault e; is_fault = refl }
 unselected problem choice (stops.Overflow evidence) e h =
     record { lp = program_of_choice problem choice; is_selected = has_no_fault problem choice e; is_refusal = h }
 unselected problem choice stops.NoMemory e h = tt

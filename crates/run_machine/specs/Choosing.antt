@@ -15,7 +15,6 @@ use Rattle.lp_setup.specs.declared.stop.SelectStop.{SelectStop}
 use Rattle.lp_setup.specs.declared.stop.SelectStop.TheVariants as stops
 use Rattle.problem_file.specs.Filed.{Filed, filed_under}
 use Rattle.listing_definitions.specs.declared.VerbFault.{VerbFault}
-use Rattle.listing_definitions.specs.declared.VerbFault.TheVariants as faults
 use Rattle.run_definitions.specs.Verbs.{selection_verb_fault}
 use Rattle.run_machine.specs.declared.act.Act.{Act}
 use Rattle.run_machine.specs.declared.act.Act.TheVariants as act
@@ -35,11 +34,7 @@ refused_act card NoMemory = Err halt.NoMemory
 
 -- each fault of a selection is a verb fault
 abbrev pub refusal_of : SelectStop → Refusal
-refusal_of stops.NoObjective = Fault faults.NoObjective
-refusal_of stops.ObjectiveNotFree = Fault faults.ObjectiveNotFree
-refusal_of stops.NoRhsSet = Fault faults.NoRhsSet
-refusal_of stops.NoRangeSet = Fault faults.NoRangeSet
-refusal_of stops.NoBoundSet = Fault faults.NoBoundSet
+refusal_of (stops.Fault fault) = Fault (selection_verb_fault fault)
 refusal_of (stops.Overflow e) = Overflow e
 refusal_of stops.NoMemory = NoMemory
 

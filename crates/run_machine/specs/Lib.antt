@@ -7,3 +7,4 @@ pub mod Turning
 pub mod Describing
 pub mod Choosing
 pub mod Findings
+pub mod SolvingVerbs

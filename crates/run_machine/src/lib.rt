@@ -6,14 +6,14 @@
 mod act;
 mod bcdout;
 mod cells;
-mod convert;
+mod describing;
 mod end;
 mod ending;
 mod finding;
 mod kept;
 mod machine;
-mod revise;
 mod selecting;
+mod solving;
 mod taking;
 mod title;
 
@@ -22,5 +22,7 @@ pub use end::{End, Place, SingularBasis};
 pub use ending::ending_of;
 pub use finding::{Finding, act_of, mark_left, refused};
 pub use kept::Kept;
-pub use machine::{Machine, problem_on_file, wanted_name};
-pub use selecting::{Refusal, present_choice, select_present, setup_choice};
+pub use machine::{MAX_EXECUTED, Machine, problem_on_file, wanted_name};
+pub use selecting::{Refusal, present_choice, select_present};
+pub use solving::{SolvingVerb, solver_of};
+pub use taking::DeckVerb;

@@ -1,6 +1,6 @@
 // The machine that runs a program.
 
-ghost use Rattle.std.specs.Prelude.{◌≡◌, ◌≤◌, ◌+◌, ◌-◌, ℕ, List, Some, IsSome, length, drop};
+ghost use Rattle.std.specs.Prelude.{◌≡◌, ◌≤◌, ◌+◌, ◌-◌, Some, IsSome, length, drop};
 ghost use Rattle.std.specs.Option.{option_copied};
 ghost use Rattle.card_definitions.specs.Cards.{numbered_cards};
 ghost use Rattle.deck_definitions.specs.Decks.{decks_of};
@@ -10,6 +10,7 @@ ghost use Rattle.run_definitions.specs.State.{start};
 ghost use Rattle.run_machine.specs.Standing.{IsSound, Represents, named, filed};
 
 use crate::kept::Kept;
+use card_reader::Cards;
 use control_definitions::NameCell;
 use listing_definitions::Mark;
 use name_table::Name;
@@ -27,6 +28,9 @@ pub struct Machine<S> {
     pub setup: Option<S>,
     pub mark: Option<Mark>,
 }
+
+/// A run executes at most so many statements.
+pub const MAX_EXECUTED: u32 = 100_000;
 
 /// The name under which the problem that is wanted is filed: that of its cell, or else the one put last.
 pub fn wanted_name(moved: Option<Name>, file: &ProblemFile) -> Option<Name>
@@ -49,18 +53,27 @@ pub fn problem_on_file<'a>(file: &'a ProblemFile, name: &Name) -> &'a Problem
     }
 }
 
+// The number of a card, but at least 1, and at most one more than that of the last card: the cards from there on are the same.
+fn clamped(number: u32, cards: &Cards) -> u32
+    ensures first { 1 ≤ result }
+    ensures last { result ≤ length cards.now + 1 }
+    ensures same { drop (result - 1) (numbered_cards cards.now) ≡ drop (number - 1)
+        (numbered_cards cards.now) }
+{
+    number.max(1).min(cards.count() + 1)
+}
+
 impl<S: Kept> Machine<S> {
-    /// A machine at the start of a run, whose decks begin with the card of this number.
-    pub fn new(alloc: Global, decks_from: u32) -> Machine<S>
-        ensures start { (cards : List (List ℕ)) → Represents S.shows cards result 1 0
-            (start (decks_of (drop (decks_from - 1) (numbered_cards cards)))) }
-        ensures sound { (cards : List (List ℕ)) → 1 ≤ decks_from → decks_from ≤ length cards + 1 →
-            IsSound S.ready S.solved cards result }
+    /// A machine at the start of a run over these cards, whose decks begin with the card of this number.
+    pub fn new(alloc: Global, cards: &Cards, decks_from: u32) -> Machine<S>
+        ensures start { Represents S.shows cards.now result 1 0
+            (start (decks_of (drop (decks_from - 1) (numbered_cards cards.now)))) }
+        ensures sound { IsSound S.ready S.solved cards.now result }
     {
         Machine {
             cells: Cells::new(),
             file: ProblemFile::new(alloc),
-            decks_from,
+            decks_from: clamped(decks_from, cards),
             setup: None,
             mark: None,
         }

@@ -3,8 +3,8 @@ ghost use Rattle.std.specs.Prelude.{◌≡◌, true, Ok, IfOk, IfErr};
 ghost use Rattle.selection_definitions.specs.Selection.{selected};
 ghost use Rattle.selection_definitions.specs.Making.{is_made};
 ghost use Rattle.lp_setup.specs.Stops.{fault_of, IsOverflowOf};
-ghost use Rattle.control_verbs.specs.Views.{options_view};
 ghost use Rattle.run_definitions.specs.State.{choice_of};
+ghost use Rattle.run_definitions.specs.Verbs.{selection_verb_fault};
 ghost use Rattle.run_machine.specs.Choosing.{refusal_of, IsUnselected};
 
 use crate::act::{Act, Halt};
@@ -13,9 +13,10 @@ use control_verbs::SetupOptions;
 use listing_definitions::VerbFault;
 use lp_definitions::Evidence;
 use lp_model::Lp;
-use lp_setup::{Choice, SelectStop, SetupChoice, select};
+use lp_setup::{Choice, SelectStop, select};
 use problem_file::Problem;
 use run_cells::{Cells, NameCell};
+use selection_definitions::SelectionFault;
 use std::alloc::Global;
 use thiserror::Error;
 
@@ -53,34 +54,32 @@ impl Refusal {
     }
 }
 
+// The verb fault of a fault of the choice.
+fn verb_fault_of(fault: SelectionFault) -> VerbFault
+    ensures { result ≡ selection_verb_fault fault }
+{
+    match fault {
+        SelectionFault::NoObjective => VerbFault::NoObjective,
+        SelectionFault::ObjectiveNotFree => VerbFault::ObjectiveNotFree,
+        SelectionFault::NoRhsSet => VerbFault::NoRhsSet,
+        SelectionFault::NoRangeSet => VerbFault::NoRangeSet,
+        SelectionFault::NoBoundSet => VerbFault::NoBoundSet,
+    }
+}
+
 // Why nothing is selected.
 fn refusal_of(stop: SelectStop) -> Refusal
     ensures { result ≡ refusal_of stop }
 {
     match stop {
-        SelectStop::NoObjective => Refusal::Fault(VerbFault::NoObjective),
-        SelectStop::ObjectiveNotFree => Refusal::Fault(VerbFault::ObjectiveNotFree),
-        SelectStop::NoRhsSet => Refusal::Fault(VerbFault::NoRhsSet),
-        SelectStop::NoRangeSet => Refusal::Fault(VerbFault::NoRangeSet),
-        SelectStop::NoBoundSet => Refusal::Fault(VerbFault::NoBoundSet),
+        SelectStop::Fault(fault) => Refusal::Fault(verb_fault_of(fault)),
         SelectStop::Overflow(evidence) => Refusal::Overflow(evidence),
         SelectStop::NoMemory => Refusal::NoMemory,
     }
 }
 
-/// The options that stand on a card.
-pub fn setup_choice(options: &SetupOptions) -> SetupChoice
-    ensures { result ≡ options_view options.now }
-{
-    SetupChoice {
-        bound: options.bound,
-        range: options.range,
-        sense: options.sense,
-    }
-}
-
 /// What the present cells choose with these options.
-pub fn present_choice(cells: &Cells, options: SetupChoice) -> Choice
+pub fn present_choice(cells: &Cells, options: SetupOptions) -> Choice
     ensures { result ≡ choice_of cells.now options }
 {
     Choice {
@@ -95,7 +94,7 @@ pub fn select_present(
     alloc: Global,
     problem: &Problem,
     cells: &Cells,
-    options: SetupChoice,
+    options: SetupOptions,
 ) -> Result<Lp, Refusal>
     ensures selected { IfOk result
         (λ lp. selected problem.now (choice_of cells.now options) ≡ Ok lp) }

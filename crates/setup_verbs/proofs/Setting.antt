@@ -7,6 +7,7 @@ use Rattle.problem_definitions.specs.Names.{Name}
 use Rattle.problem_definitions.specs.Problem.{Problem}
 use Rattle.problem_file.specs.Filed.{Filed, filed_under}
 use Rattle.lp_definitions.specs.declared.Evidence.{Evidence}
+use Rattle.lp_definitions.specs.declared.Sense.{Sense}
 use Rattle.lp_definitions.specs.LinearProgram.{Matrix, LinearProgram}
 use Rattle.lp_definitions.specs.Basis.{opening_statuses}
 use Rattle.basis_values.specs.Calls.{LieIn}
@@ -168,18 +169,21 @@ module _ (card : ℕ) (cards : List (List ℕ)) (machine : Machine) (options : S
       mark = refl;
     }
 
-    pub setup_done : {print_old print_new : SinkState} → Writes {T = Unit {0}} print_old print_new (Ok tt) (report_text (SetUp opened.name options.sense)) →
+    pub setup_done : {print_old print_new : SinkState} {sense : Sense} → sense ≡ options.sense →
+        Writes {T = Unit {0}} print_old print_new (Ok tt) (report_text (SetUp opened.name sense)) →
         Executes linear_programming_of_128_bits (SetupVerb options) card print_old print_new cards machine
         (record machine { setup = Some opened.setup; mark = None }) (Ok Next)
-    setup_done {print_old = print_old} {print_new = print_new} writes =
+    setup_done {print_old = print_old} {print_new = print_new} is_sense writes =
         loudly IsPresent (Gives linear_programming_of_128_bits) (SetupVerb options) card cards machine (SetUp o.problem.name options.sense)
         (λ position executed state s. (after_setup o.problem options (opening_statuses opened.setup.lp) state, gives_opened s, stands_set_up s))
-        (subst (λ (n : Name). Writes {T = Unit {0}} print_old print_new (Ok tt) (report_text (SetUp n options.sense))) o.is_own writes)
+        (subst (λ (n : Name). Writes {T = Unit {0}} print_old print_new (Ok tt) (report_text (SetUp n options.sense))) o.is_own
+        (subst (λ (s : Sense). Writes {T = Unit {0}} print_old print_new (Ok tt) (report_text (SetUp opened.name s))) is_sense writes))
 
-    pub setup_cut : {print_old print_new : SinkState} (stop : WriteStop) →
-        Writes {T = Unit {0}} print_old print_new (Err stop) (report_text (SetUp opened.name options.sense)) →
+    pub setup_cut : {print_old print_new : SinkState} {sense : Sense} → sense ≡ options.sense → (stop : WriteStop) →
+        Writes {T = Unit {0}} print_old print_new (Err stop) (report_text (SetUp opened.name sense)) →
         Executes linear_programming_of_128_bits (SetupVerb options) card print_old print_new cards machine machine (Err (halt.Print stop))
-    setup_cut {print_old = print_old} {print_new = print_new} stop writes =
+    setup_cut {print_old = print_old} {print_new = print_new} is_sense stop writes =
         cut_off IsPresent (Gives linear_programming_of_128_bits) (SetupVerb options) card cards machine machine stop (SetUp o.problem.name options.sense)
         (λ position executed state s. (outcome_of o.problem options (opening_statuses opened.setup.lp) state, gives_opened s, refl))
-        (subst (λ (n : Name). Writes {T = Unit {0}} print_old print_new (Err stop) (report_text (SetUp n options.sense))) o.is_own writes)
+        (subst (λ (n : Name). Writes {T = Unit {0}} print_old print_new (Err stop) (report_text (SetUp n options.sense))) o.is_own
+        (subst (λ (s : Sense). Writes {T = Unit {0}} print_old print_new (Err stop) (report_text (SetUp opened.name s))) is_sense writes))

@@ -1,7 +1,7 @@
 // What SETUP keeps for a run.
 
+use control_verbs::SetupOptions;
 use lp_model::{Basis, Engine, Lp};
-use lp_setup::SetupChoice;
 use name_table::Name;
 use run_machine::Kept;
 use std::marker::Model;
@@ -12,7 +12,7 @@ use std::marker::Model;
 #[derive(Drop)]
 pub struct Setup<E: Engine> {
     pub name: Name,
-    pub options: SetupChoice,
+    pub options: SetupOptions,
     pub objective: Option<Name>,
     pub rhs: Option<Name>,
     pub lp: Lp,

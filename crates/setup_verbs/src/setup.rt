@@ -1,7 +1,6 @@
 // SETUP.
 ghost use Rattle.std.specs.Prelude.{◌≡◌, ℕ, List, IfOk, IfErr};
 ghost use Rattle.control_definitions.specs.Program as program;
-ghost use Rattle.control_verbs.specs.Views.{options_view};
 ghost use Rattle.fitting_answers.specs.Real.{linear_programming_of_128_bits};
 ghost use Rattle.setup_verbs.specs.Standing.{IsSound};
 ghost use Rattle.setup_verbs.specs.Statements.{Executes};
@@ -13,14 +12,11 @@ use control_verbs::SetupOptions;
 use job_devices::Sink;
 use listing_definitions::VerbFault;
 use lp_model::Engine;
-use lp_setup::SetupChoice;
 use name_table::Name;
 use problem_file::ProblemFile;
 use report_text::{Report, text_of};
 use run_cells::{Cells, NameCell};
-use run_machine::{
-    Act, Halt, Machine, Refusal, present_choice, select_present, setup_choice, wanted_name,
-};
+use run_machine::{Act, Halt, Machine, Refusal, present_choice, select_present, wanted_name};
 use std::alloc::Global;
 
 /// A problem that was chosen: its own name, and what is kept of it.
@@ -35,7 +31,7 @@ fn open<E: Engine>(
     alloc: Global,
     cells: &Cells,
     file: &ProblemFile,
-    options: SetupChoice,
+    options: SetupOptions,
 ) -> Result<Opened<Setup<E>>, Refusal>
     ensures opened { IfOk result (IsOpened cells.now file.now options) }
     ensures refused { IfErr result (IsNotOpened cells.now file.now options) }
@@ -78,13 +74,12 @@ pub fn set_up<E: Engine, P: Sink>(
     options: &SetupOptions,
 ) -> Result<Act, Halt>
     ensures acts { (cards : List (List ℕ)) →
-        Executes linear_programming_of_128_bits (program.Setup (options_view options.now)) card
+        Executes linear_programming_of_128_bits (program.Setup options.now) card
         (P.taken print.old) (P.taken print.new) cards machine.old machine.new result }
     ensures sound { (cards : List (List ℕ)) → IsSound cards machine.old →
         IsSound cards machine.new }
 {
-    let chosen = setup_choice(options);
-    let opened = match open(alloc, &machine.cells, &machine.file, chosen) {
+    let opened = match open(alloc, &machine.cells, &machine.file, *options) {
         Ok(opened) => opened,
         Err(refusal) => return refusal.act(card),
     };

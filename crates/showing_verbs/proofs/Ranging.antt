@@ -49,12 +49,12 @@ use Rattle.setup_verbs.specs.Standing.{IsPresent, ShowsSetup, Represents}
 use Rattle.setup_verbs.specs.Statements.{LeadsTo, Executes}
 use Rattle.run_machine.specs.Choosing.{refused_act}
 use Rattle.run_machine.specs.Findings.{ReportsFinding, act_of}
-use Rattle.showing_verbs.specs.Shown.{RangesFound, ranged, stopped, ShowsRanges, range_fault}
+use Rattle.showing_verbs.specs.Shown.{RangesFound, ranged, stopped, ShowsRanges, range_fault, IsSameSetup}
 use Rattle.setup_verbs.proofs.Selected.{same_matrix}
 use Rattle.run_machine.proofs.Giving.{quietly}
 use Rattle.setup_verbs.proofs.Giving.{gives_fault, gives_found, gives_selected}
 use Rattle.setup_verbs.proofs.Reporting.{reported_executes, cut_executes}
-use Rattle.showing_verbs.proofs.Showing.{IsSameSetup, still_stands}
+use Rattle.showing_verbs.proofs.Showing.{still_stands}
 use Rattle.setup_verbs.proofs.Present.{IsPresentOf, lie_up_to, one_problem, present_at, present_with}
 
 -- ---- the intervals of a basis

@@ -7,6 +7,7 @@ use Rattle.exact_values.specs.Rational.{ℚ}
 use Rattle.lp_definitions.specs.LinearProgram.{Matrix, LinearProgram}
 use Rattle.lp_definitions.specs.Basis.{Basics, basics_of, IsOptimalBasis}
 use Rattle.lp_definitions.specs.Waypoints.{waypoint, KeepsWaypoints}
+use Rattle.lp_model.specs.RatesState.{RatesState}
 use Rattle.lp_definitions.specs.declared.Evidence.{Evidence}
 use Rattle.simplex_definitions.specs.Statements.{Solution as SolutionStatement}
 use Rattle.problem_definitions.specs.Problem.{Problem}
@@ -46,7 +47,7 @@ use Rattle.setup_verbs.specs.Standing.{IsPresent, IsSolved, ShowsSetup, Represen
 use Rattle.setup_verbs.specs.Statements.{LeadsTo, Executes}
 use Rattle.run_machine.specs.Choosing.{refused_act, IsSelected}
 use Rattle.run_machine.specs.Findings.{ReportsFinding, act_of}
-use Rattle.showing_verbs.specs.Shown.{LinesFound, viewed, overflows, Shows}
+use Rattle.showing_verbs.specs.Shown.{LinesFound, viewed, overflows, Shows, IsSameSetup}
 use Rattle.setup_verbs.proofs.Selected.{same_matrix}
 use Rattle.run_machine.proofs.Giving.{quietly}
 use Rattle.setup_verbs.proofs.Giving.{gives_fault, gives_found, gives_selected}
@@ -93,14 +94,6 @@ lines_overflow sheet s before after mark e o place is fit =
 
 -- ---- a setup
 
--- the setup keeps all but what its engine has passed through
-pub record IsSameSetup (setup new : Setup) : Type 0 where
-  pub name : new.name ≡ setup.name
-  pub options : new.options ≡ setup.options
-  pub lp : new.lp ≡ setup.lp
-  pub basis : new.basis ≡ setup.basis
-  pub keeps : KeepsWaypoints setup.lp.matrix (basics_of setup.basis) setup.engine.waypoints (basics_of setup.basis) new.engine.waypoints
-
 pub still_selected : (cells : Cells) (file : Filed) (setup new : Setup) → IsSameSetup setup new →
     IsSelected file setup.name (choice_of cells setup.options) setup.lp → IsSelected file new.name (choice_of cells new.options) new.lp
 still_selected cells file setup new k h = λ problem on_file.
@@ -115,6 +108,14 @@ still_solved cells file setup new mark k h = record {
       λ is. subst (λ (p : LinearProgram). IsOptimalBasis p new.basis) (sym k.lp)
       (subst (λ (b : Basis). IsOptimalBasis setup.lp b) (sym k.basis) (h.optimal is));
 }
+
+-- a call at its basis changes the engine of a setup alone
+pub same_setup : {setup old : Setup} → setup ≡ old → (engine : RatesState) →
+    KeepsWaypoints setup.lp.matrix (basics_of setup.basis) setup.engine.waypoints (basics_of setup.basis) engine.waypoints →
+    IsSameSetup old (record setup { engine = engine })
+same_setup {setup = setup} is_old engine keeps =
+    subst (λ (s : Setup). IsSameSetup s (record setup { engine = engine })) is_old
+    (record { name = refl; options = refl; lp = refl; basis = refl; keeps = keeps })
 
 -- the setup that code has opened, which is the one that is spoken of
 module _ (file : Filed) {setup old : Setup} (is_old : setup ≡ old) (mark : Mark) (there : Problem ℕ) (is_there : filed_under setup.name file ≡ Some there) where

@@ -1,11 +1,13 @@
 -- What SOLUTION and RANGE find.
+--     IsSameSetup setup new        what a statement leaves of the setup that it shows
 --     LinesFound gain finding      the lines of a basis are made, or their making is stopped so
 --     Shows gain finding           SOLUTION finds this with a setup, and has this to print
 --     RangesFound gain finding     the intervals of a basis are made, or their making is stopped so
 --     ShowsRanges gain finding     RANGE finds this with a setup, and has this to print
 --     range_fault mark             why RANGE is refused with this mark
-use Rattle.std.specs.Prelude.{ℕ, List, [], ◌∷◌, ◌++◌, Option, Some, None, option_map}
-use Rattle.lp_definitions.specs.Basis.{Basics}
+use Rattle.std.specs.Prelude.{◌≡◌, ℕ, List, [], ◌∷◌, ◌++◌, Option, Some, None, option_map}
+use Rattle.lp_definitions.specs.Basis.{Basics, basics_of}
+use Rattle.lp_definitions.specs.Waypoints.{KeepsWaypoints}
 use Rattle.lp_definitions.specs.declared.Evidence.{Evidence}
 use Rattle.simplex_definitions.specs.Statements.{Solution as SolutionStatement, Range as RangeStatement}
 use Rattle.problem_definitions.specs.Problem.{Problem}
@@ -26,6 +28,16 @@ use Rattle.run_machine.specs.declared.finding.Finding.{Finding}
 use Rattle.run_machine.specs.declared.finding.Finding.TheVariants.{Overflow, Printed}
 use Rattle.setup_verbs.specs.Kept.{Setup}
 use Rattle.run_machine.specs.Ends.{place_view}
+
+-- ---- what stays of a setup
+
+-- the setup keeps all but what its engine has passed through
+pub record IsSameSetup (setup new : Setup) : Type 0 where
+  pub name : new.name ≡ setup.name
+  pub options : new.options ≡ setup.options
+  pub lp : new.lp ≡ setup.lp
+  pub basis : new.basis ≡ setup.basis
+  pub keeps : KeepsWaypoints setup.lp.matrix (basics_of setup.basis) setup.engine.waypoints (basics_of setup.basis) new.engine.waypoints
 
 -- ---- the lines of a basis
 

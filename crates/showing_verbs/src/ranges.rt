@@ -2,8 +2,7 @@
 ghost use Rattle.std.specs.Prelude.{◌≡◌, ℕ, None, Some, IfSome, List};
 ghost use Rattle.problem_definitions.specs.Problem.{Problem};
 ghost use Rattle.problem_file.specs.Filed.{filed_under};
-ghost use Rattle.lp_definitions.specs.Basis.{Basics, basics_of, IsOptimalBasis};
-ghost use Rattle.lp_definitions.specs.Waypoints.{KeepsWaypoints};
+ghost use Rattle.lp_definitions.specs.Basis.{Basics, IsOptimalBasis};
 ghost use Rattle.control_definitions.specs.Program as program;
 ghost use Rattle.listing_tables.specs.Lines.{range_lines};
 ghost use Rattle.listing_tables.specs.Sheets.{IsSheet};
@@ -14,7 +13,7 @@ ghost use Rattle.fitting_answers.specs.Real.{linear_programming_of_128_bits};
 ghost use Rattle.setup_verbs.specs.Standing.{IsReady, IsSolved, IsSound};
 ghost use Rattle.setup_verbs.specs.Statements.{Executes};
 ghost use Rattle.run_machine.specs.Findings.{ReportsFinding};
-ghost use Rattle.showing_verbs.specs.Shown.{RangesFound, ShowsRanges, range_fault};
+ghost use Rattle.showing_verbs.specs.Shown.{IsSameSetup, RangesFound, ShowsRanges, range_fault};
 
 use job_devices::Sink;
 use listing_definitions::{Mark, VerbFault};
@@ -90,12 +89,7 @@ fn range_setup<E: Engine, P: Sink>(
         ReportsFinding (ShowsRanges problem setup.old) (P.taken print.old) (P.taken print.new)
         result }
     ensures ready { IsReady file.now setup.new }
-    ensures name { setup.new.name ≡ setup.old.name }
-    ensures options { setup.new.options ≡ setup.old.options }
-    ensures lp { setup.new.lp ≡ setup.old.lp }
-    ensures basis { setup.new.basis ≡ setup.old.basis }
-    ensures waypoints { KeepsWaypoints setup.old.lp.matrix (basics_of setup.old.basis)
-        setup.old.engine.waypoints (basics_of setup.old.basis) setup.new.engine.waypoints }
+    ensures same { IsSameSetup setup.old setup.new }
 {
     let problem = problem_on_file(file, &setup.name);
     let sheet = Sheet {

@@ -5,7 +5,7 @@ ghost use Rattle.std.specs.Prelude.{◌≡◌, None, IfOk};
 use card_reader::read_job;
 use job_devices::SureSource;
 use lp_model::{Lp, Sense};
-use lp_setup::{Choice, SetupChoice, select};
+use lp_setup::{Choice, SetupOptions, select};
 use mps_convert::convert;
 use problem_file::Problem;
 use std::alloc::Global;
@@ -141,7 +141,7 @@ pub fn problem_of(alloc: Global, deck: &[u8]) -> Result<Problem, Fail> {
 pub fn selected(alloc: Global, problem: &Problem, sense: Sense) -> Result<Lp, Fail>
     ensures { IfOk result (λ lp. lp.change ≡ None) }
 {
-    let options = SetupChoice {
+    let options = SetupOptions {
         bound: problem.bounds().first().map(|set| set.name),
         range: problem.ranges().first().map(|set| set.name),
         sense,

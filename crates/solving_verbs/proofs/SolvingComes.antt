@@ -32,9 +32,10 @@ use Rattle.run_machine.specs.Standing.{AreDemands}
 use Rattle.setup_verbs.specs.Standing.{IsPresent, IsReady, ShowsSetup, Represents}
 use Rattle.setup_verbs.specs.Statements.{LeadsTo, Executes}
 use Rattle.run_machine.specs.Findings.{ReportsFinding, act_of, mark_left}
-use Rattle.solving_verbs.specs.declared.solving.SolvingVerb.{SolvingVerb}
-use Rattle.solving_verbs.specs.declared.solving.SolvingVerb.TheVariants.{Primal, Dual}
-use Rattle.solving_verbs.specs.Found.{verb_of, solver_of, limit_of, PathReaches, PathOverflows, reached, wrong_prices, at_limit, overflows, Finds, unselected, too_large, solved}
+use Rattle.run_machine.specs.declared.solving.SolvingVerb.{SolvingVerb}
+use Rattle.run_machine.specs.declared.solving.SolvingVerb.TheVariants.{Primal, Dual}
+use Rattle.run_machine.specs.SolvingVerbs.{verb_of, solver_of, limit_of}
+use Rattle.solving_verbs.specs.Found.{PathReaches, PathOverflows, reached, wrong_prices, at_limit, overflows, Finds, unselected, too_large, solved}
 use Rattle.setup_verbs.proofs.Selected.{same_matrix}
 use Rattle.run_machine.proofs.Giving.{quietly}
 use Rattle.setup_verbs.proofs.Giving.{gives_fault, gives_found, gives_unselected, gives_selected}

@@ -50,8 +50,9 @@ use Rattle.run_machine.specs.declared.selecting.Refusal.TheVariants as refusals
 use Rattle.run_machine.specs.Choosing.{IsUnselected}
 use Rattle.run_machine.specs.Ends.{place_view}
 use Rattle.run_machine.specs.Findings.{ReportsFinding, refused_finding, IfEnded}
-use Rattle.solving_verbs.specs.declared.solving.SolvingVerb.{SolvingVerb}
-use Rattle.solving_verbs.specs.Found.{solver_of, limit_of, PathReaches, PathFinds, reached, wrong_prices, at_limit, overflows, Finds, unselected, too_large, solved}
+use Rattle.run_machine.specs.declared.solving.SolvingVerb.{SolvingVerb}
+use Rattle.run_machine.specs.SolvingVerbs.{solver_of, limit_of}
+use Rattle.solving_verbs.specs.Found.{PathReaches, PathFinds, reached, wrong_prices, at_limit, overflows, Finds, unselected, too_large, solved}
 use Rattle.setup_verbs.proofs.Selected.{no_change}
 use Rattle.setup_verbs.proofs.Reporting.{tells_more, tells_quietly}
 use Rattle.setup_verbs.proofs.Present.{one_problem, now_selected}

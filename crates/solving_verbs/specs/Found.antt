@@ -1,8 +1,7 @@
 -- What PRIMAL and DUAL find.
---     verb_of, solver_of, limit_of the verb, whose path it follows, and the limit of that
 --     PathFinds gain finding       the path of a solver from a basis ends so, or is stopped so
 --     Finds gain finding           PRIMAL or DUAL finds this with a setup, and has this to print
-use Rattle.std.specs.Prelude.{◌≡◌, ℕ, List, [], ◌∷◌, ◌++◌, Option, Some, None, Ok, option_map}
+use Rattle.std.specs.Prelude.{◌≡◌, ℕ, List, [], ◌∷◌, ◌++◌, Option, None, Ok, option_map}
 use Rattle.lp_definitions.specs.LinearProgram.{LinearProgram}
 use Rattle.lp_definitions.specs.Basis.{Basics}
 use Rattle.lp_definitions.specs.declared.Evidence.{Evidence}
@@ -11,12 +10,9 @@ use Rattle.problem_definitions.specs.Problem.{Problem}
 use Rattle.selection_definitions.specs.Selection.{selected}
 use Rattle.listing_definitions.specs.declared.VerbFault.{VerbFault}
 use Rattle.listing_definitions.specs.declared.Solver.{Solver}
-use Rattle.listing_definitions.specs.declared.Solver.TheVariants as solvers
 use Rattle.listing_definitions.specs.Report.{PathVerdict, Check, Solved}
 use Rattle.listing_definitions.specs.Ending.{Place}
-use Rattle.control_definitions.specs.Program.{Verb}
-use Rattle.control_definitions.specs.Program as program
-use Rattle.control_definitions.specs.Cells.{Cells, steps_allowed}
+use Rattle.control_definitions.specs.Cells.{Cells}
 use Rattle.question_definitions.specs.Answers.{Basis, Sheet, Reached, PathLimit, PricesWrong}
 use Rattle.answer_definitions.specs.Verdicts.{IsSolvedBy}
 use Rattle.answer_definitions.specs.Evidence.{OverflowsBy}
@@ -31,23 +27,10 @@ use Rattle.run_machine.specs.declared.finding.Finding.TheVariants.{Refused, Over
 use Rattle.setup_verbs.specs.Kept.{Setup}
 use Rattle.run_machine.specs.Choosing.{HasSelectionFault, HasSelectionOverflow}
 use Rattle.run_machine.specs.Ends.{place_view}
-use Rattle.solving_verbs.specs.declared.solving.SolvingVerb.{SolvingVerb}
-use Rattle.solving_verbs.specs.declared.solving.SolvingVerb.TheVariants.{Primal, Dual}
+use Rattle.run_machine.specs.SolvingVerbs.{solver_of, limit_of}
+use Rattle.run_machine.specs.declared.solving.SolvingVerb.{SolvingVerb}
 
 -- ---- the path
-
-abbrev pub verb_of : SolvingVerb → Verb ℕ
-verb_of Primal = program.Primal
-verb_of Dual = program.Dual
-
-abbrev pub solver_of : SolvingVerb → Solver
-solver_of Primal = solvers.Primal
-solver_of Dual = solvers.Dual
-
--- PRIMAL alone may have no limit
-abbrev pub limit_of : SolvingVerb → Cells → Option ℕ
-limit_of Primal cells = cells.xiterlim
-limit_of Dual cells = Some (steps_allowed cells)
 
 module _ (solver : Solver) (sheet : Sheet) (s now : Basis) (limit : Option ℕ) (before after : List Basics) where
   -- The path from s goes over these bases to now, and ends there with this verdict. For every list of bases that ends with s, in which

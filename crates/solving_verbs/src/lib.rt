@@ -6,4 +6,4 @@ mod requested_run;
 mod solving;
 
 pub use parametric::show_parametric_run;
-pub use solving::{SolvingVerb, solve};
+pub use solving::solve;

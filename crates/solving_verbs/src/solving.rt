@@ -1,14 +1,12 @@
 // PRIMAL and DUAL.
-ghost use Rattle.std.specs.Prelude.{◌≡◌, ℕ, List, Option, None, Some, IfSome, IfOk};
+ghost use Rattle.std.specs.Prelude.{◌≡◌, ℕ, List, Option, Some, IfSome, IfOk};
 ghost use Rattle.problem_definitions.specs.Problem.{Problem};
 ghost use Rattle.problem_file.specs.Filed.{filed_under};
-ghost use Rattle.lp_definitions.specs.LinearProgram.{IsLinearProgram};
 ghost use Rattle.lp_definitions.specs.Basis.{Basics};
 ghost use Rattle.question_definitions.specs.Answers as answers;
 ghost use Rattle.basis_values.specs.Calls.{IsAtBasis};
 ghost use Rattle.listing_definitions.specs.declared.Solver.TheVariants as solvers;
 ghost use Rattle.listing_tables.specs.declared.sheet.Sheet as sheets;
-ghost use Rattle.listing_tables.specs.Sheets.{IsSheet};
 ghost use Rattle.report_text.specs.Verdicts.{IsOutcome, verdict_view, check_view};
 ghost use Rattle.verb_answers.specs.Reports.{sheet_view};
 ghost use Rattle.run_definitions.specs.Verbs.{mark_of};
@@ -17,7 +15,9 @@ ghost use Rattle.run_machine.specs.Standing.{AreDemands};
 ghost use Rattle.setup_verbs.specs.Standing.{IsReady, IsSolved, IsSound};
 ghost use Rattle.setup_verbs.specs.Statements.{Executes};
 ghost use Rattle.run_machine.specs.Findings.{ReportsFinding, IfEnded};
-ghost use Rattle.solving_verbs.specs.Found.{verb_of, solver_of, limit_of, PathReaches, PathFinds, Finds};
+ghost use Rattle.run_machine.specs.SolvingVerbs.{verb_of, solver_of, limit_of};
+ghost use Rattle.solving_verbs.specs.Beginning.{BeginsAt};
+ghost use Rattle.solving_verbs.specs.Found.{PathReaches, PathFinds, Finds};
 
 use bounded_dual::DualStop;
 use bounded_primal::PrimalStop;
@@ -30,18 +30,11 @@ use report_sizes::recall_verdict;
 use report_text::{Report, text_of};
 use run_cells::Cells;
 use run_machine::{
-    Act, Finding, Halt, Machine, Refusal, act_of, mark_left, problem_on_file, refused,
+    Act, Finding, Halt, Machine, Refusal, SolvingVerb, act_of, mark_left, problem_on_file, refused,
 };
 use setup_verbs::{Setup, overflow_at, select_again};
 use std::alloc::Global;
 use verb_answers::{PathReport, dual_from, path_from};
-
-/// A verb that follows a path.
-#[derive(Clone, Copy)]
-pub enum SolvingVerb {
-    Primal,
-    Dual,
-}
 
 /// The mark of the verdict of an outcome.
 pub fn mark_of(outcome: &Outcome) -> Mark
@@ -89,10 +82,7 @@ fn follow_primal<P: Sink, R: Rates>(
     limit: Option<u32>,
     print: &mut P,
 ) -> Result<Finding, Halt>
-    requires sheet { IsSheet sheet }
-    requires lawful { IsLinearProgram sheet.lp.now }
-    requires no_change { sheet.lp.now.change ≡ None }
-    requires rates { IsAtBasis (R.state rates.old) sheet.lp.now basis.old }
+    requires { BeginsAt sheet (R.state rates.old) basis.old }
     ensures tells { ReportsFinding (PathFinds solvers.Primal (sheet_view sheet.entry) basis.old
         basis.new limit (R.state rates.old).waypoints (R.state rates.new).waypoints)
         (P.taken print.old) (P.taken print.new) result }
@@ -117,10 +107,7 @@ fn follow_dual<P: Sink, R: Rates>(
     limit: u32,
     print: &mut P,
 ) -> Result<Finding, Halt>
-    requires sheet { IsSheet sheet }
-    requires lawful { IsLinearProgram sheet.lp.now }
-    requires no_change { sheet.lp.now.change ≡ None }
-    requires rates { IsAtBasis (R.state rates.old) sheet.lp.now basis.old }
+    requires { BeginsAt sheet (R.state rates.old) basis.old }
     ensures tells { ReportsFinding (PathFinds solvers.Dual (sheet_view sheet.entry) basis.old
         basis.new (Some limit) (R.state rates.old).waypoints (R.state rates.new).waypoints)
         (P.taken print.old) (P.taken print.new) result }
@@ -151,10 +138,7 @@ fn follow<P: Sink, R: Rates>(
     path: PathRequest<'_>,
     print: &mut P,
 ) -> Result<Finding, Halt>
-    requires sheet { IsSheet sheet }
-    requires lawful { IsLinearProgram sheet.lp.now }
-    requires no_change { sheet.lp.now.change ≡ None }
-    requires rates { IsAtBasis (R.state rates.old) sheet.lp.now basis.old }
+    requires { BeginsAt sheet (R.state rates.old) basis.old }
     ensures tells { ReportsFinding (PathFinds (solver_of path.entry.verb) (sheet_view sheet.entry)
         basis.old basis.new (limit_of path.entry.verb path.entry.cells.now)
         (R.state rates.old).waypoints (R.state rates.new).waypoints) (P.taken print.old)

@@ -66,17 +66,17 @@ pub returns-in-Convert-clause-acts : goal.returns-in-Convert-clause-acts
 returns-in-Convert-clause-acts g c =
     rw c.in-Convert.is
     (punches_nothing (g.U.Sink.taken c.args.punch.now) IsPresent (Gives linear_programming_of_128_bits) program.Convert c.args.statement.now.card
-    (g.P.Sink.taken c.args.print.now) (g.P.Sink.taken c.convert.new.print) c.args.cards.now c.args.machine.now c.convert.new.self c.convert.result
+    (g.P.Sink.taken c.args.print.now) (g.P.Sink.taken c.make_problem.new.print) c.args.cards.now c.args.machine.now c.make_problem.new.self c.make_problem.result
     (settled.executes IsPresent linear_programming_of_128_bits program.Convert c.args.statement.now.card (g.P.Sink.taken c.args.print.now)
-    (g.P.Sink.taken c.convert.new.print) c.args.cards.now c.args.machine.now c.convert.new.self c.convert.result (c.convert.ensures.acts)))
+    (g.P.Sink.taken c.make_problem.new.print) c.args.cards.now c.args.machine.now c.make_problem.new.self c.make_problem.result (c.make_problem.ensures.acts)))
 
 pub returns-in-Revise-clause-acts : goal.returns-in-Revise-clause-acts
 returns-in-Revise-clause-acts g c =
     rw c.in-Revise.is
     (punches_nothing (g.U.Sink.taken c.args.punch.now) IsPresent (Gives linear_programming_of_128_bits) program.Revise c.args.statement.now.card
-    (g.P.Sink.taken c.args.print.now) (g.P.Sink.taken c.revise.new.print) c.args.cards.now c.args.machine.now c.revise.new.self c.revise.result
+    (g.P.Sink.taken c.args.print.now) (g.P.Sink.taken c.make_problem-in-Revise.new.print) c.args.cards.now c.args.machine.now c.make_problem-in-Revise.new.self c.make_problem-in-Revise.result
     (settled.executes IsPresent linear_programming_of_128_bits program.Revise c.args.statement.now.card (g.P.Sink.taken c.args.print.now)
-    (g.P.Sink.taken c.revise.new.print) c.args.cards.now c.args.machine.now c.revise.new.self c.revise.result (c.revise.ensures.acts)))
+    (g.P.Sink.taken c.make_problem-in-Revise.new.print) c.args.cards.now c.args.machine.now c.make_problem-in-Revise.new.self c.make_problem-in-Revise.result (c.make_problem-in-Revise.ensures.acts)))
 
 pub returns-in-Setup-clause-acts : goal.returns-in-Setup-clause-acts
 returns-in-Setup-clause-acts g c =

@@ -6,8 +6,8 @@ use Rattle.listing_walk.proofs.course.walk.Goals as goal
 
 pub loop-position-init : goal.loop-position-init
 loop-position-init g c =
-    underway_first g.T.Checks.checker c.args.program.now c.args.cards.now c.args.listing.now c.new-machine.result c.new-place.result c.first_after.result c.first_after.ensures.same
-    (c.new-machine.ensures.sound c.args.cards.now c.first_after.ensures.first c.first_after.ensures.last) (c.new-machine.ensures.start c.args.cards.now)
+    underway_first g.T.Checks.checker c.args.program.now c.args.cards.now c.args.listing.now c.new-machine.result c.new-place.result c.new-machine.ensures.sound
+    (rw c.decks_from.ensures at c.new-machine.ensures.start)
     c.new-place.ensures.rest c.new-place.ensures.pending c.new-place.ensures.reports
 
 pub returns-then-executed-ge-MAX_EXECUTED : goal.returns-then-executed-ge-MAX_EXECUTED

@@ -11,9 +11,9 @@ use Rattle.listing_walk.proofs.execute.execute_with.Goals as goal
 pub returns-in-Reads-clause-walks : goal.returns-in-Reads-clause-walks
 returns-in-Reads-clause-walks g c =
     subst (λ (verb : Verb ℕ). IfOk c.parametric_run.result
-    (Walks g.T.Checks.checker verb c.args.card c.args.cards.now (holding c.args.last.now c.args.machine.now)
+    (Walks g.T.Checks.checker verb c.args.statement.now.card c.args.cards.now (holding c.args.last.now c.args.machine.now)
     (holding c.parametric_run.new.last c.parametric_run.new.machine) c.args.place.now c.parametric_run.new.place))
-    (run_verb (viewed c.args.verb.now) c.in-Reads.asked (sym c.use_of.ensures ∙ c.in-Reads.is)) (c.parametric_run.ensures.walks c.args.cards.now)
+    (run_verb (viewed c.args.statement.now.verb) c.in-Reads.asked (sym c.use_of.ensures ∙ c.in-Reads.is)) (c.parametric_run.ensures.walks c.args.cards.now)
 
 pub execute-requires-clause-no_run : goal.execute-requires-clause-no_run
 execute-requires-clause-no_run g c = subst IsNoRun (sym (sym c.use_of.ensures ∙ c.in-Sets.is)) tt
@@ -24,5 +24,5 @@ execute-requires-in-None-clause-no_run g c = subst IsNoRun (sym (sym c.use_of.en
 pub returns-in-Sets-clause-walks : goal.returns-in-Sets-clause-walks
 returns-in-Sets-clause-walks g c =
     walks_set g.T.Checks.checker
-    (viewed c.args.verb.now) c.args.card c.args.cards.now c.args.machine.now c.execute.new.machine c.args.place.now c.execute.new.place c.args.last.now (sym c.use_of.ensures ∙ c.in-Sets.is)
+    (viewed c.args.statement.now.verb) c.args.statement.now.card c.args.cards.now c.args.machine.now c.execute.new.machine c.args.place.now c.execute.new.place c.args.last.now (sym c.use_of.ensures ∙ c.in-Sets.is)
     c.execute.result c.execute.ensures.walks

@@ -1,6 +1,7 @@
 use Rattle.std.proofs.Common.{sym, subst}
 use Rattle.setup_verbs.specs.Standing.{IsReady}
 use Rattle.showing_verbs.proofs.Ranging.{ranges_at}
+use Rattle.showing_verbs.proofs.Showing.{same_setup}
 use Rattle.showing_verbs.proofs.ranges.range_setup.Goals as goal
 use Rattle.setup_verbs.proofs.Present.{ready_columns, ready_rows, ready_unchanged, stays_on_file}
 
@@ -25,3 +26,6 @@ returns-clause-tells g c =
     ranges_at c.args.file.now c.setup.view_is c.problem_on_file-problem.result.now c.problem_on_file-problem.ensures (g.P.Sink.taken c.args.print.now)
     (g.P.Sink.taken c.range_basis.new.print) c.range_basis.result
     c.range_basis.ensures.tells
+
+pub returns-clause-same : goal.returns-clause-same
+returns-clause-same g c = same_setup c.setup.view_is (g.E.Rates.state c.range_basis.new.rates) c.range_basis.ensures.rates.1

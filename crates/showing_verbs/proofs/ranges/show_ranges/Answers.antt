@@ -3,7 +3,7 @@ use Rattle.std.proofs.Common.{Some, refl, sym, ◌∙◌}
 use Rattle.std.proofs.lemmas.Result.{err_from_is_err_and}
 use Rattle.showing_verbs.proofs.Staying.{solved_of, sound_kept}
 use Rattle.setup_verbs.proofs.Present.{ready_of}
-use Rattle.showing_verbs.proofs.Showing.{IsSameSetup, still_solved}
+use Rattle.showing_verbs.proofs.Showing.{still_solved}
 use Rattle.showing_verbs.proofs.Ranging.{without_fault, ranges_no_setup, ranges_refused, ranges_found, ranges_broken}
 use Rattle.listing_definitions.specs.declared.Mark.TheVariants.{Optimal}
 use Rattle.showing_verbs.proofs.ranges.show_ranges.Goals as goal
@@ -30,8 +30,7 @@ pub returns-in_err-finding-clause-acts : goal.returns-in_err-finding-clause-acts
 returns-in_err-finding-clause-acts g c = λ cards.
     let p = err_from_is_err_and c.from_residual.result c.from_residual.ensures.1 in
     let ready = ready_of c.args.machine.now.file c.args.machine.now.setup c.in-Some.setup c.in-Some.is c.requires.ready in
-    let same : IsSameSetup c.in-Some.setup c.range_setup.new.setup =
-    record { name = c.range_setup.ensures.name; options = c.range_setup.ensures.options; lp = c.range_setup.ensures.lp; basis = c.range_setup.ensures.basis; keeps = c.range_setup.ensures.waypoints } in
+    let same = c.range_setup.ensures.same in
     let marked = without_fault c.args.machine.now.mark (sym c.range_fault.ensures ∙ c.in_default-range_fault.is) in
     let solved =
     solved_of c.args.machine.now.cells c.args.machine.now.file c.args.machine.now.mark c.args.machine.now.setup Optimal c.in-Some.setup marked c.in-Some.is c.requires.solved in
@@ -44,16 +43,14 @@ returns-in_err-finding-clause-acts g c = λ cards.
 
 pub returns-in_err-finding-clause-sound : goal.returns-in_err-finding-clause-sound
 returns-in_err-finding-clause-sound g c = λ cards sound.
-    let same : IsSameSetup c.in-Some.setup c.range_setup.new.setup =
-    record { name = c.range_setup.ensures.name; options = c.range_setup.ensures.options; lp = c.range_setup.ensures.lp; basis = c.range_setup.ensures.basis; keeps = c.range_setup.ensures.waypoints } in
+    let same = c.range_setup.ensures.same in
     sound_kept cards c.args.machine.now c.in-Some.setup c.range_setup.new.setup c.range_setup.ensures.ready sound c.in-Some.is
     (λ mark. still_solved c.args.machine.now.cells c.args.machine.now.file c.in-Some.setup c.range_setup.new.setup mark same)
 
 pub returns-clause-acts : goal.returns-clause-acts
 returns-clause-acts g c = λ cards.
     let ready = ready_of c.args.machine.now.file c.args.machine.now.setup c.in-Some.setup c.in-Some.is c.requires.ready in
-    let same : IsSameSetup c.in-Some.setup c.range_setup.new.setup =
-    record { name = c.range_setup.ensures.name; options = c.range_setup.ensures.options; lp = c.range_setup.ensures.lp; basis = c.range_setup.ensures.basis; keeps = c.range_setup.ensures.waypoints } in
+    let same = c.range_setup.ensures.same in
     let marked = without_fault c.args.machine.now.mark (sym c.range_fault.ensures ∙ c.in_default-range_fault.is) in
     let solved =
     solved_of c.args.machine.now.cells c.args.machine.now.file c.args.machine.now.mark c.args.machine.now.setup Optimal c.in-Some.setup marked c.in-Some.is c.requires.solved in
@@ -64,7 +61,6 @@ returns-clause-acts g c = λ cards.
 
 pub returns-clause-sound : goal.returns-clause-sound
 returns-clause-sound g c = λ cards sound.
-    let same : IsSameSetup c.in-Some.setup c.range_setup.new.setup =
-    record { name = c.range_setup.ensures.name; options = c.range_setup.ensures.options; lp = c.range_setup.ensures.lp; basis = c.range_setup.ensures.basis; keeps = c.range_setup.ensures.waypoints } in
+    let same = c.range_setup.ensures.same in
     sound_kept cards c.args.machine.now c.in-Some.setup c.range_setup.new.setup c.range_setup.ensures.ready sound c.in-Some.is
     (λ mark. still_solved c.args.machine.now.cells c.args.machine.now.file c.in-Some.setup c.range_setup.new.setup mark same)

@@ -1,6 +1,6 @@
 use Rattle.std.proofs.Common.{sym, subst}
 use Rattle.setup_verbs.specs.Standing.{IsReady}
-use Rattle.showing_verbs.proofs.Showing.{lines_at}
+use Rattle.showing_verbs.proofs.Showing.{lines_at, same_setup}
 use Rattle.showing_verbs.proofs.solution.show_setup.Goals as goal
 use Rattle.setup_verbs.proofs.Present.{ready_columns, ready_rows, ready_unchanged, stays_on_file}
 
@@ -25,3 +25,6 @@ returns-clause-tells g c =
     lines_at c.args.file.now c.setup.view_is c.args.mark c.problem_on_file-problem.result.now c.problem_on_file-problem.ensures
     (g.P.Sink.taken c.args.print.now) (g.P.Sink.taken c.show_basis.new.print) c.show_basis.result
     c.show_basis.ensures.tells
+
+pub returns-clause-same : goal.returns-clause-same
+returns-clause-same g c = same_setup c.setup.view_is (g.E.Rates.state c.show_basis.new.rates) c.show_basis.ensures.rates.1

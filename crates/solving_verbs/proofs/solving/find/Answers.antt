@@ -16,27 +16,21 @@ returns-in-Err-clause-tells g c =
     (ap (λ (s : Setup). filed_under s.name c.args.file.now) (sym c.setup.view_is) ∙ c.problem_on_file-problem.ensures)
     (g.P.Sink.taken c.args.print.now) c.in-Err.refusal c.in-Err.ensures.refused)
 
-pub follow-requires-clause-sheet : goal.follow-requires-clause-sheet
-follow-requires-clause-sheet g c =
+pub follow-requires : goal.follow-requires
+follow-requires g c =
     let is =
     now_is c.args.setup.now c.setup-2.view_is c.select_again.ensures.others c.args.file.now c.problem_on_file-problem.result.now c.args.cells.now c.in_default.ensures.selected in
     record {
-      rows = as_many_rows c.problem_on_file-problem.result.now (choice_of c.args.cells.now c.args.setup.now.options) _ is;
-      columns = as_many_columns c.problem_on_file-problem.result.now (choice_of c.args.cells.now c.args.setup.now.options) _ is;
+      sheet = record {
+        rows = as_many_rows c.problem_on_file-problem.result.now (choice_of c.args.cells.now c.args.setup.now.options) _ is;
+        columns = as_many_columns c.problem_on_file-problem.result.now (choice_of c.args.cells.now c.args.setup.now.options) _ is;
+      };
+      lawful = c.number_of_variables-size.ensures.lawful;
+      no_change = no_change c.problem_on_file-problem.result.now (choice_of c.args.cells.now c.args.setup.now.options) _ is;
+      rates =
+          rates_again c.args.setup.now c.setup-2.view_is c.select_again.ensures.others c.args.file.now c.problem_on_file-problem.result.now c.args.cells.now c.in_default.ensures.selected c.requires
+          (ap (λ (s : Setup). filed_under s.name c.args.file.now) (sym c.setup.view_is) ∙ c.problem_on_file-problem.ensures);
     }
-
-pub follow-requires-clause-lawful : goal.follow-requires-clause-lawful
-follow-requires-clause-lawful g c = c.number_of_variables-size.ensures.lawful
-
-pub follow-requires-clause-no_change : goal.follow-requires-clause-no_change
-follow-requires-clause-no_change g c =
-    no_change c.problem_on_file-problem.result.now (choice_of c.args.cells.now c.args.setup.now.options) _
-    (now_is c.args.setup.now c.setup-2.view_is c.select_again.ensures.others c.args.file.now c.problem_on_file-problem.result.now c.args.cells.now c.in_default.ensures.selected)
-
-pub follow-requires-clause-rates : goal.follow-requires-clause-rates
-follow-requires-clause-rates g c =
-    rates_again c.args.setup.now c.setup-2.view_is c.select_again.ensures.others c.args.file.now c.problem_on_file-problem.result.now c.args.cells.now c.in_default.ensures.selected c.requires
-    (ap (λ (s : Setup). filed_under s.name c.args.file.now) (sym c.setup.view_is) ∙ c.problem_on_file-problem.ensures)
 
 pub returns-clause-tells : goal.returns-clause-tells
 returns-clause-tells g c =

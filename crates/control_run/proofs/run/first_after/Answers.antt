@@ -1,6 +1,0 @@
-use Rattle.std.proofs.Common.{arith}
-use Rattle.control_run.proofs.Clamping.{same_after}
-use Rattle.control_run.proofs.run.first_after.Goals as goal
-
-pub returns-clause-same : goal.returns-clause-same
-returns-clause-same c = same_after c.args.cards.now c.args.program.now.decks_from _ (omega arith)
