@@ -5,8 +5,9 @@ use long_vectors::Column;
 use lp_model::Lp;
 use std::alloc::AllocError;
 
-/// A sum with one number counts as so many products with each limb of what is added: it is multiplied, and then added.
-const PRODUCTS_OF_A_NUMBER: usize = 2;
+/// A sum with one number counts as so many products with each limb of what is added: a product is made, with memory of its own, and
+/// then the sum, which takes some six times as long as a product of two limbs in a row of them.
+const PRODUCTS_OF_A_NUMBER: usize = 6;
 
 /// A variable counts as so many numbers beside those of its column: it is compared with its limits, each by a sum of three products, and
 /// its own number is one of the sum of its row.
