@@ -97,7 +97,7 @@ class Simplex:
                 return k, upper, False
         return None
 
-    def stopper(self, q: int, sign: int) -> tuple[Number, int, bool] | None:
+    def blocking(self, q: int, sign: int) -> tuple[Number, int, bool] | None:
         "how far q goes until something stops it first, the least-numbered of what does, and whether that comes to its lower limit"
         best = None
         for k in sorted([*self.line_of, q]):
@@ -129,7 +129,7 @@ class Simplex:
                 if entering is None:
                     return
                 q, sign = entering, 1 if cost[entering] < 0 else -1
-                stop = self.stopper(q, sign)
+                stop = self.blocking(q, sign)
                 if stop is None:
                     sys.exit("UNBOUNDED")
                 room, p, to_lower = stop
