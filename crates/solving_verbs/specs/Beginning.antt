@@ -8,8 +8,8 @@ use Rattle.listing_tables.specs.declared.sheet.Sheet.{Sheet}
 use Rattle.listing_tables.specs.Sheets.{IsSheet}
 
 -- at a basis of the sheet's linear program, to whose objective no row is added, with the rates of this basis
-pub record BeginsAt (at : Sheet) (rates : RatesState) (basis : List Status) : Type 0 where
+pub record BeginsAt (at : Sheet) (state : RatesState) (basis : List Status) : Type 0 where
   pub sheet : IsSheet at
   pub lawful : IsLinearProgram at.lp.now
   pub no_change : at.lp.now.change ≡ None
-  pub rates : IsAtBasis rates at.lp.now basis
+  pub rates : IsAtBasis state at.lp.now basis
