@@ -2,7 +2,7 @@
 //! `random.getrandbits` after `random.seed(360)`, and worked out what is wanted of them by `fractions.Fraction` and `math.lcm`.
 
 use crate::made::integer;
-use listing_words::Number;
+use listing_words::{Allowance, Number};
 use long_numbers::is_number;
 use long_vectors::{Column, along, column_of, value_of};
 use std::alloc::{AllocError, Global};
@@ -72,12 +72,16 @@ fn number(alloc: Global, word: &'static [u8]) -> Result<Number<'static>, AllocEr
     }
 }
 
-fn column(alloc: Global, words: &[&'static [u8]]) -> Result<Column, AllocError> {
+fn column(
+    alloc: Global,
+    words: &[&'static [u8]],
+    allowance: &mut Allowance,
+) -> Result<Column, AllocError> {
     let mut numbers = Vec::new(alloc);
     for word in words {
         numbers.push(number(alloc, word)?)?;
     }
-    column_of(alloc, &numbers)
+    column_of(alloc, &numbers, allowance)
 }
 
 fn moved(
@@ -85,14 +89,15 @@ fn moved(
     theta: &'static [u8],
     values: &[&'static [u8]],
     rates: &[&'static [u8]],
+    allowance: &mut Allowance,
 ) -> Result<Column, AllocError> {
     let theta = value_of(alloc, &number(alloc, theta)?)?;
-    let value = column(alloc, values)?;
-    let rate = column(alloc, rates)?;
+    let value = column(alloc, values, allowance)?;
+    let rate = column(alloc, rates, allowance)?;
     if value.tops.len() != rate.tops.len() {
         return Err(AllocError);
     }
-    along(alloc, &theta, &value, &rate)
+    along(alloc, &theta, &value, &rate, allowance)
 }
 
 // Whether two vectors are equal, by cross products.
@@ -113,11 +118,13 @@ fn are_equal(alloc: Global, a: &Column, b: &Column) -> Result<bool, AllocError> 
 #[test]
 fn vectors_over_one_denominator(rt: HostRuntime) -> Result<(), Fail> {
     let alloc = rt.alloc();
+    let mut allowance = Allowance::new();
     for (theta, values, denominator, rates, wanted) in VECTORS {
-        let value = column(alloc, values)?;
+        let value = column(alloc, values, &mut allowance)?;
         assert!(rt; value.bottom.compare(&integer(alloc, denominator)?) == Ordering::Equal);
-        let found = moved(alloc, theta, values, rates)?;
-        assert!(rt; are_equal(alloc, &found, &column(alloc, wanted)?)?);
+        let found = moved(alloc, theta, values, rates, &mut allowance)?;
+        let wanted = column(alloc, wanted, &mut allowance)?;
+        assert!(rt; are_equal(alloc, &found, &wanted)?);
         assert!(rt; !are_equal(alloc, &found, &value)?);
     }
     Ok(())
