@@ -3,7 +3,7 @@ use Rattle.std.proofs.Common.{ap, subst, ◌∙◌}
 use Rattle.control_definitions.specs.Program.{SetupOptions}
 use Rattle.listing_definitions.specs.Report.{SetUp}
 use Rattle.listing_definitions.specs.Text.{report_text}
-use Rattle.listing_walk.specs.declared.selecting.Unselected.TheVariants.{Fault, Unchecked}
+use Rattle.listing_walk.specs.declared.selecting.Unselected.TheVariants.{Unchecked}
 use Rattle.listing_walk.specs.Choosing.{IsOpened, IsNotOpened}
 use Rattle.listing_walk.proofs.SettingUp.{setup_done_by, setup_faulted_by, setup_unchecked}
 use Rattle.listing_walk.proofs.setup.set_up.Goals as goal
@@ -18,10 +18,9 @@ returns-in_ok-text-in-Ok-clause-walks c = λ C cards.
 
 pub returns-in-Err-Fault-clause-walks : goal.returns-in-Err-Fault-clause-walks
 returns-in-Err-Fault-clause-walks c = λ C cards.
-    setup_faulted_by C c.args.card cards c.args.machine.now
-    c.args.options.now c.args.place.now c.fault.new.place c.fault.result c.in-Err-Fault.refusal
-    (subst (λ (options : SetupOptions). IsNotOpened c.args.machine.now.cells c.args.machine.now.file options (Fault c.in-Err-Fault.refusal)) c.options.view_is
-    (rw c.in-Err-Fault.field-0-is at c.in-Err-Fault.ensures.refused)) c.fault.ensures.passes
+    setup_faulted_by C c.args.card cards c.args.machine.now c.args.options.now c.args.place.now c.fault.new.place c.fault.result c.in-Err-Fault.refusal
+    (rw c.options.view_is at (rw c.in-Err-Fault.field-0-is at c.in-Err-Fault.ensures.refused))
+    (rw c.in-Err-Fault.field-0-is at c.fault.ensures.passes)
 
 pub returns-in-Err-Unchecked-clause-walks : goal.returns-in-Err-Unchecked-clause-walks
 returns-in-Err-Unchecked-clause-walks c = λ C cards.
