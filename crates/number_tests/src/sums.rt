@@ -413,15 +413,27 @@ fn sums_of_products(rt: HostRuntime) -> Result<(), Fail> {
     Ok(())
 }
 
+// Whether a sum is what is wanted after each product that is added.
+fn is_followed(
+    alloc: Global,
+    sum: &mut Sum,
+    products: &[(&[u8], &[u8], &[u8])],
+) -> Result<bool, AllocError> {
+    for (x, y, so_far) in products {
+        sum.add_product(alloc, fraction(x)?, fraction(y)?)?;
+        if sum.value(alloc)? != wanted(so_far)? {
+            return Ok(false);
+        }
+    }
+    Ok(true)
+}
+
 #[test]
 fn sums_of_products_of_fractions(rt: HostRuntime) -> Result<(), Fail> {
     let alloc = rt.alloc();
     for (first, products, divisor, quotient) in PRODUCTS {
         let mut sum = Sum::new(alloc, fraction(first)?)?;
-        for (x, y, so_far) in products {
-            sum.add_product(alloc, fraction(x)?, fraction(y)?)?;
-            assert_eq!(rt; sum.value(alloc)?, wanted(so_far)?);
-        }
+        assert!(rt; is_followed(alloc, &mut sum, products)?);
         assert_eq!(rt;
             quotient_by(alloc, &sum, fraction(divisor)?)?,
             wanted(quotient)?
