@@ -1,6 +1,6 @@
 -- Worked conditions: 3 - x, 1 + 2x, 5 - 2x and 0 - 0x all hold at 0.
 use Rattle.std.proofs.Common.{◌≡◌, List, [], ◌∷◌, refl, pos, negsuc}
-use Rattle.divisors.specs.Gcd.{gcd}
+use Rattle.exact_values.specs.Gcd.{gcd}
 use Rattle.exact_values.specs.Rational.{fraction, whole, zero_ℚ, ◌+ℚ◌, ◌*ℚ◌, neg_ℚ, inverse_ℚ, reciprocal, compare_ℚ}
 use Rattle.affine_laws.specs.Conditions.{Condition, reach_of}
 

@@ -2,7 +2,7 @@
 
 ghost use Rattle.std.specs.Prelude.{pos, ◌≤ℤ◌};
 
-use divisors::gcd;
+use exact_values::gcd;
 use frac128::{Frac, Op};
 use std::cmp::Ordering;
 use std::io;

@@ -3,8 +3,8 @@ use Rattle.std.proofs.Common.{◌≡◌, ℕ, ◌*◌, ◌/◌, sym, ap, ◌∙�
 use Rattle.std.specs.Prelude.{not, ◌+ℤ◌, ◌*ℤ◌, unsigned_abs}
 use Rattle.std.proofs.Math.IntN.{*ℤ-one, zero-*ℤ, +ℤ_idr}
 use Rattle.std.proofs.Math.Nat.{div-one, mul-one}
-use Rattle.divisors.specs.Gcd.{gcd}
-use Rattle.divisors.proofs.GcdLaws.{gcd-one_right}
+use Rattle.exact_values.specs.Gcd.{gcd}
+use Rattle.exact_values.specs.GcdLaws.{gcd-one_right}
 use Rattle.exact_values.specs.Rational.{ℚ, whole, zero_ℚ, ◌*ℚ◌}
 use Rattle.exact_values.proofs.RingLaws.{zero-mul, mul-zero}
 use Rattle.frac128.specs.declared.Op.TheVariants.{Add, Mul}

@@ -1,7 +1,7 @@
 -- Worked problems: what the checks say of their points, prices, rays and directions, and of wrong ones.
 use Rattle.std.proofs.Common.{◌≡◌, ℕ, ◌*◌, ◌^◌, List, [], ◌∷◌, refl, pos, negsuc}
 use Rattle.std.specs.Prelude.{Option, Some, None}
-use Rattle.divisors.specs.Gcd.{gcd}
+use Rattle.exact_values.specs.Gcd.{gcd}
 use Rattle.exact_values.specs.Rational.{ℚ, whole, fraction, zero_ℚ, ◌+ℚ◌, ◌*ℚ◌, neg_ℚ, compare_ℚ}
 use Rattle.frac128.specs.declared.Op.TheVariants.{Mul}
 use Rattle.frac128.specs.Operations.{refuses, shared_factor, raised_numerator, raised_sum, sum_denominator}

@@ -1,7 +1,7 @@
 -- Each control fault, computed.
 use Rattle.std.specs.Prelude.{◌≡◌, refl, ℕ, ◌++◌, codes, Option, Some, None, replicate}
 use Prim.Native.String.{String}
-use Rattle.divisors.specs.Gcd.{gcd}
+use Rattle.exact_values.specs.Gcd.{gcd}
 use Rattle.exact_values.specs.Rational.{fraction}
 use Rattle.card_definitions.specs.Cards.{Card, cards_of}
 use Rattle.card_definitions.specs.Numbers.{number_of, number_fault, value_of}

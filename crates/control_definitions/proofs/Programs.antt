@@ -1,7 +1,7 @@
 -- Control programs without a fault, computed.
 use Rattle.std.specs.Prelude.{◌≡◌, refl, ℕ, List, [], ◌∷◌, ◌++◌, codes, Option, Some, None, Result, Ok, option_map, pos, negsuc, ℤ}
 use Prim.Native.String.{String}
-use Rattle.divisors.specs.Gcd.{gcd}
+use Rattle.exact_values.specs.Gcd.{gcd}
 use Rattle.exact_values.specs.Rational.{ℚ, fraction}
 use Rattle.lp_definitions.specs.declared.Sense.TheVariants.{Min, Max}
 use Rattle.card_definitions.specs.Cards.{cards_of}

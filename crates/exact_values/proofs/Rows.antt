@@ -1,6 +1,6 @@
 -- Worked rows: the definitions at closed numbers. Equal numbers hold equal terms, and terms compute.
 use Rattle.std.proofs.Common.{◌≡◌, ℕ, ℤ, pos, negsuc, true, false, refl, Less}
-use Rattle.divisors.specs.Gcd.{gcd}
+use Rattle.exact_values.specs.Gcd.{gcd}
 use Rattle.exact_values.specs.Rational.{ℚ, whole, fraction, zero_ℚ, one_ℚ, neg_ℚ, inverse_ℚ, reciprocal, ◌+ℚ◌, ◌-ℚ◌, ◌*ℚ◌, ◌/ℚ◌, compare_ℚ, sign_ℚ}
 use Rattle.exact_values.specs.Tests.{lt_ℚ, le_ℚ, eq_ℚ}
 use Rattle.exact_values.specs.Sums.{sum_to, sum_up_to}

@@ -1,3 +1,6 @@
+pub mod Gcd
+pub mod GcdLaws
+pub mod QuotientLaws
 pub mod Rational
 pub mod Sums
 pub mod Laws

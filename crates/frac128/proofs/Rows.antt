@@ -1,7 +1,7 @@
 -- Worked rows: which sums, products and quotients are refused. M is 2^127 - 1, the largest magnitude that fits.
 use Rattle.std.proofs.Common.{◌≡◌, ◌^◌, ◌-◌, ℕ, ℤ, pos, Bool, true, false, refl}
 use Rattle.std.specs.Prelude.{neg_ℤ}
-use Rattle.divisors.specs.Gcd.{gcd}
+use Rattle.exact_values.specs.Gcd.{gcd}
 use Rattle.exact_values.specs.Rational.{fraction, neg_ℚ, inverse_ℚ, reciprocal, ◌*ℚ◌}
 use Rattle.frac128.specs.Operations.{refuses, shared_factor, raised_numerator, raised_sum, sum_denominator}
 use Rattle.frac128.specs.declared.Op.{Op}

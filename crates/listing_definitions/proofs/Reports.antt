@@ -1,7 +1,7 @@
 -- Reports as they are printed, computed.
 use Rattle.std.specs.Prelude.{◌≡◌, refl, ℕ, List, [], ◌∷◌, ◌++◌, codes, pos, negsuc}
 use Prim.Native.String.{String}
-use Rattle.divisors.specs.Gcd.{gcd}
+use Rattle.exact_values.specs.Gcd.{gcd}
 use Rattle.exact_values.specs.Rational.{fraction, whole}
 use Rattle.frac128.specs.declared.Op.TheVariants.{Add, Mul}
 use Rattle.lp_definitions.specs.declared.Sense.TheVariants.{Min, Max}

@@ -1,7 +1,7 @@
 -- Worked problems: their points, prices, rays and directions are what the definitions say.
 use Rattle.std.proofs.Common.{◌≡◌, ℕ, zero, suc, ◌+◌, List, [], ◌∷◌, refl, pos, negsuc, true, false, arith}
 use Rattle.std.specs.Prelude.{Some, None, IfSome, IsSome}
-use Rattle.divisors.specs.Gcd.{gcd}
+use Rattle.exact_values.specs.Gcd.{gcd}
 use Rattle.exact_values.specs.Rational.{ℚ, whole, fraction, zero_ℚ, one_ℚ, ◌+ℚ◌, ◌-ℚ◌, ◌*ℚ◌, neg_ℚ, ◌<ℚ◌, ◌≤ℚ◌, compare_ℚ}
 use Rattle.exact_values.specs.Sums.{sum_to, sum_up_to}
 use Rattle.exact_values.proofs.Fractions.{same_parts}

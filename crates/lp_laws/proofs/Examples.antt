@@ -1,7 +1,7 @@
 -- A worked refusal: where the row of 1/10^19 is exchanged for the column, the column's cost of 999999999 * 10^18 is to be multiplied
 -- by 10^19, which has no room in 128 bits.
 use Rattle.std.proofs.Common.{◌≡◌, ◌≢◌, ℕ, [], ◌∷◌, pos, refl, inl, inr, arith}
-use Rattle.divisors.specs.Gcd.{gcd}
+use Rattle.exact_values.specs.Gcd.{gcd}
 use Rattle.exact_values.specs.Rational.{ℚ, whole, fraction, reciprocal, inverse_ℚ, zero_ℚ, ◌*ℚ◌}
 use Rattle.exact_values.proofs.Fractions.{same_parts}
 use Rattle.exact_values.proofs.Inverse.{numerator_of_zero}

@@ -8,7 +8,7 @@ use thiserror::Error;
 #[derive(Clone, Copy, Debug, PartialEq, Eq, Error)]
 pub enum SelectStop {
     /// The choice has a fault.
-    #[error("the choice has a fault")]
+    #[error("{0}")]
     Fault(SelectionFault),
     /// A row's right-hand side with the magnitude of its range is too large a number, or a product or a sum of a combination is, as the
     /// evidence shows.

@@ -2,7 +2,7 @@
 -- shown in `Courses`.
 use Rattle.std.specs.Prelude.{◌≡◌, refl, ℕ, List, [], codes, Option, Some, option_map}
 use Prim.Native.String.{String}
-use Rattle.divisors.specs.Gcd.{gcd}
+use Rattle.exact_values.specs.Gcd.{gcd}
 use Rattle.exact_values.specs.Rational.{fraction, whole, compare_ℚ}
 use Rattle.card_definitions.specs.Cards.{cards_of, job_fault}
 use Rattle.card_definitions.specs.Fields.{reading_of}

@@ -1,6 +1,6 @@
 -- Worked columns of combinations, computed. Values are compared by their terms.
 use Rattle.std.specs.Prelude.{◌≡◌, refl, ℕ, List, [], ◌∷◌, map, Some, pos, negsuc, ℤ}
-use Rattle.divisors.specs.Gcd.{gcd}
+use Rattle.exact_values.specs.Gcd.{gcd}
 use Rattle.exact_values.specs.Rational.{whole, fraction, ◌+ℚ◌, ◌*ℚ◌}
 use Rattle.lp_definitions.specs.declared.Entry.{Entry as Coefficient}
 use Rattle.problem_definitions.specs.declared.RowKind.TheVariants.{N, G, L}

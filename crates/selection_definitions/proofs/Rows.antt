@@ -1,7 +1,7 @@
 -- Worked selections, computed. Values are compared by their terms.
 use Rattle.std.specs.Prelude.{◌≡◌, refl, ℕ, List, [], ◌∷◌, codes, Option, Some, None, option_map, pos, negsuc, ℤ}
 use Prim.Native.String.{String}
-use Rattle.divisors.specs.Gcd.{gcd}
+use Rattle.exact_values.specs.Gcd.{gcd}
 use Rattle.exact_values.specs.Rational.{ℚ, fraction, whole, neg_ℚ, ◌+ℚ◌, compare_ℚ}
 use Rattle.lp_definitions.specs.declared.Sense.TheVariants.{Min}
 use Rattle.problem_definitions.specs.declared.RowKind.{RowKind}

@@ -1,7 +1,7 @@
 -- Worked intervals: how far the conditions of a change hold, from the present value on, in problems whose intervals are known.
 use Rattle.std.proofs.Common.{◌≡◌, ℕ, List, [], ◌∷◌, ◌++◌, refl, pos, negsuc, filter}
 use Rattle.std.specs.Prelude.{Option, Some, None}
-use Rattle.divisors.specs.Gcd.{gcd}
+use Rattle.exact_values.specs.Gcd.{gcd}
 use Rattle.exact_values.specs.Rational.{ℚ, fraction, whole, ◌+ℚ◌, ◌*ℚ◌, neg_ℚ, inverse_ℚ, reciprocal, compare_ℚ}
 use Rattle.exact_values.specs.Sums.{sum_to}
 use Rattle.affine_laws.specs.Conditions.{Condition, reach_of}

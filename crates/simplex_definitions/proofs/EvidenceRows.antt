@@ -4,7 +4,7 @@ use Rattle.std.specs.Prelude.{Some, None}
 use Rattle.exact_values.specs.Rational.{ℚ, fraction, whole, zero_ℚ, ◌+ℚ◌, ◌*ℚ◌, neg_ℚ, inverse_ℚ, reciprocal, compare_ℚ}
 use Rattle.exact_values.specs.Sums.{sum_to}
 use Rattle.exact_values.proofs.Fractions.{same_parts}
-use Rattle.divisors.specs.Gcd.{gcd}
+use Rattle.exact_values.specs.Gcd.{gcd}
 use Rattle.frac128.specs.declared.Op.{Op}
 use Rattle.frac128.specs.declared.Op.TheVariants.{Sub, Mul, Div}
 use Rattle.frac128.specs.Operations.{refuses, shared_factor, raised_numerator, raised_sum, sum_denominator}

@@ -3,7 +3,7 @@ use Rattle.std.proofs.Common.{◌≡◌, ℕ, List, [], ◌∷◌, refl, pos, ne
 use Rattle.std.specs.Prelude.{Some}
 use Rattle.exact_values.specs.Rational.{ℚ, fraction, whole, zero_ℚ, one_ℚ, ◌+ℚ◌, ◌*ℚ◌, neg_ℚ, inverse_ℚ, reciprocal, compare_ℚ}
 use Rattle.exact_values.specs.Sums.{sum_to, sum_up_to}
-use Rattle.divisors.specs.Gcd.{gcd}
+use Rattle.exact_values.specs.Gcd.{gcd}
 use Rattle.lp_definitions.specs.LinearProgram.{LinearProgram, size, variables}
 use Rattle.lp_definitions.specs.Basis.{Tableau, is_basic, status_of}
 use Rattle.lp_definitions.specs.declared.Status.{Status}

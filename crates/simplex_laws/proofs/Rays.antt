@@ -3,7 +3,7 @@ use Rattle.std.proofs.Common.{◌≡◌, ◌≢◌, ℕ, suc, ◌+◌, ◌⊎◌
 use Rattle.std.specs.Prelude.{Option, Some, None, not, ◌&&◌, ◌||◌, unwrap_or, if◌then◌else◌, nat_eq, eqb}
 use Rattle.std.proofs.lemmas.Bool.Decides.{eqb_tells}
 use Rattle.std.proofs.lemmas.Bool.{and_parts}
-use Rattle.divisors.specs.Gcd.{gcd}
+use Rattle.exact_values.specs.Gcd.{gcd}
 use Rattle.exact_values.specs.Rational.{ℚ, whole, fraction, zero_ℚ, one_ℚ, neg_ℚ, ◌+ℚ◌, ◌*ℚ◌, ◌≤ℚ◌, ◌<ℚ◌}
 use Rattle.exact_values.specs.Tests.{lt_ℚ}
 use Rattle.exact_values.proofs.Ring.{by_ring1, ◌⊗◌, ◌≐◌, number, opposite}

@@ -1,7 +1,7 @@
 //! The exact values, tried on numbers at their limits.
 
 use crate::texts::{Parts, fraction};
-use divisors::gcd;
+use exact_values::gcd;
 use frac128::{Frac, Op, Refused};
 use std::alloc::Global;
 use std::cmp::Ordering;

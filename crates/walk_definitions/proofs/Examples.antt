@@ -1,6 +1,6 @@
 -- Worked words and lines, computed.
 use Rattle.std.specs.Prelude.{◌≡◌, refl, pos, true, false, [], codes, Some, None, is_some, is_none}
-use Rattle.divisors.specs.Gcd.{gcd}
+use Rattle.exact_values.specs.Gcd.{gcd}
 use Rattle.exact_values.specs.Rational.{fraction, whole, neg_ℚ}
 use Rattle.listing_definitions.specs.Numbers.{digits}
 use Rattle.walk_definitions.specs.Checkers.{Checker, checker_of_128_bits, checker_of_any_length}

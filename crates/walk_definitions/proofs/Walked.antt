@@ -1,6 +1,6 @@
 -- Worked walks: a title and the end; a line of a name with blanks; and PRIMAL with SOLUTION, on one row and one column.
 use Rattle.std.specs.Prelude.{◌≡◌, refl, ℕ, ◌++◌, pos, List, [], ◌∷◌, codes, Some, None}
-use Rattle.divisors.specs.Gcd.{gcd}
+use Rattle.exact_values.specs.Gcd.{gcd}
 use Rattle.exact_values.specs.Rational.{whole, fraction, neg_ℚ, ◌+ℚ◌, ◌*ℚ◌, compare_ℚ}
 use Rattle.frac128.specs.declared.Op.TheVariants.{Mul}
 use Rattle.frac128.specs.Operations.{refuses, shared_factor, raised_numerator, raised_sum, sum_denominator}

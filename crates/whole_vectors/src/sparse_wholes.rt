@@ -10,7 +10,7 @@ ghost use Rattle.whole_vectors.specs.Ranks.{IsRank, AreWritten, AreChanged, AreK
 
 use crate::places::enlist;
 use crate::whole_numbers::{whole_multiple, whole_number, whole_quotient};
-use divisors::gcd;
+use exact_values::gcd;
 use frac128::Frac;
 use std::alloc::{AllocError, Global};
 use std::marker::Model;

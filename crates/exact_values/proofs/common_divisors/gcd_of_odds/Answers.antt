@@ -1,6 +1,6 @@
 use Rattle.std.specs.Int.{w128}
-use Rattle.divisors.proofs.Twos.{odds_step, odds_end}
-use Rattle.divisors.proofs.gcd_of_odds.Goals as goal
+use Rattle.exact_values.proofs.Twos.{odds_step, odds_end}
+use Rattle.exact_values.proofs.common_divisors.gcd_of_odds.Goals as goal
 
 pub loop-x-preserved : goal.loop-x-preserved
 loop-x-preserved c =

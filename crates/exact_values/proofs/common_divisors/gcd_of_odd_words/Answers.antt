@@ -1,6 +1,6 @@
 use Rattle.std.specs.Int.{w64}
-use Rattle.divisors.proofs.Twos.{odds_step, odds_end}
-use Rattle.divisors.proofs.gcd_of_odd_words.Goals as goal
+use Rattle.exact_values.proofs.Twos.{odds_step, odds_end}
+use Rattle.exact_values.proofs.common_divisors.gcd_of_odd_words.Goals as goal
 
 pub loop-x-preserved : goal.loop-x-preserved
 loop-x-preserved c =

@@ -1,8 +1,8 @@
 use Rattle.std.proofs.Common.{◌+◌}
 use Rattle.std.specs.Int.{w128}
-use Rattle.divisors.specs.Gcd.{gcd}
-use Rattle.divisors.proofs.Twos.{OddPair}
-use Rattle.divisors.proofs.gcd_of_odds.Given as goal
+use Rattle.exact_values.specs.Gcd.{gcd}
+use Rattle.exact_values.proofs.Twos.{OddPair}
+use Rattle.exact_values.proofs.common_divisors.gcd_of_odds.Given as goal
 
 abbrev pub invariant-loop-x : goal.invariant-loop-x
 invariant-loop-x l = OddPair w128 l.x l.y (gcd l.fn.a l.fn.b)

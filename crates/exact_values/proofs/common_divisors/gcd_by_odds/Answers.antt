@@ -1,8 +1,8 @@
 use Rattle.std.proofs.Common.{◌∙◌, rules, ap, ◌*◌, ◌%◌, ◌^◌}
 use Rattle.std.specs.Int.{w128}
 use mir.Val.{bits}
-use Rattle.divisors.proofs.Twos.{gcd-small_zero, gcd-near, gcd-near_zero, odd_part, shifted_back}
-use Rattle.divisors.proofs.gcd_by_odds.Goals as goal
+use Rattle.exact_values.proofs.Twos.{gcd-small_zero, gcd-near, gcd-near_zero, odd_part, shifted_back}
+use Rattle.exact_values.proofs.common_divisors.gcd_by_odds.Goals as goal
 
 pub returns-then-small-eq0 : goal.returns-then-small-eq0
 returns-then-small-eq0 c = gcd-small_zero c.args.a c.args.b _ _ c.max-large.ensures c.min-small.ensures c.if-small-eq0.true
