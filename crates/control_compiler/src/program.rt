@@ -15,13 +15,6 @@ pub struct Program {
     decks_from: u32,
 }
 
-/// What a run goes by: a compiled program, and the cards of its job.
-#[derive(Clone, Copy)]
-pub struct RunInput<'a> {
-    pub program: &'a Program,
-    pub cards: &'a Cards,
-}
-
 impl Model for Program {
     ghost use Rattle.std.specs.Prelude.{map};
     ghost use Rattle.control_definitions.specs.Program.{Program as Compiled};
@@ -79,4 +72,11 @@ impl Program {
     {
         self.decks_from
     }
+}
+
+/// What a run goes by: a compiled program, and the cards of its job.
+#[derive(Clone, Copy)]
+pub struct RunInput<'a> {
+    pub program: &'a Program,
+    pub cards: &'a Cards,
 }

@@ -18,6 +18,9 @@ use problem_file::{Problem, ProblemFile};
 use run_cells::Cells;
 use std::alloc::Global;
 
+/// A run executes at most so many statements.
+pub const MAX_EXECUTED: u32 = 100_000;
+
 /// All that statements see and change: the cells and demands, the problems on file, the number of the first card whose deck isn't
 /// taken yet, the setup and the mark. `S` is the type of what SETUP keeps.
 #[derive(Drop)]
@@ -28,9 +31,6 @@ pub struct Machine<S> {
     pub setup: Option<S>,
     pub mark: Option<Mark>,
 }
-
-/// A run executes at most so many statements.
-pub const MAX_EXECUTED: u32 = 100_000;
 
 /// The name under which the problem that is wanted is filed: that of its cell, or else the one put last.
 pub fn wanted_name(moved: Option<Name>, file: &ProblemFile) -> Option<Name>
