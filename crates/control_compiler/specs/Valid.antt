@@ -1,5 +1,5 @@
 -- What holds of every compiled program.
-use Rattle.std.specs.Prelude.{ℕ, ◌+◌, ◌≤◌, ◌<◌, length, Option, Some, None, All, IfSome}
+use Rattle.std.specs.Prelude.{ℕ, ◌+◌, ◌≤◌, ◌<◌, length, Option, None, All, IfSome}
 use Rattle.control_definitions.specs.declared.TheConstants.{MAX_STATEMENTS, MAX_STEPS}
 use Rattle.control_definitions.specs.Program.{Verb, MoveLimit, Program, label_argument}
 

@@ -1,5 +1,5 @@
 -- The end's own lines, printed or broken off.
-use Rattle.std.proofs.Common.{◌≡◌, ℕ, Ok, Err, subst}
+use Rattle.std.proofs.Common.{◌≡◌, Ok, Err, subst}
 use Rattle.job_devices.specs.States.{SinkState}
 use Rattle.job_devices.specs.declared.device.WriteStop.{WriteStop}
 use Rattle.job_devices.specs.Text.{Writes}

@@ -4,7 +4,7 @@
 use Rattle.std.specs.Prelude.{◌≡◌, ℕ, List, Option, None, Some, IfSome}
 use Rattle.deck_definitions.specs.Transport.{made_job}
 use Rattle.control_definitions.specs.Program.{Program}
-use Rattle.listing_definitions.specs.Ending.{Ending, WordsRefused}
+use Rattle.listing_definitions.specs.Ending.{WordsRefused}
 use Rattle.listing_definitions.specs.Ending as endings
 use Rattle.listing_definitions.specs.Listing.{ending_text}
 use Rattle.run_definitions.specs.Answer.{IsProgramOf}

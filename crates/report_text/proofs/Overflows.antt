@@ -4,7 +4,6 @@ use Rattle.std.specs.List.{concat, flat_map}
 use Rattle.std.proofs.lemmas.List.Concat.{flat_map-append}
 use Rattle.std.proofs.lemmas.List.{append-nil}
 use Rattle.listing_definitions.specs.Numbers.{digits}
-use Rattle.listing_definitions.specs.Ending.{Overflow}
 use Rattle.listing_definitions.specs.Listing.{overflow_text}
 use Rattle.listing_definitions.specs.Text.{refused_text}
 use Rattle.lp_definitions.specs.declared.Evidence.{Evidence}

@@ -1,12 +1,12 @@
 -- What a card gives in whose tests no fault was found: what its edit needs.
-use Rattle.std.proofs.Common.{◌≡◌, ℕ, ◌+◌, Bool, true, false, cond, not, ◌&&◌, ◌||◌, List, [], ◌∷◌, ◌++◌, Option, Some, None, is_some, is_none, unwrap_or, length, nat_le, refl, sym, subst, ◌∙◌}
+use Rattle.std.proofs.Common.{◌≡◌, ℕ, ◌+◌, Bool, true, false, cond, not, ◌&&◌, List, [], ◌∷◌, ◌++◌, Option, Some, None, is_some, is_none, length, nat_le, refl, sym, subst, ◌∙◌}
 use Rattle.std.specs.Option.{option_or, IfSome}
 use Rattle.card_definitions.specs.Words.{named, is_empty, ◌⟹◌}
 use Rattle.card_definitions.specs.Fields.{Reading}
 use Rattle.problem_definitions.specs.declared.TheConstants.{MAX_ROWS, MAX_COLUMNS}
 use Rattle.problem_definitions.specs.declared.BoundKind.{BoundKind}
-use Rattle.problem_definitions.specs.Names.{Name, same}
-use Rattle.problem_definitions.specs.Problem.{Row, Entry, Group, Problem, has_row, has_group, has_combination, entry_count}
+use Rattle.problem_definitions.specs.Names.{Name}
+use Rattle.problem_definitions.specs.Problem.{Row, Entry, Problem, has_row, has_group, has_combination, entry_count}
 use Rattle.problem_definitions.specs.Parts.{parts_of, rows_before}
 use Rattle.problem_definitions.specs.Groups.{items_of}
 use Rattle.deck_definitions.specs.declared.DeckFaultKind.{DeckFaultKind}

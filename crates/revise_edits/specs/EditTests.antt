@@ -1,5 +1,5 @@
 -- What the tests of a data card look at, beside the problem and the card.
-use Rattle.std.specs.Prelude.{ℕ, ◌-◌, Bool, not, ◌&&◌, List, [], ◌∷◌, nat_le, Option, if◌then◌else◌, length, take}
+use Rattle.std.specs.Prelude.{ℕ, Bool, not, ◌&&◌, List, [], ◌∷◌, nat_le, Option, if◌then◌else◌, length, take}
 use Rattle.card_definitions.specs.Words.{is_empty, ◌⟹◌, first_fault}
 use Rattle.card_definitions.specs.Fields.{Reading}
 use Rattle.problem_definitions.specs.declared.TheConstants.{MAX_COLUMNS, MAX_ENTRIES}

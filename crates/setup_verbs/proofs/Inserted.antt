@@ -1,5 +1,5 @@
 -- What INSERT comes to.
-use Rattle.std.proofs.Common.{◌≡◌, ℕ, ◌+◌, ◌-◌, ◌≤◌, List, [], ◌∷◌, Option, Some, None, IfSome, Result, Ok, Err, inl, inr, refl, sym, ap, subst, ◌∙◌, arith, length, drop, All}
+use Rattle.std.proofs.Common.{◌≡◌, ℕ, ◌-◌, List, [], ◌∷◌, Option, Some, None, IfSome, Result, Ok, Err, inl, inr, refl, sym, ap, subst, ◌∙◌, arith, length, drop, All}
 use Rattle.exact_values.specs.Rational.{ℚ}
 use Rattle.job_devices.specs.States.{SinkState}
 use Rattle.job_devices.specs.declared.device.WriteStop.{WriteStop}
@@ -15,8 +15,6 @@ use Rattle.lp_definitions.specs.LinearProgram.{Matrix, LinearProgram, size, valu
 use Rattle.lp_definitions.specs.Basis.{Basics, basics_of, IsNonsingular}
 use Rattle.lp_definitions.specs.Waypoints.{HasColumnsWithin, waypoint}
 use Rattle.lp_definitions.specs.declared.Evidence.{Evidence}
-use Rattle.simplex_definitions.specs.Path.{last_of, listed}
-use Rattle.basis_deck_definitions.specs.Placings.{HasNames}
 use Rattle.basis_deck_definitions.specs.Dependencies.{IsDependency, InstallRefused}
 use Rattle.basis_deck_definitions.specs.Reading.{basis_reading}
 use Rattle.basis_deck_definitions.specs.Writing.{basic_columns}
@@ -25,7 +23,7 @@ use Rattle.bounded_primal.proofs.SameChoices.{listed_is}
 use Rattle.control_definitions.specs.Program.{Insert}
 use Rattle.control_definitions.specs.Cells.{Cells}
 use Rattle.selection_definitions.specs.Choice.{Choice}
-use Rattle.selection_definitions.specs.Selection.{matrix_of, selected}
+use Rattle.selection_definitions.specs.Selection.{selected}
 use Rattle.listing_definitions.specs.declared.Mark.{Mark}
 use Rattle.listing_definitions.specs.declared.VerbFault.TheVariants.{NoSetup, DeckNotFound}
 use Rattle.listing_definitions.specs.Report.{Inserted}
@@ -55,11 +53,9 @@ use Rattle.setup_verbs.specs.Statements.{Executes}
 use Rattle.run_machine.proofs.Giving.{quietly, loudly, cut_off}
 use Rattle.setup_verbs.proofs.Giving.{gives_fault, gives_found}
 use Rattle.setup_verbs.proofs.Selected.{same_matrix}
-use Rattle.setup_verbs.proofs.Present.{present_with, ready_solved}
-use Rattle.setup_verbs.specs.declared.insert.Given.{Given}
-use Rattle.setup_verbs.specs.declared.insert.Given.TheVariants as given
+use Rattle.setup_verbs.proofs.Present.{ready_solved}
 use Rattle.setup_verbs.specs.declared.insert.Found.TheVariants as found
-use Rattle.setup_verbs.specs.Inserting.{Found, IsBasisOf, IsDeckEnd, IsGiven, overflow_ending, IsInstalledSetup, IsSingularFor, IsRefusedFor, IsInstalledFor, IsInserted, EndsSo, IsSingularAt, IsFound, refused_found}
+use Rattle.setup_verbs.specs.Inserting.{Found, IsBasisOf, IsDeckEnd, overflow_ending, IsInstalledSetup, IsSingularFor, IsInstalledFor, IsInserted, EndsSo, IsSingularAt, IsFound, refused_found}
 use Rattle.setup_verbs.proofs.Selecting.{setup_gone, viewed, present, selected_gives, fault_gives, overflow_gives}
 
 -- what INSERT does with what is selected

@@ -14,7 +14,7 @@ use Rattle.question_definitions.specs.Answers.{Basis}
 use Rattle.run_definitions.specs.State.{Present, choice_of}
 use Rattle.run_machine.specs.Choosing.{IsSelected}
 use Rattle.setup_verbs.specs.Kept.{Setup, chosen}
-use Rattle.setup_verbs.specs.Standing.{IsReady, IsPresent, ShowsSetup}
+use Rattle.setup_verbs.specs.Standing.{IsReady, ShowsSetup}
 use Rattle.setup_verbs.proofs.Selected.{same_matrix, no_change, rates_carry}
 
 -- ---- lists of bases

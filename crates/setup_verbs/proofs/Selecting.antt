@@ -1,10 +1,10 @@
 -- A statement that needs a setup, and goes on with what is selected of it.
-use Rattle.std.proofs.Common.{◌≡◌, ℕ, List, Option, Some, None, Ok, Err, IfSome, inr, refl, sym, ap, subst, ◌∙◌}
+use Rattle.std.proofs.Common.{◌≡◌, ℕ, List, Option, Some, None, Ok, inr, refl, sym, ap, subst, ◌∙◌}
 use Rattle.job_devices.specs.States.{SinkState}
 use Rattle.lp_definitions.specs.LinearProgram.{LinearProgram}
 use Rattle.lp_definitions.specs.declared.Evidence.{Evidence}
 use Rattle.problem_definitions.specs.Problem.{Problem}
-use Rattle.problem_file.specs.Filed.{Filed, filed_under}
+use Rattle.problem_file.specs.Filed.{filed_under}
 use Rattle.control_definitions.specs.Program.{Verb}
 use Rattle.control_definitions.specs.Cells.{Cells}
 use Rattle.selection_definitions.specs.Selection.{selected}

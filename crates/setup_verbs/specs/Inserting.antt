@@ -4,7 +4,7 @@
 --     IsInstalledFor .. result     what comes of the basis of a deck, in the words of the linear program
 --     IsInserted, IsSingularAt     INSERT comes to a new setup; or it ends the run at a singular basis
 --     IsFound .. result            what INSERT finds with the setup of a machine
-use Rattle.std.specs.Prelude.{◌≡◌, ◌⊎◌, ℕ, ◌+◌, ◌≤◌, List, [], ◌∷◌, All, Option, None, Some, Result, Ok, Err, drop, length}
+use Rattle.std.specs.Prelude.{◌≡◌, ◌⊎◌, ℕ, ◌+◌, ◌≤◌, List, All, Option, None, Some, Result, Ok, Err, drop, length}
 use Rattle.exact_values.specs.Rational.{ℚ}
 use Rattle.card_definitions.specs.Cards.{Card, live, numbered_cards, cards_between}
 use Rattle.problem_definitions.specs.Names.{Name}

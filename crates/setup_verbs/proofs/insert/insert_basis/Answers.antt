@@ -2,7 +2,6 @@
 use Rattle.std.proofs.Common.{Ok, refl, ap, subst}
 use Rattle.setup_verbs.specs.Inserting.{IsFound}
 use Rattle.std.proofs.lemmas.Result.{err_from_is_err_and}
-use Rattle.run_machine.specs.Ends.{end_view}
 use Rattle.setup_verbs.proofs.Inserted.{ends_quietly, inserted_done, inserted_cut, sound_emptied, sound_inserted}
 use Rattle.setup_verbs.proofs.insert.insert_basis.Goals as goal
 
