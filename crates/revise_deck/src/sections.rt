@@ -19,7 +19,7 @@ use name_table::Name;
 use named_problem::{DeckFaultKind, NamedProblem, Section};
 use revise_definitions::Action;
 
-// Whether a section may come next.
+/// Whether a section may come next.
 pub fn comes_after(before: Section, section: Section) -> bool
     ensures { result ≡ may_come_after before section }
 {
@@ -41,7 +41,7 @@ fn is_free_action(card: Card<'_>) -> bool
     action_named(word_text(&words, 0)).is_some() && words.count <= 2
 }
 
-// Whether a card of a deck of this style is an action card.
+/// Whether a card of a deck of this style is an action card.
 pub fn is_action(card: Card<'_>, style: Style) -> bool
     ensures { result ≡ is_action_card style (card_bytes card.entry) }
 {
@@ -78,7 +78,7 @@ fn after_first_byte(text: &[u8]) -> &[u8]
     &text[1..]
 }
 
-// The action on an action card.
+/// The action on an action card.
 pub fn action_of(card: Card<'_>, style: Style) -> Option<Action>
     ensures { result ≡ action_on style (card_bytes card.entry) }
 {
@@ -102,7 +102,7 @@ fn free_anchor(card: Card<'_>) -> Option<Name>
     Name::of(word_text(&free_words(card), 1))
 }
 
-// The name on an action card of a deck of this style.
+/// The name on an action card of a deck of this style.
 pub fn anchor_of(card: Card<'_>, style: Style) -> Option<Name>
     ensures { result ≡ anchor_on style (card_bytes card.entry) }
 {
@@ -112,7 +112,7 @@ pub fn anchor_of(card: Card<'_>, style: Style) -> Option<Name>
     }
 }
 
-// Whether the data cards under an action name what is to be deleted.
+/// Whether the data cards under an action name what is to be deleted.
 pub fn is_deletion(action: Action) -> bool
     ensures { result ≡ deletes action }
 {
@@ -159,7 +159,7 @@ fn has_no_anchor(seen: &NamedProblem, section: Section, anchor: &Option<Name>) -
     }
 }
 
-// The fault of an action card in a section.
+/// The fault of an action card in a section.
 pub fn action_fault_of(
     seen: &NamedProblem,
     section: Section,

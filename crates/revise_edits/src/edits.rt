@@ -139,7 +139,7 @@ fn insert_column_of(
     insert_new_column(alloc, place, card, columns)
 }
 
-// The edit of a card of ROWS.
+/// The edit of a card of ROWS.
 pub fn edit_rows_of(
     alloc: Global,
     action: Action,
@@ -179,7 +179,7 @@ fn delete_column_of(
     problem.columns.change(alloc, EntryChange::Without, card)
 }
 
-// The edit of a card of COLUMNS.
+/// The edit of a card of COLUMNS.
 pub fn edit_columns_of(
     alloc: Global,
     action: Action,
@@ -201,7 +201,7 @@ pub fn edit_columns_of(
     }
 }
 
-// The edit of a card of RHS or RANGES.
+/// The edit of a card of RHS or RANGES.
 pub fn edit_sets_of(
     alloc: Global,
     action: Action,
@@ -228,7 +228,7 @@ fn put_bound_of(alloc: Global, card: &DataCard<'_>, sets: &mut BoundSets) -> Res
     }
 }
 
-// The edit of a card of BOUNDS.
+/// The edit of a card of BOUNDS.
 pub fn edit_bounds_of(
     alloc: Global,
     action: Action,

@@ -7,7 +7,7 @@ use crate::under::{UnderAction, place_for};
 use named_problem::{Groups, Rows};
 use revise_definitions::Action;
 
-// Where the next new row goes: to their end, if its place is further on.
+/// Where the next new row goes: to their end, if its place is further on.
 pub fn next_row_place(action: Action, under: &UnderAction, rows: &Rows) -> usize
     ensures { result ≡ min (row_place_among action under.now rows.now) (length rows.now) }
 {
@@ -16,7 +16,7 @@ pub fn next_row_place(action: Action, under: &UnderAction, rows: &Rows) -> usize
     place_for(action, &anchor, under.there(), rows.len(), number)
 }
 
-// Where the next new column goes: to their end, if its place is further on.
+/// Where the next new column goes: to their end, if its place is further on.
 pub fn next_column_place(action: Action, under: &UnderAction, columns: &Groups) -> usize
     ensures { result ≡ min
         (place_among action under.now.anchor (length under.now.names) (group_names columns.now))

@@ -125,8 +125,8 @@ impl UnderAction {
     }
 }
 
-// The place of the next new thing among so many, where so many stand there already and the anchor has this number; their end, where
-// it is further on.
+/// The place of the next new thing among so many, where so many stand there already and the anchor has this number; their end, where
+/// it is further on.
 pub fn place_for(action: Action, anchor: &Name, there: usize, count: usize, number: usize) -> usize
     ensures { result ≡ min (place_at action anchor.now there count number) count }
 {
