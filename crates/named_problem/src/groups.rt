@@ -30,7 +30,7 @@ use deck_definitions::{DeckFaultKind, Section};
 use deck_fields::{CardStop, DataCard, is_blank};
 use indexmap::IndexMap;
 use name_table::Name;
-use problem_definitions::{MAX_COLUMNS, MAX_ENTRIES, MAX_ROWS};
+use problem_definitions::{MAX_COLUMNS, MAX_ROWS};
 use problem_file::{EntryGroup, NoMemory};
 use std::alloc::{AllocError, Global};
 use std::marker::Model;
@@ -188,7 +188,7 @@ fn take_measured(
     count: u32,
     card: &DataCard<'_>,
 ) -> Result<Lengths, CardStop<DeckFaultKind>>
-    requires { count ≤ MAX_ENTRIES }
+    requires { count ≤ 100000 }
     ensures no_fault { OnOk result (pairs_fault (rows_alone rows.now) section items.old count
         (pairs_of (viewed card.now)) ≡ None) }
     ensures step { IfOk result (λ lengths. (items.new ≡ items.old ++ entries_of (viewed card.now)) ×
@@ -212,7 +212,7 @@ fn take_into(
     count: u32,
     card: &DataCard<'_>,
 ) -> Result<Lengths, CardStop<DeckFaultKind>>
-    requires { count ≤ MAX_ENTRIES }
+    requires { count ≤ 100000 }
     ensures no_fault { OnOk result
         (pairs_fault (rows_alone rows.now) section (items_of card.now.name1
         (map group_at groups.old.entries)) count (pairs_of (viewed card.now)) ≡ None) }
@@ -236,7 +236,7 @@ fn take_column_into(
     count: u32,
     card: &DataCard<'_>,
 ) -> Result<Lengths, CardStop<DeckFaultKind>>
-    requires { count ≤ MAX_ENTRIES }
+    requires { count ≤ 100000 }
     ensures no_fault { OnOk result
         (column_fault (map group_at columns.old.entries) card.now.name1
         (pairs_fault (rows_alone rows.now) Columns (items_of card.now.name1
@@ -405,7 +405,7 @@ impl Groups {
         count: u32,
         card: &DataCard<'_>,
     ) -> Result<(), CardStop<DeckFaultKind>>
-        requires { count ≤ MAX_ENTRIES }
+        requires { count ≤ 100000 }
         ensures { TakesCard
             (pairs_fault (rows_alone rows.now) section (items_of card.now.name1 self.old) count
             (pairs_of (viewed card.now))) self.new
@@ -424,7 +424,7 @@ impl Groups {
         count: u32,
         card: &DataCard<'_>,
     ) -> Result<(), CardStop<DeckFaultKind>>
-        requires { count ≤ MAX_ENTRIES }
+        requires { count ≤ 100000 }
         ensures { TakesCard
             (column_fault self.old card.now.name1
             (pairs_fault (rows_alone rows.now) Columns (items_of card.now.name1 self.old) count

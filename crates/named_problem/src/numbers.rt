@@ -5,12 +5,11 @@ ghost use Rattle.problem_definitions.specs.Names.{number_in};
 
 use indexmap::IndexMap;
 use name_table::Name;
-use problem_definitions::MAX_COLUMNS;
 
 /// The number of a name among these, from 1, or 0 where it isn't there. It is looked up only where it doesn't stand at this place,
 /// from 0.
 pub fn number_from<V>(names: &IndexMap<Name, V>, place: usize, name: &Name) -> u32
-    requires { length names.now.entries ≤ MAX_COLUMNS }
+    requires { length names.now.entries ≤ 100000 }
     ensures { result ≡ number_in (keys_of names.now.entries) name.now }
 {
     if stands_at(names, place, name) {

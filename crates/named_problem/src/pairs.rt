@@ -124,7 +124,7 @@ pub fn take_pairs(
     count: u32,
     card: &DataCard<'_>,
 ) -> Result<(), CardStop<DeckFaultKind>>
-    requires { count ≤ MAX_ENTRIES }
+    requires { count ≤ 100000 }
     ensures { TakesCard
         (pairs_fault (rows_alone rows.now) section items.old count (pairs_of (viewed card.now)))
         items.new (items.old ++ entries_of (viewed card.now)) result }

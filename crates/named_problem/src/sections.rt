@@ -14,7 +14,6 @@ use crate::groups::Groups;
 use crate::rows::Rows;
 use deck_definitions::{DeckFaultKind, Section};
 use deck_fields::{CardStop, DataCard, is_blank, is_word, rank_of};
-use problem_definitions::MAX_ENTRIES;
 use std::alloc::Global;
 
 // Whether a card marks integer columns.
@@ -32,7 +31,7 @@ pub fn take_column_card(
     count: u32,
     card: &DataCard<'_>,
 ) -> Result<(), CardStop<DeckFaultKind>>
-    requires few { count ≤ MAX_ENTRIES }
+    requires few { count ≤ 100000 }
     requires counted { count ≡ entry_count (columns_alone rows.now columns.old) }
     ensures { TakesCard (columns_fault (columns_alone rows.now columns.old) (viewed card.now))
         columns.new
