@@ -68,7 +68,7 @@ fn speed(lp: &Lp, direction: &[Frac], up: bool, k: u32) -> Frac
 }
 
 /// The direction, or its opposite.
-fn signed_direction(
+pub fn signed_direction(
     alloc: Global,
     lp: &Lp,
     direction: &[Frac],
@@ -89,7 +89,7 @@ fn signed_direction(
 }
 
 /// A copy.
-fn copied(alloc: Global, values: &[Frac]) -> Result<Vec<Frac>, NoMemory>
+pub fn copied(alloc: Global, values: &[Frac]) -> Result<Vec<Frac>, NoMemory>
     ensures { IfOk result (λ copy. copy.items ≡ values.now) }
 {
     let copy = Vec::from_slice(alloc, values)?;
