@@ -61,22 +61,6 @@ fn plainly_moved(
     formula(9, by.p, q, i).sum(value, product)
 }
 
-/// The same, also where only the plain operations are refused.
-#[inline(always)]
-fn moved(value: Frac, rate: Frac, by: &BlockingVariable, q: u32, i: u32) -> Result<Frac, Evidence>
-    ensures value { IfOk result (λ moved. moved ≡ value +ℚ by.now.step *ℚ rate) }
-    ensures refused { IfErr result (MovedRefused by.now.step rate value by.now.p q i) }
-    ensures needed { OnErr result (rate ≢ zero_ℚ) }
-{
-    match plainly_moved(value, rate, by, q, i) {
-        Ok(moved) => Ok(moved),
-        Err(evidence) => match plus_product(value, by.step, rate) {
-            Some(moved) => Ok(moved),
-            None => Err(evidence),
-        },
-    }
-}
-
 /// Whether `k` has a limit.
 fn has_limit(lp: &Lp, k: u32) -> bool
     requires { IsVariable lp.now.matrix k }
@@ -113,9 +97,12 @@ fn moved_if_possible(
     if let Some(moved) = quickly_moved(value, rate, by.step) {
         return Ok(Some(moved));
     }
-    match moved(value, rate, by, q, i) {
+    match plainly_moved(value, rate, by, q, i) {
         Ok(moved) => Ok(Some(moved)),
-        Err(evidence) => { if needed { Err(evidence) } else { Ok(None) } }
+        Err(evidence) => match plus_product(value, by.step, rate) {
+            Some(moved) => Ok(Some(moved)),
+            None => { if needed { Err(evidence) } else { Ok(None) } }
+        },
     }
 }
 
