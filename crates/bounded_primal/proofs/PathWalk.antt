@@ -20,13 +20,9 @@ use Rattle.bounded_primal.specs.Stops.{PrimalStopsAlong}
 use Rattle.bounded_primal.specs.Turns.{RuleEndsHere, TurnStops}
 use Rattle.bounded_primal.specs.declared.moves.PrimalStop.{PrimalStop}
 use Rattle.bounded_primal.specs.declared.moves.PrimalStop.TheVariants.{Limit, Overflow, NoMemory}
+use Rattle.bounded_primal.proofs.Within.{within_more, within_last}
 
 module _ (a : Matrix) where
-  within_prefix : (w : Basics) (xs ys : List (List Status)) → IsWithinOne a w (map basics_of xs) → IsWithinOne a w (map basics_of (xs ++ ys))
-  within_prefix w [] ys h = elim h [ ]
-  within_prefix w (x ∷ xs) ys (inl h) = inl h
-  within_prefix w (x ∷ xs) ys (inr h) = inr (within_prefix w xs ys h)
-
   within_suffix : (w : Basics) (xs ys : List (List Status)) → IsWithinOne a w (map basics_of ys) → IsWithinOne a w (map basics_of (xs ++ ys))
   within_suffix w [] ys h = h
   within_suffix w (x ∷ xs) ys h = inr (within_suffix w xs ys h)
@@ -74,14 +70,11 @@ module _ (rule : Rule) (p : LinearProgram) (s : List Status) (before : List Basi
     lie = λ earlier lie k d below. place earlier lie (get_or ways k d) (keeps.each k d below);
   }
     where
-      own : (earlier : List (List Status)) → IsWithinOne p.matrix (basics_of s) (map basics_of (earlier ++ s ∷ []))
-      own earlier = within_suffix p.matrix (basics_of s) earlier (s ∷ []) (inl (within_itself p.matrix (basics_of s)))
-
       place : (earlier : List (List Status)) → LieIn p.matrix before (earlier ++ s ∷ []) → (w : Basics) → IsKept p.matrix (basics_of s) before (basics_of s) w →
           IsWithinOne p.matrix w (map basics_of (earlier ++ s ∷ []))
       place earlier lie w (inl old) = All-contains (λ w. IsWithinOne p.matrix w (map basics_of (earlier ++ s ∷ []))) before w lie old
-      place earlier lie w (inr (inl within)) = within_by p.matrix w (basics_of s) (map basics_of (earlier ++ s ∷ [])) within (own earlier)
-      place earlier lie w (inr (inr within)) = within_by p.matrix w (basics_of s) (map basics_of (earlier ++ s ∷ [])) within (own earlier)
+      place earlier lie w (inr (inl within)) = within_by p.matrix w (basics_of s) (map basics_of (earlier ++ s ∷ [])) within (within_last p.matrix earlier s)
+      place earlier lie w (inr (inr within)) = within_by p.matrix w (basics_of s) (map basics_of (earlier ++ s ∷ [])) within (within_last p.matrix earlier s)
 
   -- where nothing is done
   pub stays : RuleWaypointsFollow rule p s s before before
@@ -126,14 +119,14 @@ module _ (rule : Rule) (p : LinearProgram) (s : List Status) (before : List Basi
         place : (earlier : List (List Status)) → LieIn p.matrix before (earlier ++ s ∷ []) → (w : Basics) →
             IsKept p.matrix (basics_of now) ways (basics_of next) w → IsWithinOne p.matrix w (map basics_of ((earlier ++ s ∷ h.bases) ++ next ∷ []))
         place earlier lie w (inl old) =
-            within_prefix p.matrix w (earlier ++ s ∷ h.bases) (next ∷ [])
+            within_more p.matrix w (earlier ++ s ∷ h.bases) (next ∷ [])
             (All-contains (λ w. IsWithinOne p.matrix w (map basics_of (earlier ++ s ∷ h.bases))) ways w (h.lie earlier lie) old)
         place earlier lie w (inr (inl within)) =
-            within_prefix p.matrix w (earlier ++ s ∷ h.bases) (next ∷ [])
+            within_more p.matrix w (earlier ++ s ∷ h.bases) (next ∷ [])
             (within_by p.matrix w (basics_of now) (map basics_of (earlier ++ s ∷ h.bases)) within (reached_within earlier))
         place earlier lie w (inr (inr within)) =
             within_by p.matrix w (basics_of next) (map basics_of ((earlier ++ s ∷ h.bases) ++ next ∷ [])) within
-            (within_suffix p.matrix (basics_of next) (earlier ++ s ∷ h.bases) (next ∷ []) (inl (within_itself p.matrix (basics_of next))))
+            (within_last p.matrix (earlier ++ s ∷ h.bases) next)
 
     -- the path ends
     pub ends_there : (limit reported : ℕ) (outcome : Outcome) → steps ≤ limit → reported ≡ counted_steps steps → RuleEndsHere rule p now reported outcome →

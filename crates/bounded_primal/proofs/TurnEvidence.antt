@@ -5,7 +5,7 @@ use Rattle.std.proofs.lemmas.Bool.{leb-true, le-leb, lt-leb, and_parts, or_cases
 use Rattle.std.proofs.lemmas.Bool.Decides.{eqb_tells}
 use Rattle.exact_values.specs.Rational.{ℚ, zero_ℚ, ◌-ℚ◌}
 use Rattle.frac128.specs.declared.Op.TheVariants.{Div}
-use Rattle.lp_definitions.specs.LinearProgram.{Matrix, LinearProgram, Vector}
+use Rattle.lp_definitions.specs.LinearProgram.{LinearProgram, Vector}
 use Rattle.lp_definitions.specs.Basis.{Basics, basics_of, exchanged, IsBasic, IsNonbasic, IsNonsingular, IsDirectionOf, IsPointOf, AreRates, Tableau, IsTableau}
 use Rattle.lp_definitions.specs.Waypoints.{IsWithinOne, KeepsWaypoints, waypoint}
 use Rattle.lp_definitions.specs.RatesEvidence.{Refuses}
@@ -34,6 +34,7 @@ use Rattle.bounded_primal.specs.declared.moves.BlockingVariable.{BlockingVariabl
 use Rattle.basis_values.proofs.Covered.{stops_covered}
 use Rattle.basis_values.proofs.Existence.{rates_exist}
 use Rattle.basis_values.proofs.Refusals.{stops_at_basis}
+use Rattle.bounded_primal.proofs.Within.{within_more, within_last, covers_more}
 
 -- ---- the limits to which a step may go
 
@@ -67,22 +68,6 @@ module _ (statement : SolvingStatement) (Goes Other : Status → Type 0) (s : Li
     reaches = r.reaches;
     no_way = r.no_way;
   }
-
--- ---- the bases in which waypoints lie
-
-module _ (a : Matrix) where
-  within_more : (w : Basics) (xs ys : List (List Status)) → IsWithinOne a w (map basics_of xs) → IsWithinOne a w (map basics_of (xs ++ ys))
-  within_more w [] ys h = elim h [ ]
-  within_more w (x ∷ xs) ys (inl h) = inl h
-  within_more w (x ∷ xs) ys (inr h) = inr (within_more w xs ys h)
-
-  within_last : (xs : List (List Status)) (s : List Status) → IsWithinOne a (basics_of s) (map basics_of (xs ++ s ∷ []))
-  within_last [] s = inl (within_itself a (basics_of s))
-  within_last (x ∷ xs) s = inr (within_last xs s)
-
-  covers_more : (ways : List Basics) (xs ys : List (List Status)) → Covers a ways (map basics_of xs) → Covers a ways (map basics_of (xs ++ ys))
-  covers_more [] xs ys h = tt
-  covers_more (w ∷ ways) xs ys h = (within_more w xs ys h.0, covers_more ways xs ys h.1)
 
 -- ---- the job that a call counts as
 
