@@ -1,10 +1,12 @@
 -- The bases in which waypoints lie, where more bases follow.
-use Rattle.std.proofs.Common.{inl, inr, List, [], ◌∷◌, ◌++◌, map}
+use Rattle.std.proofs.Common.{inl, inr, List, [], ◌∷◌, ◌++◌, map, get_or}
+use Rattle.std.proofs.lemmas.List.Elements.{All-contains}
 use Rattle.lp_definitions.specs.LinearProgram.{Matrix}
 use Rattle.lp_definitions.specs.Basis.{Basics, basics_of}
-use Rattle.lp_definitions.specs.Waypoints.{IsWithinOne}
+use Rattle.lp_definitions.specs.Waypoints.{IsWithinOne, IsKept, KeepsWaypoints}
 use Rattle.lp_definitions.specs.declared.Status.{Status}
-use Rattle.lp_laws.proofs.WaypointLaws.{Covers, within_itself}
+use Rattle.lp_laws.proofs.WaypointLaws.{Covers, within_itself, within_by}
+use Rattle.basis_values.specs.Calls.{LieIn}
 
 module _ (a : Matrix) where
   pub within_more : (w : Basics) (xs ys : List (List Status)) → IsWithinOne a w (map basics_of xs) → IsWithinOne a w (map basics_of (xs ++ ys))
@@ -19,3 +21,24 @@ module _ (a : Matrix) where
   pub covers_more : (ways : List Basics) (xs ys : List (List Status)) → Covers a ways (map basics_of xs) → Covers a ways (map basics_of (xs ++ ys))
   covers_more [] xs ys h = tt
   covers_more (w ∷ ways) xs ys h = (within_more w xs ys h.0, covers_more ways xs ys h.1)
+
+  -- a step to next, whose calls kept the waypoints
+  pub lie_more : (xs : List (List Status)) (now next : List Status) (ways more : List Basics) → KeepsWaypoints a (basics_of now) ways (basics_of next) more →
+      LieIn a ways (xs ++ now ∷ []) → LieIn a more ((xs ++ now ∷ []) ++ next ∷ [])
+  lie_more xs now next ways more keeps lie k d below = place (get_or more k d) (keeps.each k d below)
+    where
+      place : (w : Basics) → IsKept a (basics_of now) ways (basics_of next) w → IsWithinOne a w (map basics_of ((xs ++ now ∷ []) ++ next ∷ []))
+      place w (inl old) = within_more w (xs ++ now ∷ []) (next ∷ []) (All-contains (λ w. IsWithinOne a w (map basics_of (xs ++ now ∷ []))) ways w lie old)
+      place w (inr (inl within)) =
+          within_more w (xs ++ now ∷ []) (next ∷ []) (within_by a w (basics_of now) (map basics_of (xs ++ now ∷ [])) within (within_last xs now))
+      place w (inr (inr within)) = within_by a w (basics_of next) (map basics_of ((xs ++ now ∷ []) ++ next ∷ [])) within (within_last (xs ++ now ∷ []) next)
+
+  -- calls at the basis that is reached
+  pub lie_same : (xs : List (List Status)) (now : List Status) (ways more : List Basics) → KeepsWaypoints a (basics_of now) ways (basics_of now) more →
+      LieIn a ways (xs ++ now ∷ []) → LieIn a more (xs ++ now ∷ [])
+  lie_same xs now ways more keeps lie k d below = place (get_or more k d) (keeps.each k d below)
+    where
+      place : (w : Basics) → IsKept a (basics_of now) ways (basics_of now) w → IsWithinOne a w (map basics_of (xs ++ now ∷ []))
+      place w (inl old) = All-contains (λ w. IsWithinOne a w (map basics_of (xs ++ now ∷ []))) ways w lie old
+      place w (inr (inl within)) = within_by a w (basics_of now) (map basics_of (xs ++ now ∷ [])) within (within_last xs now)
+      place w (inr (inr within)) = within_by a w (basics_of now) (map basics_of (xs ++ now ∷ [])) within (within_last xs now)
