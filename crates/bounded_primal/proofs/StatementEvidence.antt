@@ -18,7 +18,8 @@ use Rattle.simplex_definitions.specs.Statements.{SolvingStatement, Primal, is_be
 use Rattle.simplex_definitions.specs.Evidence.{Formula, by_exchange, by_entry, by_carried, by_point, by_slack, by_move, by_ratio, by_range, by_objective, by_slope, ShowsRefusal, GoesTo, IsOfMove}
 use Rattle.basis_values.specs.Calls.{StopsAt, job_of}
 use Rattle.bounded_primal.specs.Calls.{EvidenceHere}
-use Rattle.bounded_primal.proofs.Within.{within_more, within_last, covers_more}
+use Rattle.bounded_primal.proofs.TurnEvidence.{formula_goes}
+use Rattle.bounded_primal.proofs.Within.{within_last, covers_ahead}
 
 -- ---- the numbers of formulas that a call at a step may show
 
@@ -147,14 +148,8 @@ module _ (p : LinearProgram) (o : Option Change) (other : SolvingStatement) (s :
           ahead = Some (after s m);
           is_ahead = (one_left, (m, moves, refl));
           shows = shows_as Goes (GoesTo other breakpoint s e) goes (basics_of s ∷ exchanged (basics_of s) m.leaves m.enters ∷ before)
-              (map basics_of ((earlier ++ s ∷ []) ++ after s m ∷ [])) (waypoint (basics_of s) now e.way) (
-                within_more p.matrix (basics_of s) (earlier ++ s ∷ []) (after s m ∷ []) (within_last p.matrix earlier s),
-                (
-                  subst (λ (b : Basics). IsWithinOne p.matrix b (map basics_of ((earlier ++ s ∷ []) ++ after s m ∷ []))) leads
-                      (within_last p.matrix (earlier ++ s ∷ []) (after s m)),
-                  covers_more p.matrix before (earlier ++ s ∷ []) (after s m ∷ []) (Covers-all p.matrix before (map basics_of (earlier ++ s ∷ [])) lie),
-                ),
-              )
+              (map basics_of ((earlier ++ s ∷ []) ++ after s m ∷ [])) (waypoint (basics_of s) now e.way)
+              (covers_ahead p.matrix earlier s (after s m) (exchanged (basics_of s) m.leaves m.enters) before leads lie)
               (viewed (basics_of s ∷ exchanged (basics_of s) m.leaves m.enters ∷ before) h);
           is_theta = is_theta ends;
           of_move = of_move;
@@ -163,19 +158,6 @@ module _ (p : LinearProgram) (o : Option Change) (other : SolvingStatement) (s :
       }
 
 -- ---- a refusal of the statement's own formulas, which speak of no move
-
-module _ (statement : SolvingStatement) (Other : Status → Type 0) (s : List Status) (e : Evidence) where
-  any_move : (t : Tableau) (w : Basics) (rate : ℕ → ℕ → ℚ) → Formula statement (λ to. ⊥) s t w rate e → Formula statement Other s t w rate e
-  any_move t w rate (by_exchange f) = by_exchange f
-  any_move t w rate (by_entry f) = by_entry f
-  any_move t w rate (by_carried f) = by_carried f
-  any_move t w rate (by_point f) = by_point f
-  any_move t w rate (by_slack f) = by_slack f
-  any_move t w rate (by_move to goes f) = absurd goes
-  any_move t w rate (by_ratio f) = by_ratio f
-  any_move t w rate (by_range f) = by_range f
-  any_move t w rate (by_objective f) = by_objective f
-  any_move t w rate (by_slope u is f) = by_slope u is f
 
 module _ (statement : SolvingStatement) (a : Matrix) (s : List Status) (e : Evidence) (breakpoint : Option ℚ) (left : ℕ) (before now : List Basics)
     (is_theta : (ends : List ℚ) → Contains (thetas_of statement ends) e.theta) (of_move : IsOfMove statement breakpoint s e)
@@ -200,7 +182,8 @@ module _ (statement : SolvingStatement) (a : Matrix) (s : List Status) (e : Evid
             is_tableau = h.is_tableau;
             way_rate = h.way_rate;
             are_way_rates = h.are_way_rates;
-            formula = any_move statement (GoesTo statement breakpoint s e) s e h.tableau (basics_of s) h.way_rate h.formula;
+            formula =
+                formula_goes statement (λ to. ⊥) (GoesTo statement breakpoint s e) s e (λ to none number. absurd none) h.tableau (basics_of s) h.way_rate h.formula;
             is_way = (h.is_way.0, in_last (program_at statement e.theta).matrix (basics_of s) h.is_way.1 earlier);
             reaches =
                 λ names. let there = h.reaches names in (there.0, in_last (program_at statement e.theta).matrix (exchanged (basics_of s) e.p e.q) there.1 earlier);

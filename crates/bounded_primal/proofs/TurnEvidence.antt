@@ -7,7 +7,7 @@ use Rattle.exact_values.specs.Rational.{ℚ, zero_ℚ, ◌-ℚ◌}
 use Rattle.frac128.specs.declared.Op.TheVariants.{Div}
 use Rattle.lp_definitions.specs.LinearProgram.{LinearProgram, Vector}
 use Rattle.lp_definitions.specs.Basis.{Basics, basics_of, exchanged, IsBasic, IsNonbasic, IsNonsingular, IsDirectionOf, IsPointOf, AreRates, Tableau, IsTableau}
-use Rattle.lp_definitions.specs.Waypoints.{IsWithinOne, KeepsWaypoints, waypoint}
+use Rattle.lp_definitions.specs.Waypoints.{KeepsWaypoints, waypoint}
 use Rattle.lp_definitions.specs.RatesEvidence.{Refuses}
 use Rattle.lp_definitions.specs.declared.Change.{Change}
 use Rattle.lp_definitions.specs.declared.Evidence.{Evidence}
@@ -34,7 +34,7 @@ use Rattle.bounded_primal.specs.declared.moves.BlockingVariable.{BlockingVariabl
 use Rattle.basis_values.proofs.Covered.{stops_covered}
 use Rattle.basis_values.proofs.Existence.{rates_exist}
 use Rattle.basis_values.proofs.Refusals.{stops_at_basis}
-use Rattle.bounded_primal.proofs.Within.{within_more, within_last, covers_more}
+use Rattle.bounded_primal.proofs.Within.{within_last, covers_ahead}
 
 -- ---- the limits to which a step may go
 
@@ -45,7 +45,7 @@ move_number p s t to e (f9 r q i step names step_to is refused) = rw names.is_fo
 
 module _ (statement : SolvingStatement) (Goes Other : Status → Type 0) (s : List Status) (e : Evidence)
     (h : (to : Status) → Goes to → (is_between 7 9 e.formula ≡ true) × (is_between 8 9 e.formula ≡ true) → Other to) where
-  formula_goes : (t : Tableau) (w : Basics) (rate : ℕ → ℕ → ℚ) → Formula statement Goes s t w rate e → Formula statement Other s t w rate e
+  pub formula_goes : (t : Tableau) (w : Basics) (rate : ℕ → ℕ → ℚ) → Formula statement Goes s t w rate e → Formula statement Other s t w rate e
   formula_goes t w rate (by_exchange f) = by_exchange f
   formula_goes t w rate (by_entry f) = by_entry f
   formula_goes t w rate (by_carried f) = by_carried f
@@ -251,14 +251,8 @@ module _ (p : LinearProgram) (s : List Status) (left : ℕ) (before now : List B
   evidence_ahead Goes m moves leads one_left stops goes of_move belongs_to = record {
     is_way = stops.is_way;
     shows = λ earlier lie.
-        let cover : Covers p.matrix (basics_of s ∷ exchanged (basics_of s) m.leaves m.enters ∷ before) (map basics_of ((earlier ++ s ∷ []) ++ after s m ∷ [])) = (
-          within_more p.matrix (basics_of s) (earlier ++ s ∷ []) (after s m ∷ []) (within_last p.matrix earlier s),
-          (
-            subst (λ (b : Basics). IsWithinOne p.matrix b (map basics_of ((earlier ++ s ∷ []) ++ after s m ∷ []))) leads
-                (within_last p.matrix (earlier ++ s ∷ []) (after s m)),
-            covers_more p.matrix before (earlier ++ s ∷ []) (after s m ∷ []) (Covers-all p.matrix before (map basics_of (earlier ++ s ∷ [])) lie),
-          ),
-        ) in
+        let cover =
+        covers_ahead p.matrix earlier s (after s m) (exchanged (basics_of s) m.leaves m.enters) before leads lie in
         record {
           before = earlier;
           reached = refl;
