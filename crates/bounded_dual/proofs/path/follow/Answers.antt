@@ -87,13 +87,11 @@ returns-clause-ends g c =
 pub returns-clause-stops : goal.returns-clause-stops
 returns-clause-stops g c =
     stops_before c.args.lp.now c.args.basis.now (g.R.Rates.state c.args.rates.now).waypoints (g.R.Rates.state c.fill_prices.new.rates).waypoints
-    (begins_at dual_turn c.args.lp.now c.args.basis.now (g.R.Rates.state c.args.rates.now).waypoints
-    (g.R.Rates.state c.fill_prices.new.rates).waypoints c.in_ok-fill_prices.ensures.rates.1) c.walk.new.basis c.args.limit
+    c.in_ok-fill_prices.ensures.rates.1 c.walk.new.basis c.args.limit
     (g.R.Rates.state c.walk.new.rates).waypoints c.walk.result c.walk.ensures.stops
 
 pub returns-clause-waypoints : goal.returns-clause-waypoints
 returns-clause-waypoints g c =
     follows_before c.args.lp.now c.args.basis.now (g.R.Rates.state c.args.rates.now).waypoints (g.R.Rates.state c.fill_prices.new.rates).waypoints
-    (begins_at dual_turn c.args.lp.now c.args.basis.now (g.R.Rates.state c.args.rates.now).waypoints
-    (g.R.Rates.state c.fill_prices.new.rates).waypoints c.in_ok-fill_prices.ensures.rates.1) c.walk.new.basis
+    c.in_ok-fill_prices.ensures.rates.1 c.walk.new.basis
     (g.R.Rates.state c.walk.new.rates).waypoints c.walk.ensures.waypoints
