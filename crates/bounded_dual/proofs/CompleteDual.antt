@@ -56,13 +56,15 @@ module _ (p : LinearProgram) (lawful : IsLinearProgram p) (no_change : p.change 
     ends_result (Ok outcome) call = dual_ends outcome call
     ends_result (Err why) call = tt
 
-    pub bounded_result : {E : Type 0} (result : Result Outcome E) → IfOk result (RuleCallEnds dual_turn p s now limit) → IfOk result IsNotUnbounded
-    bounded_result (Ok outcome) call = dual_bounded outcome call
-    bounded_result (Err why) call = tt
+  pub bounded_result : {E : Type 0} (now : List Status) (limit : ℕ) (result : Result Outcome E) → IfOk result (DualEnds p s now limit) →
+      IfOk result IsNotUnbounded
+  bounded_result now limit (Ok outcome) ends = dual_bounded ends.right now limit outcome ends.call
+  bounded_result now limit (Err why) ends = tt
 
-    pub true_result : {E : Type 0} (result : Result Outcome E) → IfOk result (RuleCallEnds dual_turn p s now limit) → IfOk result (IsTrueOutcome p)
-    true_result (Ok outcome) call = dual_truth outcome call
-    true_result (Err why) call = tt
+  pub true_result : {E : Type 0} (now : List Status) (limit : ℕ) (result : Result Outcome E) → IfOk result (DualEnds p s now limit) →
+      IfOk result (IsTrueOutcome p)
+  true_result now limit (Ok outcome) ends = dual_truth ends.right now limit outcome ends.call
+  true_result now limit (Err why) ends = tt
 
   -- where the path ends from right prices and nothing stops the call, it answers this end
   pub dual_answered : (now : List Status) (limit : ℕ) (before more : List Basics) (bases : List (List Status)) (ending : PathEnding)

@@ -1,5 +1,5 @@
 -- What each exit of the dual walk gives, from what its calls gave.
-use Rattle.std.proofs.Common.{◌≡◌, ℕ, ◌+◌, ◌-◌, ◌≤◌, List, [], ◌∷◌, ◌++◌, length, Result, Ok, Err, sym, subst, arith}
+use Rattle.std.proofs.Common.{◌≡◌, ℕ, ◌+◌, ◌-◌, ◌≤◌, List, [], Result, Ok, Err, sym, subst, arith}
 use Rattle.std.specs.Prelude.{None, IfErr}
 use Rattle.lp_definitions.specs.LinearProgram.{Matrix, LinearProgram, Vector, size, IsLinearProgram}
 use Rattle.lp_definitions.specs.Basis.{Basics, basics_of, ArePricesOf}
@@ -12,13 +12,14 @@ use Rattle.lp_laws.proofs.WaypointLaws.{keeps_then}
 use Rattle.simplex_definitions.specs.DualPath.{dual_turn, HasRightPrices}
 use Rattle.simplex_definitions.specs.Path.{after}
 use Rattle.simplex_definitions.specs.Statements.{Dual}
-use Rattle.basis_values.specs.Calls.{HasRates, LieIn, PointRefused}
+use Rattle.basis_values.specs.Calls.{HasRates, PointRefused}
 use Rattle.lp_model.specs.declared.reports.Outcome.{Outcome}
 use Rattle.bounded_primal.specs.Calls.{RuleWaypointsFollow}
 use Rattle.bounded_primal.specs.Moves.{move_by, StepRefused}
 use Rattle.bounded_primal.specs.declared.moves.BlockingVariable.{BlockingVariable}
 use Rattle.bounded_primal.proofs.PathWalk.{HasReached, begins, goes_over, goes_on_there, overflows_there}
 use Rattle.bounded_primal.proofs.TurnEvidence.{step_refused_later}
+use Rattle.bounded_primal.proofs.Within.{lie_same}
 use Rattle.dual_step.specs.Prices.{ArePricesOver}
 use Rattle.dual_step.proofs.StepEvidence.{of_step}
 use Rattle.dual_step.proofs.StepPrices.{prices_after}
@@ -90,17 +91,15 @@ stops_at_once p no_change s limit before more why h =
 
 -- ---- a walk that begins after other calls at its first basis
 
-module _ (p : LinearProgram) (s : List Status) (before ways : List Basics) (begun : HasReached dual_turn p s before s ways 0) where
-  lie_there : (earlier : List (List Status)) → LieIn p.matrix before (earlier ++ s ∷ []) → LieIn p.matrix ways (earlier ++ s ∷ [])
-  lie_there earlier lie = by begun.bases begun.taken (begun.lie earlier lie)
-    where
-      by : (bases : List (List Status)) → length bases ≡ 0 → LieIn p.matrix ways (earlier ++ s ∷ bases) → LieIn p.matrix ways (earlier ++ s ∷ [])
-      by [] none lies = lies
-      by (b ∷ bases) none lies = absurd (omega (arith, none))
-
+module _ (p : LinearProgram) (s : List Status) (before ways : List Basics) (keeps : KeepsWaypoints p.matrix (basics_of s) before (basics_of s) ways) where
   pub follows_before : (now : List Status) (more : List Basics) → RuleWaypointsFollow dual_turn p s now ways more →
       RuleWaypointsFollow dual_turn p s now before more
-  follows_before now more h = record { bases = h.bases; is_path = h.is_path; reaches = h.reaches; lie = λ earlier lie. h.lie earlier (lie_there earlier lie) }
+  follows_before now more h = record {
+    bases = h.bases;
+    is_path = h.is_path;
+    reaches = h.reaches;
+    lie = λ earlier lie. h.lie earlier (lie_same p.matrix earlier s before ways keeps lie);
+  }
 
   stop_before : (now : List Status) (limit : ℕ) (more : List Basics) (why : DualStop) → DualStopsAlong p s now limit ways more why →
       DualStopsAlong p s now limit before more why
@@ -114,7 +113,7 @@ module _ (p : LinearProgram) (s : List Status) (before ways : List Basics) (begu
         within = h.within;
         is_way = h.is_way;
         shows = λ earlier lie. h.shows earlier
-            (lie_there earlier lie);
+            (lie_same p.matrix earlier s before ways keeps lie);
       }
   stop_before now limit more NoMemory h = h
 

@@ -110,6 +110,35 @@ fn walk<R: Rates>(
     }
 }
 
+/// Walks with vectors of its own, from right prices. Where a variable is crossed, the path ends at once.
+fn follow<R: Rates>(
+    alloc: Global,
+    lp: &Lp,
+    basis: &mut Basis,
+    rates: &mut R,
+    limit: u32,
+) -> Result<Outcome, DualStop>
+    requires lawful { IsLinearProgram lp.now }
+    requires rates { IsAtBasis (R.state rates.old) lp.now basis.old }
+    requires no_change { lp.now.change ≡ None }
+    ensures ends { IfOk result (DualEnds lp.now basis.old basis.new limit) }
+    ensures stops { IfErr result (DualStops lp.now basis.old basis.new limit (R.state rates.old)
+        (R.state rates.new)) }
+    ensures rates { IsAtBasis (R.state rates.new) lp.now basis.new }
+    ensures waypoints { DualWaypointsFollow lp.now basis.old basis.new (R.state rates.old)
+        (R.state rates.new) }
+{
+    let mut workspace = Workspace::new(alloc, lp)?;
+    workspace.fill_prices(lp, basis, rates)?;
+    if let Some(j) = wrong_price(lp, basis, &workspace.prices) {
+        return Err(DualStop::NotDualFeasible(j));
+    }
+    if let Some(k) = crossed(lp) {
+        return Ok(Outcome::Crossed { k });
+    }
+    walk(lp, basis, rates, &mut workspace, limit)
+}
+
 /// Follows the dual path from a basis whose prices are right, until it ends, for at most `limit` steps: the least-numbered basic outside
 /// its limits is brought back to the limit that it broke, by the least-numbered of the nonbasics that bring it back at the least loss.
 /// `NotDualFeasible` names the least-numbered nonbasic whose price is wrong, and comes before any step; prices are tested before crossed
@@ -143,13 +172,5 @@ pub fn dual<R: Rates>(
         ending basis.new result }
 {
     let _size = lp.number_of_variables();
-    let mut workspace = Workspace::new(alloc, lp)?;
-    workspace.fill_prices(lp, basis, rates)?;
-    if let Some(j) = wrong_price(lp, basis, &workspace.prices) {
-        return Err(DualStop::NotDualFeasible(j));
-    }
-    if let Some(k) = crossed(lp) {
-        return Ok(Outcome::Crossed { k });
-    }
-    walk(lp, basis, rates, &mut workspace, limit)
+    follow(alloc, lp, basis, rates, limit)
 }

@@ -2,6 +2,7 @@ pub mod Returns
 pub mod Agreement
 pub mod StepFacts
 pub mod StepRefusals
+pub mod Within
 pub mod TurnEvidence
 pub mod StatementEvidence
 pub mod SameChoices

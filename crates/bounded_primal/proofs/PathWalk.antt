@@ -1,15 +1,13 @@
 -- From turn to turn: the bases that a path by a rule has passed, and the waypoints in them.
-use Rattle.std.proofs.Common.{◌≡◌, ℕ, ◌+◌, ◌-◌, ◌≤◌, inl, inr, List, [], ◌∷◌, ◌++◌, map, length, get_or, refl, sym, ◌∙◌, ap, subst, arith}
+use Rattle.std.proofs.Common.{◌≡◌, ℕ, ◌+◌, ◌-◌, ◌≤◌, List, [], ◌∷◌, ◌++◌, length, refl, sym, ◌∙◌, ap, subst, arith}
 use Rattle.std.specs.Prelude.{None}
 use Rattle.std.proofs.lemmas.List.{append_assoc}
-use Rattle.std.proofs.lemmas.List.Elements.{All-contains}
-use Rattle.lp_definitions.specs.LinearProgram.{Matrix, LinearProgram}
+use Rattle.lp_definitions.specs.LinearProgram.{LinearProgram}
 use Rattle.lp_definitions.specs.Basis.{Basics, basics_of}
-use Rattle.lp_definitions.specs.Waypoints.{IsWithinOne, IsKept, KeepsWaypoints, waypoint}
+use Rattle.lp_definitions.specs.Waypoints.{KeepsWaypoints, waypoint}
 use Rattle.lp_definitions.specs.declared.Evidence.{Evidence}
 use Rattle.lp_definitions.specs.declared.Status.{Status}
 use Rattle.lp_model.specs.declared.reports.Outcome.{Outcome}
-use Rattle.lp_laws.proofs.WaypointLaws.{within_itself, within_by}
 use Rattle.simplex_definitions.specs.Path.{Rule, turn, RuleStep, RuleEnd, RulePath, last_of}
 use Rattle.simplex_definitions.specs.Counts.{counted_steps}
 use Rattle.simplex_definitions.specs.Statements.{SolvingStatement}
@@ -20,20 +18,7 @@ use Rattle.bounded_primal.specs.Stops.{PrimalStopsAlong}
 use Rattle.bounded_primal.specs.Turns.{RuleEndsHere, TurnStops}
 use Rattle.bounded_primal.specs.declared.moves.PrimalStop.{PrimalStop}
 use Rattle.bounded_primal.specs.declared.moves.PrimalStop.TheVariants.{Limit, Overflow, NoMemory}
-
-module _ (a : Matrix) where
-  within_prefix : (w : Basics) (xs ys : List (List Status)) → IsWithinOne a w (map basics_of xs) → IsWithinOne a w (map basics_of (xs ++ ys))
-  within_prefix w [] ys h = elim h [ ]
-  within_prefix w (x ∷ xs) ys (inl h) = inl h
-  within_prefix w (x ∷ xs) ys (inr h) = inr (within_prefix w xs ys h)
-
-  within_suffix : (w : Basics) (xs ys : List (List Status)) → IsWithinOne a w (map basics_of ys) → IsWithinOne a w (map basics_of (xs ++ ys))
-  within_suffix w [] ys h = h
-  within_suffix w (x ∷ xs) ys h = inr (within_suffix w xs ys h)
-
-  within_reached : (s : List Status) (bases : List (List Status)) → IsWithinOne a (basics_of (last_of s bases)) (map basics_of (s ∷ bases))
-  within_reached s [] = inl (within_itself a (basics_of s))
-  within_reached s (next ∷ bases) = inr (within_reached next bases)
+use Rattle.bounded_primal.proofs.Within.{lie_more, lie_same}
 
 -- one more step of a path
 path_more : (rule : Rule) (p : LinearProgram) (s : List Status) (bases : List (List Status)) (next : List Status) → RulePath rule p s bases →
@@ -67,21 +52,7 @@ module _ (rule : Rule) (p : LinearProgram) (s : List Status) (before : List Basi
   begins = record { bases = []; path = (tt, refl); taken = refl; lie = λ earlier lie. lie }
 
   pub begins_at : (ways : List Basics) → KeepsWaypoints p.matrix (basics_of s) before (basics_of s) ways → HasReached rule p s before s ways 0
-  begins_at ways keeps = record {
-    bases = [];
-    path = (tt, refl);
-    taken = refl;
-    lie = λ earlier lie k d below. place earlier lie (get_or ways k d) (keeps.each k d below);
-  }
-    where
-      own : (earlier : List (List Status)) → IsWithinOne p.matrix (basics_of s) (map basics_of (earlier ++ s ∷ []))
-      own earlier = within_suffix p.matrix (basics_of s) earlier (s ∷ []) (inl (within_itself p.matrix (basics_of s)))
-
-      place : (earlier : List (List Status)) → LieIn p.matrix before (earlier ++ s ∷ []) → (w : Basics) → IsKept p.matrix (basics_of s) before (basics_of s) w →
-          IsWithinOne p.matrix w (map basics_of (earlier ++ s ∷ []))
-      place earlier lie w (inl old) = All-contains (λ w. IsWithinOne p.matrix w (map basics_of (earlier ++ s ∷ []))) before w lie old
-      place earlier lie w (inr (inl within)) = within_by p.matrix w (basics_of s) (map basics_of (earlier ++ s ∷ [])) within (own earlier)
-      place earlier lie w (inr (inr within)) = within_by p.matrix w (basics_of s) (map basics_of (earlier ++ s ∷ [])) within (own earlier)
+  begins_at ways keeps = record { bases = []; path = (tt, refl); taken = refl; lie = λ earlier lie. lie_same p.matrix earlier s before ways keeps lie }
 
   -- where nothing is done
   pub stays : RuleWaypointsFollow rule p s s before before
@@ -91,21 +62,25 @@ module _ (rule : Rule) (p : LinearProgram) (s : List Status) (before : List Basi
   follows now ways steps h = record { bases = h.bases; is_path = h.path.0; reaches = h.path.1; lie = h.lie }
 
   module _ (now : List Status) (ways : List Basics) (steps : ℕ) (h : HasReached rule p s before now ways steps) where
-    reached_within : (earlier : List (List Status)) → IsWithinOne p.matrix (basics_of now) (map basics_of (earlier ++ s ∷ h.bases))
-    reached_within earlier =
-        subst (λ (x : List Status). IsWithinOne p.matrix (basics_of x) (map basics_of (earlier ++ s ∷ h.bases))) h.path.1
-        (within_suffix p.matrix (basics_of (last_of s h.bases)) earlier (s ∷ h.bases) (within_reached p.matrix s h.bases))
+    initial : (initial : List (List Status)) × (s ∷ h.bases ≡ initial ++ last_of s h.bases ∷ [])
+    initial = before_last s h.bases
+
+    -- the basis that is reached is the last one
+    whole : (earlier : List (List Status)) → earlier ++ s ∷ h.bases ≡ (earlier ++ initial.0) ++ now ∷ []
+    whole earlier = ap (λ xs. earlier ++ xs) (initial.1 ∙ ap (λ x. initial.0 ++ x ∷ []) h.path.1) ∙ sym (append_assoc earlier initial.0 (now ∷ []))
+
+    lie_there : (earlier : List (List Status)) → LieIn p.matrix before (earlier ++ s ∷ []) → LieIn p.matrix ways ((earlier ++ initial.0) ++ now ∷ [])
+    lie_there earlier lie = subst (LieIn p.matrix ways) (whole earlier) (h.lie earlier lie)
 
     -- the same after calls at the basis that is reached
     pub reached_later : (more : List Basics) → KeepsWaypoints p.matrix (basics_of now) ways (basics_of now) more → HasReached rule p s before now more steps
-    reached_later more keeps =
-        record { bases = h.bases; path = h.path; taken = h.taken; lie = λ earlier lie k d below. place earlier lie (get_or more k d) (keeps.each k d below) }
-      where
-        place : (earlier : List (List Status)) → LieIn p.matrix before (earlier ++ s ∷ []) → (w : Basics) →
-            IsKept p.matrix (basics_of now) ways (basics_of now) w → IsWithinOne p.matrix w (map basics_of (earlier ++ s ∷ h.bases))
-        place earlier lie w (inl old) = All-contains (λ w. IsWithinOne p.matrix w (map basics_of (earlier ++ s ∷ h.bases))) ways w (h.lie earlier lie) old
-        place earlier lie w (inr (inl within)) = within_by p.matrix w (basics_of now) (map basics_of (earlier ++ s ∷ h.bases)) within (reached_within earlier)
-        place earlier lie w (inr (inr within)) = within_by p.matrix w (basics_of now) (map basics_of (earlier ++ s ∷ h.bases)) within (reached_within earlier)
+    reached_later more keeps = record {
+      bases = h.bases;
+      path = h.path;
+      taken = h.taken;
+      lie = λ earlier lie. subst (LieIn p.matrix more) (sym (whole earlier))
+          (lie_same p.matrix (earlier ++ initial.0) now ways more keeps (lie_there earlier lie));
+    }
 
     pub follows_later : (more : List Basics) → KeepsWaypoints p.matrix (basics_of now) ways (basics_of now) more → RuleWaypointsFollow rule p s now before more
     follows_later more keeps = follows now more steps (reached_later more keeps)
@@ -117,23 +92,10 @@ module _ (rule : Rule) (p : LinearProgram) (s : List Status) (before : List Basi
       bases = h.bases ++ next ∷ [];
       path = (path_more rule p s h.bases next h.path.0 (subst (λ (x : List Status). RuleStep rule p x next) (sym h.path.1) step), last_more s h.bases next);
       taken = length_more h.bases next ∙ ap (λ n. n + 1) h.taken;
-      lie =
-          λ earlier lie k d below. subst (λ (xs : List (List Status)). IsWithinOne p.matrix (get_or more k d) (map basics_of xs))
-          (append_assoc earlier (s ∷ h.bases) (next ∷ []))
-          (place earlier lie (get_or more k d) (keeps.each k d below));
+      lie = λ earlier lie.
+          subst (LieIn p.matrix more) (ap (λ xs. xs ++ next ∷ []) (sym (whole earlier)) ∙ append_assoc earlier (s ∷ h.bases) (next ∷ []))
+          (lie_more p.matrix (earlier ++ initial.0) now next ways more keeps (lie_there earlier lie));
     }
-      where
-        place : (earlier : List (List Status)) → LieIn p.matrix before (earlier ++ s ∷ []) → (w : Basics) →
-            IsKept p.matrix (basics_of now) ways (basics_of next) w → IsWithinOne p.matrix w (map basics_of ((earlier ++ s ∷ h.bases) ++ next ∷ []))
-        place earlier lie w (inl old) =
-            within_prefix p.matrix w (earlier ++ s ∷ h.bases) (next ∷ [])
-            (All-contains (λ w. IsWithinOne p.matrix w (map basics_of (earlier ++ s ∷ h.bases))) ways w (h.lie earlier lie) old)
-        place earlier lie w (inr (inl within)) =
-            within_prefix p.matrix w (earlier ++ s ∷ h.bases) (next ∷ [])
-            (within_by p.matrix w (basics_of now) (map basics_of (earlier ++ s ∷ h.bases)) within (reached_within earlier))
-        place earlier lie w (inr (inr within)) =
-            within_by p.matrix w (basics_of next) (map basics_of ((earlier ++ s ∷ h.bases) ++ next ∷ [])) within
-            (within_suffix p.matrix (basics_of next) (earlier ++ s ∷ h.bases) (next ∷ []) (inl (within_itself p.matrix (basics_of next))))
 
     -- the path ends
     pub ends_there : (limit reported : ℕ) (outcome : Outcome) → steps ≤ limit → reported ≡ counted_steps steps → RuleEndsHere rule p now reported outcome →
@@ -175,14 +137,8 @@ module _ (rule : Rule) (p : LinearProgram) (s : List Status) (before : List Basi
           subst (λ (n : ℕ). EvidenceHolds statement None (limit - n) (earlier ++ s ∷ h.bases) [] now (waypoint (basics_of now) more e.way) e) (sym h.taken)
           (subst (λ (xs : List (List Status)). EvidenceHolds statement None (limit - steps) xs [] now (waypoint (basics_of now) more e.way) e)
           (sym (whole earlier))
-          (shows (earlier ++ initial.0) (subst (LieIn p.matrix ways) (whole earlier) (h.lie earlier lie))));
+          (shows (earlier ++ initial.0) (lie_there earlier lie)));
     }
-      where
-        initial : (initial : List (List Status)) × (s ∷ h.bases ≡ initial ++ last_of s h.bases ∷ [])
-        initial = before_last s h.bases
-
-        whole : (earlier : List (List Status)) → earlier ++ s ∷ h.bases ≡ (earlier ++ initial.0) ++ now ∷ []
-        whole earlier = ap (λ xs. earlier ++ xs) (initial.1 ∙ ap (λ x. initial.0 ++ x ∷ []) h.path.1) ∙ sym (append_assoc earlier initial.0 (now ∷ []))
 
 -- ---- a stop of the simplex path
 

@@ -11,13 +11,15 @@ use Rattle.lp_definitions.specs.declared.Change.{Change}
 use Rattle.lp_definitions.specs.declared.Evidence.{Evidence}
 use Rattle.lp_definitions.specs.declared.Status.{Status}
 use Rattle.lp_laws.proofs.Values.{clash}
-use Rattle.lp_laws.proofs.WaypointLaws.{Covers, Covers-all, covered, within_itself}
+use Rattle.lp_laws.proofs.WaypointLaws.{Covers, Covers-all, covered}
 use Rattle.simplex_definitions.specs.Path.{Move, after}
 use Rattle.simplex_definitions.specs.Formulas.{PointFormula, f6, f7, f10_product, f10_sum, SlackFormula, f6_slack, MoveFormula, f8, f9, IsStepTo, RatioFormula, f14, RangeFormula, f15_limit, f15_nonbasic, f15_basic, ObjectiveFormula, f16, f17_product, f17_sum, SlopeFormula, f18_product, f18_sum, f18_difference, f18_quotient}
 use Rattle.simplex_definitions.specs.Statements.{SolvingStatement, Primal, is_between, belongs, program_at, change_row, shift_at, thetas_of, MovesAt}
 use Rattle.simplex_definitions.specs.Evidence.{Formula, by_exchange, by_entry, by_carried, by_point, by_slack, by_move, by_ratio, by_range, by_objective, by_slope, ShowsRefusal, GoesTo, IsOfMove}
 use Rattle.basis_values.specs.Calls.{StopsAt, job_of}
 use Rattle.bounded_primal.specs.Calls.{EvidenceHere}
+use Rattle.bounded_primal.proofs.TurnEvidence.{formula_goes}
+use Rattle.bounded_primal.proofs.Within.{within_last, covers_ahead}
 
 -- ---- the numbers of formulas that a call at a step may show
 
@@ -118,10 +120,6 @@ module _ (p : LinearProgram) (o : Option Change) (other : SolvingStatement) (s :
       viewed : (around : List Basics) → StopsAt Goes p around s now e → ShowsRefusal (Primal p) Goes around s (waypoint (basics_of s) now e.way) e
       viewed around h = subst (λ (c : Option Change). ShowsRefusal (job_of p c) Goes around s (waypoint (basics_of s) now e.way) e) no_change h.shows
 
-      own_within : (xs : List (List Status)) → IsWithinOne p.matrix (basics_of s) (map basics_of (xs ++ s ∷ []))
-      own_within [] = inl (within_itself p.matrix (basics_of s))
-      own_within (x ∷ xs) = inr (own_within xs)
-
       -- with no other basis ahead
       pub evidence_here : StopsAt Goes p (basics_of s ∷ before) s now e → EvidenceHere other p.matrix breakpoint left s before now e
       evidence_here h = record {
@@ -132,26 +130,12 @@ module _ (p : LinearProgram) (o : Option Change) (other : SolvingStatement) (s :
           ahead = None;
           is_ahead = tt;
           shows = shows_as Goes (GoesTo other breakpoint s e) goes (basics_of s ∷ before) (map basics_of (earlier ++ s ∷ [])) (waypoint (basics_of s) now e.way)
-              (own_within earlier, Covers-all p.matrix before (map basics_of (earlier ++ s ∷ [])) lie) (viewed (basics_of s ∷ before) h);
+              (within_last p.matrix earlier s, Covers-all p.matrix before (map basics_of (earlier ++ s ∷ [])) lie) (viewed (basics_of s ∷ before) h);
           is_theta = is_theta ends;
           of_move = of_move;
           of_statement = of_statement;
         };
       }
-
-      within_more : (w : Basics) (xs ys : List (List Status)) → IsWithinOne p.matrix w (map basics_of xs) → IsWithinOne p.matrix w (map basics_of (xs ++ ys))
-      within_more w [] ys h = elim h [ ]
-      within_more w (x ∷ xs) ys (inl h) = inl h
-      within_more w (x ∷ xs) ys (inr h) = inr (within_more w xs ys h)
-
-      within_next : (xs : List (List Status)) (next : List Status) → IsWithinOne p.matrix (basics_of next) (map basics_of (xs ++ next ∷ []))
-      within_next [] next = inl (within_itself p.matrix (basics_of next))
-      within_next (x ∷ xs) next = inr (within_next xs next)
-
-      covers_more : (ways : List Basics) (xs ys : List (List Status)) → Covers p.matrix ways (map basics_of xs) →
-          Covers p.matrix ways (map basics_of (xs ++ ys))
-      covers_more [] xs ys h = tt
-      covers_more (w ∷ ways) xs ys h = (within_more w xs ys h.0, covers_more ways xs ys h.1)
 
       -- with the basis ahead to which the move m leads
       pub evidence_ahead : (m : Move) → MovesAt other breakpoint s m → basics_of (after s m) ≡ exchanged (basics_of s) m.leaves m.enters → 1 ≤ left →
@@ -164,14 +148,8 @@ module _ (p : LinearProgram) (o : Option Change) (other : SolvingStatement) (s :
           ahead = Some (after s m);
           is_ahead = (one_left, (m, moves, refl));
           shows = shows_as Goes (GoesTo other breakpoint s e) goes (basics_of s ∷ exchanged (basics_of s) m.leaves m.enters ∷ before)
-              (map basics_of ((earlier ++ s ∷ []) ++ after s m ∷ [])) (waypoint (basics_of s) now e.way) (
-                within_more (basics_of s) (earlier ++ s ∷ []) (after s m ∷ []) (own_within earlier),
-                (
-                  subst (λ (b : Basics). IsWithinOne p.matrix b (map basics_of ((earlier ++ s ∷ []) ++ after s m ∷ []))) leads
-                      (within_next (earlier ++ s ∷ []) (after s m)),
-                  covers_more before (earlier ++ s ∷ []) (after s m ∷ []) (Covers-all p.matrix before (map basics_of (earlier ++ s ∷ [])) lie),
-                ),
-              )
+              (map basics_of ((earlier ++ s ∷ []) ++ after s m ∷ [])) (waypoint (basics_of s) now e.way)
+              (covers_ahead p.matrix earlier s (after s m) (exchanged (basics_of s) m.leaves m.enters) before leads lie)
               (viewed (basics_of s ∷ exchanged (basics_of s) m.leaves m.enters ∷ before) h);
           is_theta = is_theta ends;
           of_move = of_move;
@@ -180,19 +158,6 @@ module _ (p : LinearProgram) (o : Option Change) (other : SolvingStatement) (s :
       }
 
 -- ---- a refusal of the statement's own formulas, which speak of no move
-
-module _ (statement : SolvingStatement) (Other : Status → Type 0) (s : List Status) (e : Evidence) where
-  any_move : (t : Tableau) (w : Basics) (rate : ℕ → ℕ → ℚ) → Formula statement (λ to. ⊥) s t w rate e → Formula statement Other s t w rate e
-  any_move t w rate (by_exchange f) = by_exchange f
-  any_move t w rate (by_entry f) = by_entry f
-  any_move t w rate (by_carried f) = by_carried f
-  any_move t w rate (by_point f) = by_point f
-  any_move t w rate (by_slack f) = by_slack f
-  any_move t w rate (by_move to goes f) = absurd goes
-  any_move t w rate (by_ratio f) = by_ratio f
-  any_move t w rate (by_range f) = by_range f
-  any_move t w rate (by_objective f) = by_objective f
-  any_move t w rate (by_slope u is f) = by_slope u is f
 
 module _ (statement : SolvingStatement) (a : Matrix) (s : List Status) (e : Evidence) (breakpoint : Option ℚ) (left : ℕ) (before now : List Basics)
     (is_theta : (ends : List ℚ) → Contains (thetas_of statement ends) e.theta) (of_move : IsOfMove statement breakpoint s e)
@@ -217,7 +182,8 @@ module _ (statement : SolvingStatement) (a : Matrix) (s : List Status) (e : Evid
             is_tableau = h.is_tableau;
             way_rate = h.way_rate;
             are_way_rates = h.are_way_rates;
-            formula = any_move statement (GoesTo statement breakpoint s e) s e h.tableau (basics_of s) h.way_rate h.formula;
+            formula =
+                formula_goes statement (λ to. ⊥) (GoesTo statement breakpoint s e) s e (λ to none number. absurd none) h.tableau (basics_of s) h.way_rate h.formula;
             is_way = (h.is_way.0, in_last (program_at statement e.theta).matrix (basics_of s) h.is_way.1 earlier);
             reaches =
                 λ names. let there = h.reaches names in (there.0, in_last (program_at statement e.theta).matrix (exchanged (basics_of s) e.p e.q) there.1 earlier);

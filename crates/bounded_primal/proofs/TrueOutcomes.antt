@@ -3,7 +3,6 @@ use Rattle.std.proofs.Common.{◌≡◌, ℕ, List, length, refl, sym, ◌∙◌
 use Rattle.std.proofs.lemmas.List.{length-map}
 use Rattle.std.specs.Prelude.{Some, Result, Ok, Err, IfOk}
 use Rattle.lp_definitions.specs.LinearProgram.{Matrix, LinearProgram, Vector, size, variables, value_at, IsLinearProgram}
-use Rattle.lp_definitions.specs.Solutions.{IsCrossed}
 use Rattle.lp_definitions.specs.Basis.{Basics, basics_of, price_at}
 use Rattle.lp_definitions.specs.declared.Status.{Status}
 use Rattle.exact_values.specs.Rational.{ℚ}
@@ -103,15 +102,3 @@ module _ (p : LinearProgram) (matrix : Matrix) (basics : Basics) (s : List Statu
 
   pub crossed_call : (limit : ℕ) (before : List Basics) → CallEnds p s s limit (Crossed k)
   crossed_call limit before = ends_there turn p s before s before 0 (begins turn p s before) limit 0 (Crossed k) (omega arith) refl ended
-
-  pub crossed_truth : IsTrueOutcome p (Crossed k)
-  crossed_truth = record { crossed = crossing; infeasible = infeasible_by_crossed p k crossing }
-    where
-      crossing_of : (ending : PathEnding) → EndsAt p s ending → Crossed k ≡ outcome_of 0 ending → IsCrossed p k
-      crossing_of (EndsOptimal z y) ends e = cc
-      crossing_of (EndsCrossed j) ends e = let same : k ≡ j = cc in subst (IsCrossed p) (sym same) (crossed_end p s j ends)
-      crossing_of (EndsInfeasible w) ends e = cc
-      crossing_of (EndsUnbounded z d) ends e = cc
-
-      crossing : IsCrossed p k
-      crossing = crossing_of ended.ending ended.ends ended.is_outcome

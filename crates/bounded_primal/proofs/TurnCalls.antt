@@ -1,21 +1,18 @@
 -- What the calls of a turn give: where it ends or moves, and the evidence where it stops.
-use Rattle.std.proofs.Common.{◌≡◌, ℕ, inl, inr, List, [], ◌∷◌, ◌++◌, map, get_or, refl, arith}
+use Rattle.std.proofs.Common.{◌≡◌, ℕ, List, refl, arith}
 use Rattle.std.specs.Prelude.{Some, None, Bool, true, false, not, ◌&&◌, Result, Ok, Err, if◌then◌else◌}
-use Rattle.std.proofs.lemmas.List.Elements.{All-contains}
 use Rattle.lp_definitions.specs.LinearProgram.{LinearProgram, Vector, size}
 use Rattle.lp_definitions.specs.Basis.{Basics, basics_of, is_in, IsBasis, IsBasic, IsNonsingular, IsPointOf, ArePricesOf}
-use Rattle.lp_definitions.specs.Waypoints.{IsWithinOne, IsKept, KeepsWaypoints}
+use Rattle.lp_definitions.specs.Waypoints.{KeepsWaypoints}
 use Rattle.lp_definitions.specs.declared.Evidence.{Evidence}
 use Rattle.lp_definitions.specs.declared.Status.{Status}
 use Rattle.lp_definitions.specs.declared.Status.TheVariants.{Ll, Ul}
 use Rattle.lp_model.specs.RatesCalls.{IsRowOf}
 use Rattle.lp_model.specs.RatesState.{RatesState}
-use Rattle.lp_laws.proofs.WaypointLaws.{within_itself, within_by}
 use Rattle.simplex_definitions.specs.Moves.{is_below, is_outside, entering}
 use Rattle.simplex_definitions.specs.Path.{Move, after, IsStep}
 use Rattle.simplex_laws.proofs.Numbered.{find_some}
 use Rattle.simplex_definitions.specs.Statements.{PathMoves}
-use Rattle.basis_values.specs.Calls.{LieIn}
 use Rattle.basis_values.specs.Motions.{motion}
 use Rattle.bounded_primal.specs.Turns.{IsUncrossed, least_outside, entering_variable_by, ReturnStops, by_column, by_return, RunStops, by_direction, by_blocking_variable, EvidenceAt, TurnStops, TurnFound}
 use Rattle.bounded_primal.specs.declared.moves.PrimalStop.{PrimalStop}
@@ -23,6 +20,7 @@ use Rattle.bounded_primal.specs.declared.moves.PrimalStop.TheVariants.{Limit, Ov
 use Rattle.bounded_primal.specs.declared.turns.EnteringVariable.{EnteringVariable}
 use Rattle.bounded_primal.specs.declared.turns.Turn.{Turn}
 use Rattle.bounded_primal.specs.declared.turns.Turn.TheVariants.{Ends, Moves}
+use Rattle.bounded_primal.proofs.Within.{lie_same}
 use Rattle.bounded_primal.proofs.TurnEvidence.{of_point, of_return, of_blocking_variable}
 use Rattle.bounded_primal.proofs.TurnChoices.{return_enters, return_move, restoring_basic, restoring_nonbasic, return_pivot, improve_enters, run_some}
 
@@ -33,22 +31,10 @@ step_of p s m h = (after s m, record { tableau = h.0; is_tableau = h.1; move = m
 -- ---- calls that come after others at the same basis
 
 module _ (p : LinearProgram) (s : List Status) (before mid now : List Basics) (keeps : KeepsWaypoints p.matrix (basics_of s) before (basics_of s) mid) where
-  last_one : (earlier : List (List Status)) → IsWithinOne p.matrix (basics_of s) (map basics_of (earlier ++ s ∷ []))
-  last_one [] = inl (within_itself p.matrix (basics_of s))
-  last_one (x ∷ earlier) = inr (last_one earlier)
-
-  lie_later : (earlier : List (List Status)) → LieIn p.matrix before (earlier ++ s ∷ []) → LieIn p.matrix mid (earlier ++ s ∷ [])
-  lie_later earlier lie k d below = place (get_or mid k d) (keeps.each k d below)
-    where
-      place : (w : Basics) → IsKept p.matrix (basics_of s) before (basics_of s) w → IsWithinOne p.matrix w (map basics_of (earlier ++ s ∷ []))
-      place w (inl old) = All-contains (λ w. IsWithinOne p.matrix w (map basics_of (earlier ++ s ∷ []))) before w lie old
-      place w (inr (inl within)) = within_by p.matrix w (basics_of s) (map basics_of (earlier ++ s ∷ [])) within (last_one earlier)
-      place w (inr (inr within)) = within_by p.matrix w (basics_of s) (map basics_of (earlier ++ s ∷ [])) within (last_one earlier)
-
   pub stops_later : (left : ℕ) (stop : PrimalStop) → TurnStops p s left mid now stop → TurnStops p s left before now stop
   stops_later left Limit h = h
   stops_later left NoMemory h = h
-  stops_later left (Overflow e) h = record { is_way = h.is_way; shows = λ earlier lie. h.shows earlier (lie_later earlier lie) }
+  stops_later left (Overflow e) h = record { is_way = h.is_way; shows = λ earlier lie. h.shows earlier (lie_same p.matrix earlier s before mid keeps lie) }
 
 pub found_later : (p : LinearProgram) (s : List Status) (before mid now : RatesState) →
     KeepsWaypoints p.matrix (basics_of s) before.waypoints (basics_of s) mid.waypoints →

@@ -5,9 +5,9 @@ use Rattle.std.proofs.lemmas.Bool.{leb-true, le-leb, lt-leb, and_parts, or_cases
 use Rattle.std.proofs.lemmas.Bool.Decides.{eqb_tells}
 use Rattle.exact_values.specs.Rational.{ℚ, zero_ℚ, ◌-ℚ◌}
 use Rattle.frac128.specs.declared.Op.TheVariants.{Div}
-use Rattle.lp_definitions.specs.LinearProgram.{Matrix, LinearProgram, Vector}
+use Rattle.lp_definitions.specs.LinearProgram.{LinearProgram, Vector}
 use Rattle.lp_definitions.specs.Basis.{Basics, basics_of, exchanged, IsBasic, IsNonbasic, IsNonsingular, IsDirectionOf, IsPointOf, AreRates, Tableau, IsTableau}
-use Rattle.lp_definitions.specs.Waypoints.{IsWithinOne, KeepsWaypoints, waypoint}
+use Rattle.lp_definitions.specs.Waypoints.{KeepsWaypoints, waypoint}
 use Rattle.lp_definitions.specs.RatesEvidence.{Refuses}
 use Rattle.lp_definitions.specs.declared.Change.{Change}
 use Rattle.lp_definitions.specs.declared.Evidence.{Evidence}
@@ -34,6 +34,7 @@ use Rattle.bounded_primal.specs.declared.moves.BlockingVariable.{BlockingVariabl
 use Rattle.basis_values.proofs.Covered.{stops_covered}
 use Rattle.basis_values.proofs.Existence.{rates_exist}
 use Rattle.basis_values.proofs.Refusals.{stops_at_basis}
+use Rattle.bounded_primal.proofs.Within.{within_last, covers_ahead}
 
 -- ---- the limits to which a step may go
 
@@ -44,7 +45,7 @@ move_number p s t to e (f9 r q i step names step_to is refused) = rw names.is_fo
 
 module _ (statement : SolvingStatement) (Goes Other : Status → Type 0) (s : List Status) (e : Evidence)
     (h : (to : Status) → Goes to → (is_between 7 9 e.formula ≡ true) × (is_between 8 9 e.formula ≡ true) → Other to) where
-  formula_goes : (t : Tableau) (w : Basics) (rate : ℕ → ℕ → ℚ) → Formula statement Goes s t w rate e → Formula statement Other s t w rate e
+  pub formula_goes : (t : Tableau) (w : Basics) (rate : ℕ → ℕ → ℚ) → Formula statement Goes s t w rate e → Formula statement Other s t w rate e
   formula_goes t w rate (by_exchange f) = by_exchange f
   formula_goes t w rate (by_entry f) = by_entry f
   formula_goes t w rate (by_carried f) = by_carried f
@@ -67,22 +68,6 @@ module _ (statement : SolvingStatement) (Goes Other : Status → Type 0) (s : Li
     reaches = r.reaches;
     no_way = r.no_way;
   }
-
--- ---- the bases in which waypoints lie
-
-module _ (a : Matrix) where
-  within_more : (w : Basics) (xs ys : List (List Status)) → IsWithinOne a w (map basics_of xs) → IsWithinOne a w (map basics_of (xs ++ ys))
-  within_more w [] ys h = elim h [ ]
-  within_more w (x ∷ xs) ys (inl h) = inl h
-  within_more w (x ∷ xs) ys (inr h) = inr (within_more w xs ys h)
-
-  within_last : (xs : List (List Status)) (s : List Status) → IsWithinOne a (basics_of s) (map basics_of (xs ++ s ∷ []))
-  within_last [] s = inl (within_itself a (basics_of s))
-  within_last (x ∷ xs) s = inr (within_last xs s)
-
-  covers_more : (ways : List Basics) (xs ys : List (List Status)) → Covers a ways (map basics_of xs) → Covers a ways (map basics_of (xs ++ ys))
-  covers_more [] xs ys h = tt
-  covers_more (w ∷ ways) xs ys h = (within_more w xs ys h.0, covers_more ways xs ys h.1)
 
 -- ---- the job that a call counts as
 
@@ -266,14 +251,8 @@ module _ (p : LinearProgram) (s : List Status) (left : ℕ) (before now : List B
   evidence_ahead Goes m moves leads one_left stops goes of_move belongs_to = record {
     is_way = stops.is_way;
     shows = λ earlier lie.
-        let cover : Covers p.matrix (basics_of s ∷ exchanged (basics_of s) m.leaves m.enters ∷ before) (map basics_of ((earlier ++ s ∷ []) ++ after s m ∷ [])) = (
-          within_more p.matrix (basics_of s) (earlier ++ s ∷ []) (after s m ∷ []) (within_last p.matrix earlier s),
-          (
-            subst (λ (b : Basics). IsWithinOne p.matrix b (map basics_of ((earlier ++ s ∷ []) ++ after s m ∷ []))) leads
-                (within_last p.matrix (earlier ++ s ∷ []) (after s m)),
-            covers_more p.matrix before (earlier ++ s ∷ []) (after s m ∷ []) (Covers-all p.matrix before (map basics_of (earlier ++ s ∷ [])) lie),
-          ),
-        ) in
+        let cover =
+        covers_ahead p.matrix earlier s (after s m) (exchanged (basics_of s) m.leaves m.enters) before leads lie in
         record {
           before = earlier;
           reached = refl;

@@ -77,6 +77,31 @@ fn walk_free<R: Rates, L: Ledger>(
     }
 }
 
+/// Walks with vectors of its own. Where a variable is crossed, the path ends at once.
+fn follow_free<R: Rates>(
+    alloc: Global,
+    lp: &Lp,
+    basis: &mut Basis,
+    rates: &mut R,
+) -> Result<Outcome, Stop>
+    requires lawful { IsLinearProgram lp.now }
+    requires rates { IsAtBasis (R.state rates.old) lp.now basis.old }
+    ensures ends { IfOk result (CallEnds lp.now basis.old basis.new (lists_of lp.now)) }
+    ensures stops { IfErr result (FreeStops lp.now basis.old basis.new (R.state rates.old)
+        (R.state rates.new)) }
+    ensures rates { IsAtBasis (R.state rates.new) lp.now basis.new }
+    ensures waypoints { WaypointsFollow lp.now basis.old basis.new (R.state rates.old)
+        (R.state rates.new) }
+{
+    if let Some(k) = crossed(lp) {
+        return Ok(Outcome::Crossed { k });
+    }
+    let mut workspace = Workspace::new(alloc, lp)?;
+    let mut wanted = wants_of(alloc, lp, basis)?;
+    let blank = Blank::new(1);
+    walk_free::<R, Brand>(lp, basis, rates, &mut wanted, &mut workspace, blank)
+}
+
 /// Follows the path from the basis until it ends, by the rules of `primal`, with no limit of steps: it ends, since no basis comes
 /// twice, and so after fewer steps than there are status lists. The count of steps in the outcome stands still at 4,294,967,295.
 /// The basis and the rates are those that the path has reached, after a stop too.
@@ -101,11 +126,5 @@ pub fn primal_free<R: Rates>(
         IsFreeEndOrMemory basis.old bases ending basis.new result }
 {
     let _size = lp.number_of_variables();
-    if let Some(k) = crossed(lp) {
-        return Ok(Outcome::Crossed { k });
-    }
-    let mut workspace = Workspace::new(alloc, lp)?;
-    let mut wanted = wants_of(alloc, lp, basis)?;
-    let blank = Blank::new(1);
-    walk_free::<R, Brand>(lp, basis, rates, &mut wanted, &mut workspace, blank)
+    follow_free(alloc, lp, basis, rates)
 }

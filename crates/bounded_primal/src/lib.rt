@@ -22,5 +22,7 @@ pub use path::primal;
 pub use position::Position;
 pub use step::{returning, step_over};
 pub use stopping::blocking_variable;
-pub use turns::{Turn, best, limit_broken, ray_of, return_along, whole_point};
-pub use workspace::Workspace;
+pub use turns::{
+    Turn, best, copied, limit_broken, ray_of, return_along, signed_direction, whole_point,
+};
+pub use workspace::{Workspace, zeroed};

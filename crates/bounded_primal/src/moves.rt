@@ -40,8 +40,9 @@ impl From<Stop> for PrimalStop {
     }
 }
 
-/// The variable that stops a move. `step` is the change of what moves, negative where it moves down, and `to` is where `p` comes
-/// to stand.
+/// What ends a move: the variable that stops it, which a ratio test finds; or the basic that the move brings back to a limit, in the
+/// first phase or in a dual step, which no ratio test finds. `step` is the change of what moves, negative where it moves down, and `to`
+/// is where `p` comes to stand.
 #[derive(Clone, Copy, Debug, PartialEq, Eq)]
 pub struct BlockingVariable {
     pub p: u32,

@@ -168,6 +168,31 @@ fn walk<R: Rates>(
     }
 }
 
+/// Walks with vectors of its own. Where a variable is crossed, the path ends at once.
+fn follow<R: Rates>(
+    alloc: Global,
+    lp: &Lp,
+    basis: &mut Basis,
+    rates: &mut R,
+    limit: u32,
+) -> Result<Outcome, PrimalStop>
+    requires lawful { IsLinearProgram lp.now }
+    requires rates { IsAtBasis (R.state rates.old) lp.now basis.old }
+    ensures ends { IfOk result (CallEnds lp.now basis.old basis.new limit) }
+    ensures stops { IfErr result (PrimalStops lp.now basis.old basis.new limit (R.state rates.old)
+        (R.state rates.new)) }
+    ensures rates { IsAtBasis (R.state rates.new) lp.now basis.new }
+    ensures waypoints { WaypointsFollow lp.now basis.old basis.new (R.state rates.old)
+        (R.state rates.new) }
+{
+    if let Some(k) = crossed(lp) {
+        return Ok(Outcome::Crossed { k });
+    }
+    let mut workspace = Workspace::new(alloc, lp)?;
+    let mut wanted = wants_of(alloc, lp, basis)?;
+    walk(lp, basis, rates, &mut wanted, &mut workspace, limit)
+}
+
 /// Follows the path from the basis until it ends, for at most `limit` steps: the bounded simplex method with the least-index rule.
 /// A crossed variable ends it; else the least-numbered basic outside its limits is brought back to the limit that it broke; else
 /// the least-numbered nonbasic that improves the objective moves until something stops it. `Limit` comes exactly where the path has
@@ -196,10 +221,5 @@ pub fn primal<R: Rates>(
         IsEndOrMemory basis.old bases ending basis.new result }
 {
     let _size = lp.number_of_variables();
-    if let Some(k) = crossed(lp) {
-        return Ok(Outcome::Crossed { k });
-    }
-    let mut workspace = Workspace::new(alloc, lp)?;
-    let mut wanted = wants_of(alloc, lp, basis)?;
-    walk(lp, basis, rates, &mut wanted, &mut workspace, limit)
+    follow(alloc, lp, basis, rates, limit)
 }

@@ -61,22 +61,6 @@ fn plainly_moved(
     formula(9, by.p, q, i).sum(value, product)
 }
 
-/// The same, also where only the plain operations are refused.
-#[inline(always)]
-fn moved(value: Frac, rate: Frac, by: &BlockingVariable, q: u32, i: u32) -> Result<Frac, Evidence>
-    ensures value { IfOk result (λ moved. moved ≡ value +ℚ by.now.step *ℚ rate) }
-    ensures refused { IfErr result (MovedRefused by.now.step rate value by.now.p q i) }
-    ensures needed { OnErr result (rate ≢ zero_ℚ) }
-{
-    match plainly_moved(value, rate, by, q, i) {
-        Ok(moved) => Ok(moved),
-        Err(evidence) => match plus_product(value, by.step, rate) {
-            Some(moved) => Ok(moved),
-            None => Err(evidence),
-        },
-    }
-}
-
 /// Whether `k` has a limit.
 fn has_limit(lp: &Lp, k: u32) -> bool
     requires { IsVariable lp.now.matrix k }
@@ -113,14 +97,18 @@ fn moved_if_possible(
     if let Some(moved) = quickly_moved(value, rate, by.step) {
         return Ok(Some(moved));
     }
-    match moved(value, rate, by, q, i) {
+    match plainly_moved(value, rate, by, q, i) {
         Ok(moved) => Ok(Some(moved)),
-        Err(evidence) => { if needed { Err(evidence) } else { Ok(None) } }
+        Err(evidence) => match plus_product(value, by.step, rate) {
+            Some(moved) => Ok(Some(moved)),
+            None => { if needed { Err(evidence) } else { Ok(None) } }
+        },
     }
 }
 
 /// Moves the values of the point that are `kept` by the step, and answers which are still kept after it: where not all are
-/// needed, a refused one of a variable without limits stays as it was. What has the rate 0 stays as it is, and isn't looked at.
+/// needed, a refused one of a variable without limits stays as it was. What has the rate 0 stays as it is, and isn't looked at; a step
+/// of 0 moves nothing.
 fn move_point(lp: &Lp, step: &Move<'_>, point: &mut [Frac], kept: Kept) -> Result<Kept, Evidence>
     requires direction_places { length step.now.direction.now ≡ size lp.now.matrix }
     requires point_places { length point.old ≡ size lp.now.matrix }
@@ -135,6 +123,9 @@ fn move_point(lp: &Lp, step: &Move<'_>, point: &mut [Frac], kept: Kept) -> Resul
     ensures refused { IfErr result (SomeMovedRefused lp.now (all_needed kept) step.now.by.now
         (value_at step.now.direction.now) (value_at point.old) step.now.q) }
 {
+    if step.by.step.is_zero() {
+        return Ok(kept);
+    }
     let mut still = kept;
     let direction = step.direction.values();
     let moving = step.direction.nonzero();
@@ -152,32 +143,6 @@ fn move_point(lp: &Lp, step: &Move<'_>, point: &mut [Frac], kept: Kept) -> Resul
         point[*k as usize - 1] = next;
     }
     Ok(still)
-}
-
-/// The same, where a step of 0 moves nothing.
-fn move_point_by_step(
-    lp: &Lp,
-    step: &Move<'_>,
-    point: &mut [Frac],
-    kept: Kept,
-) -> Result<Kept, Evidence>
-    requires direction_places { length step.now.direction.now ≡ size lp.now.matrix }
-    requires point_places { length point.old ≡ size lp.now.matrix }
-    ensures limited { OnOk result
-        (IsMovedAtLimits lp.now step.now.by.now.step (value_at step.now.direction.now)
-        (value_at point.old) (size lp.now.matrix) (value_at point.new)) }
-    ensures moved { IfOk result (λ still. IsTrue (all_kept still) → IsMoved step.now.by.now.step
-        (value_at step.now.direction.now) (value_at point.old)
-        (size lp.now.matrix) (value_at point.new)) }
-    ensures kept { IfOk result (λ still. IsTrue (all_kept still) → IsTrue (all_kept kept)) }
-    ensures needed { IfOk result (λ still. IsTrue (all_needed kept) → IsTrue (all_kept still)) }
-    ensures refused { IfErr result (SomeMovedRefused lp.now (all_needed kept) step.now.by.now
-        (value_at step.now.direction.now) (value_at point.old) step.now.q) }
-{
-    if step.by.step.is_zero() {
-        return Ok(kept);
-    }
-    move_point(lp, step, point, kept)
 }
 
 /// The limit of `k` that has this status.
@@ -298,7 +263,7 @@ pub fn step_over<R: Rates>(
     ensures overflow { StepOverflow result lp.now basis.old step.now.q step.now.by.now
         (R.state rates.old) (R.state rates.new) }
 {
-    let still = match move_point_by_step(lp, step, point, kept) {
+    let still = match move_point(lp, step, point, kept) {
         Ok(still) => still,
         Err(evidence) => return Err(Stop::Overflow(evidence)),
     };

@@ -68,7 +68,7 @@ fn speed(lp: &Lp, direction: &[Frac], up: bool, k: u32) -> Frac
 }
 
 /// The direction, or its opposite.
-fn signed_direction(
+pub fn signed_direction(
     alloc: Global,
     lp: &Lp,
     direction: &[Frac],
@@ -89,7 +89,7 @@ fn signed_direction(
 }
 
 /// A copy.
-fn copied(alloc: Global, values: &[Frac]) -> Result<Vec<Frac>, NoMemory>
+pub fn copied(alloc: Global, values: &[Frac]) -> Result<Vec<Frac>, NoMemory>
     ensures { IfOk result (λ copy. copy.items ≡ values.now) }
 {
     let copy = Vec::from_slice(alloc, values)?;
@@ -228,30 +228,8 @@ fn improving(lp: &Lp, basis: &Basis, prices: &[Frac]) -> Option<EnteringVariable
     Some(entering_variable_at(lp, prices, q))
 }
 
-/// The variable that improves the objective, if there is one, by the prices of all variables, which `prices` takes. `row` is a workspace.
-fn entering_variable_by_prices<R: Rates>(
-    at: &Position<'_>,
-    rates: &mut R,
-    row: &mut [Frac],
-    prices: &mut [Frac],
-) -> Result<Option<EnteringVariable>, Stop>
-    requires rates { IsAtBasis (R.state rates.old) at.now.lp.now at.now.basis.now }
-    requires lawful { IsLinearProgram at.now.lp.now }
-    requires row_places { length row.old ≡ size at.now.lp.now.matrix }
-    requires price_places { length prices.old ≡ size at.now.lp.now.matrix }
-    ensures found { IfOk result
-        (IsEnteringVariableFound at.now.lp.now at.now.basis.now (value_at prices.new)) }
-    ensures rates { StaysAt (R.state rates.old) (R.state rates.new) at.now.lp.now at.now.basis.now }
-    ensures overflow { PointOverflow result at.now.lp.now at.now.basis.now (R.state rates.old)
-        (R.state rates.new) }
-{
-    match fill_prices(at.lp, at.basis, rates, row, prices) {
-        Ok(()) => Ok(improving(at.lp, at.basis, prices)),
-        Err(stop) => Err(stop),
-    }
-}
-
-/// The same where there is no change row: the prices are the rates of the objective, and no more of them are computed than are needed.
+/// The variable that improves the objective, if there is one, where there is no change row: the prices are the rates of the objective,
+/// and no more of them are computed than are needed.
 fn entering_variable_by_row<R: Rates>(
     at: &Position<'_>,
     rates: &mut R,
@@ -299,7 +277,10 @@ fn entering_variable_of<R: Rates>(
     let lp = at.lp;
     match lp.change {
         None => entering_variable_by_row(at, rates, wanted, prices),
-        Some(_) => entering_variable_by_prices(at, rates, row, prices),
+        Some(_) => match fill_prices(at.lp, at.basis, rates, row, prices) {
+            Ok(()) => Ok(improving(at.lp, at.basis, prices)),
+            Err(stop) => Err(stop),
+        },
     }
 }
 

@@ -25,7 +25,7 @@ pub struct Workspace {
 }
 
 /// So many zeros.
-fn zeroed(alloc: Global, size: usize) -> Result<Vec<Frac>, NoMemory>
+pub fn zeroed(alloc: Global, size: usize) -> Result<Vec<Frac>, NoMemory>
     ensures { IfOk result (λ values. values.items ≡ replicate size zero_ℚ) }
 {
     let values = vec![in alloc; Frac::whole(0); size].map_err(|_| NoMemory)?;

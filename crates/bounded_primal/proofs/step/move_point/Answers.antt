@@ -6,6 +6,7 @@ use Rattle.bounded_primal.specs.KeptPoints.{has_limit, all_kept, all_needed}
 use Rattle.bounded_primal.specs.Steps.{MovedRefused}
 use Rattle.bounded_primal.proofs.Agreement.{needed_kept}
 use Rattle.bounded_primal.proofs.LookedAt.{IsDoneUpTo, IsDoneBefore, IsMovedUpTo, listed_cover, begun, one_more, next_at, end_at, moved_over, moved_by, moved_but, or_left, or_right, nothing_there}
+use Rattle.bounded_primal.proofs.Still.{no_step}
 use Rattle.bounded_primal.proofs.step.move_point.Goals as goal
 
 -- what is moved of the variables before the next one
@@ -13,6 +14,17 @@ before : (p : LinearProgram) (t : ℚ) (ds : List ℚ) (z w : Vector) (all : Boo
     IsDoneUpTo ds (IsMovedUpTo p t (value_at ds) z w all) (drop i ks) →
     IsDoneBefore ds (IsMovedUpTo p t (value_at ds) z w all) (get_or ks i 0) (drop (i + 1) ks)
 before p t ds z w all ks i below h = next_at ds (IsMovedUpTo p t (value_at ds) z w all) (moved_over p t (value_at ds) z w all) ks i (get_or ks i 0) below refl h
+
+pub returns-then-is_zero-clause-limited : goal.returns-then-is_zero-clause-limited
+returns-then-is_zero-clause-limited c = λ k low high limited.
+    no_step c.args.step.now.by.now.step (value_at c.args.point.now k) (value_at c.args.step.now.direction.now k) (c.if-is_zero.ensures.0 refl)
+
+pub returns-then-is_zero-clause-moved : goal.returns-then-is_zero-clause-moved
+returns-then-is_zero-clause-moved c = λ all k low high.
+    no_step c.args.step.now.by.now.step (value_at c.args.point.now k) (value_at c.args.step.now.direction.now k) (c.if-is_zero.ensures.0 refl)
+
+pub returns-then-is_zero-clause-needed : goal.returns-then-is_zero-clause-needed
+returns-then-is_zero-clause-needed c = needed_kept c.args.kept
 
 pub loop-k-init : goal.loop-k-init
 loop-k-init c = record {

@@ -19,10 +19,10 @@ pub returns-clause-point : goal.returns-clause-point
 returns-clause-point g c =
     rw c.in_ok-change_basis.ensures.basis
     (after_agrees c.args.lp.now c.args.basis.now c.requires.step.point
-    (value_at c.args.step.now.direction.now) c.args.step.now.q c.args.step.now.by.now c.requires.rates.is_basis c.requires.rates.nonsingular c.requires.nonbasic c.requires.direction c.requires.moves c.requires.step.is_step c.requires.step.is_point (value_at c.args.point.now) (value_at c.move_point_by_step.new.point) c.requires.point c.in-Ok.ensures.limited)
+    (value_at c.args.step.now.direction.now) c.args.step.now.q c.args.step.now.by.now c.requires.rates.is_basis c.requires.rates.nonsingular c.requires.nonbasic c.requires.direction c.requires.moves c.requires.step.is_step c.requires.step.is_point (value_at c.args.point.now) (value_at c.move_point.new.point) c.requires.point c.in-Ok.ensures.limited)
 
 pub returns-clause-kept : goal.returns-clause-kept
 returns-clause-kept g c all =
     rw c.in_ok-change_basis.ensures.basis
     (after_exact c.args.lp.now c.args.basis.now c.requires.step.point
-    (value_at c.args.step.now.direction.now) c.args.step.now.q c.args.step.now.by.now c.requires.rates.is_basis c.requires.rates.nonsingular c.requires.nonbasic c.requires.direction c.requires.moves c.requires.step.is_step c.requires.step.is_point (value_at c.args.point.now) (value_at c.move_point_by_step.new.point) (c.requires.kept (c.in-Ok.ensures.kept all)) (c.in-Ok.ensures.moved all))
+    (value_at c.args.step.now.direction.now) c.args.step.now.q c.args.step.now.by.now c.requires.rates.is_basis c.requires.rates.nonsingular c.requires.nonbasic c.requires.direction c.requires.moves c.requires.step.is_step c.requires.step.is_point (value_at c.args.point.now) (value_at c.move_point.new.point) (c.requires.kept (c.in-Ok.ensures.kept all)) (c.in-Ok.ensures.moved all))

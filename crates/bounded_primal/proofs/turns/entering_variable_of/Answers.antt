@@ -1,6 +1,6 @@
 use Rattle.lp_definitions.specs.LinearProgram.{value_at}
 use Rattle.bounded_primal.proofs.FirstWanted.{entering_variable_found}
-use Rattle.bounded_primal.proofs.turns.entering_variable_by_prices.Goals as goal
+use Rattle.bounded_primal.proofs.turns.entering_variable_of.Goals as goal
 
 pub returns-in-Ok-clause-found : goal.returns-in-Ok-clause-found
 returns-in-Ok-clause-found g c =
