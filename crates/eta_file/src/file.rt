@@ -500,6 +500,32 @@ impl EtaFile {
         out.put_around(values, before, j, after)
     }
 
+    /// Makes `out` the direction of the nonbasic `j`, and counts nothing. It is cleared by its list; the new one is taken of the basics and `j`.
+    pub fn direction(
+        &self,
+        j: u32,
+        wholes: &mut SparseWholes,
+        out: &mut SparseVector,
+    ) -> Result<(), Stop>
+        requires nonbasic { IsNonbasic self.now.matrix self.now.basics j }
+        requires wholes { length wholes.old ≡ size self.now.matrix }
+        requires places { length out.old ≡ size self.now.matrix }
+        ensures direction { OnOk result (IsDirectionOf self.now.matrix self.now.basics j
+            (value_at out.new)) }
+        ensures places { OnOk result (length out.new ≡ size self.now.matrix) }
+        ensures overflow { ColumnOverflow result (file_state self.now) (file_state self.now) }
+        ensures wholes { length wholes.new ≡ length wholes.old }
+    {
+        let mut values = out.take();
+        match self.column_in(j, wholes, &mut values) {
+            Ok(()) => match self.put_direction(j, values, out) {
+                Ok(()) => Ok(()),
+                Err(_refused) => Err(Stop::NoMemory),
+            },
+            Err(stop) => Err(stop),
+        }
+    }
+
     /// The numbers of the direction of the nonbasic `j` over the denominator that is given, found modulo two primes and tested by the
     /// equations. It gives up where numbers are short, where one doesn't fit, and where there is no memory.
     fn guess(&self, work: &mut ModularFile, j: u32, wholes: &mut SparseWholes) -> Option<Frac>
@@ -512,6 +538,9 @@ impl EtaFile {
         let first = last_left(&self.etas, j);
         work.follow(self.alloc, &self.etas)?;
         if first == 0 {
+            if j <= self.rows {
+                return None;
+            }
             work.begin(j, self.numbers(j - self.rows))?;
         } else {
             work.leave(first - 1)?;
@@ -567,14 +596,17 @@ impl EtaFile {
         let Some(denominator) = self.guess_in_room(j, wholes) else {
             return self.column_in(j, wholes, out);
         };
-        if wholes.divide_into(denominator, out).is_some() {
-            return Ok(());
+        match wholes.divide_into(denominator, out) {
+            Some(()) => Ok(()),
+            None => {
+                clear(out);
+                self.column_in(j, wholes, out)
+            }
         }
-        self.carry_by::<Brand>(j, out, Blank::new(1))
     }
 
-    /// Makes `out` the direction of the nonbasic `j`, and counts nothing. It is cleared by its list; the new one is taken of the basics and `j`.
-    pub fn direction(
+    /// The same, where long numbers may be found modulo two primes and are tested.
+    pub fn tested_direction(
         &mut self,
         j: u32,
         wholes: &mut SparseWholes,

@@ -1,6 +1,6 @@
 //! Numbers that may be a direction, and the test whether they are one.
 
-ghost use Rattle.std.specs.Prelude.{◌≡◌, ◌≢◌, ◌+◌, ◌≤◌, ◌×◌, ℕ, All, length, IfSome, IsTrue};
+ghost use Rattle.std.specs.Prelude.{◌≡◌, ◌≢◌, ◌+◌, ◌≤◌, ℕ, All, length, IfSome, IsTrue};
 ghost use Rattle.exact_values.specs.Rational.{whole, zero_ℚ, ◌+ℚ◌, ◌*ℚ◌};
 ghost use Rattle.exact_values.specs.Sums.{sum_up_to};
 ghost use Rattle.lp_definitions.specs.LinearProgram.{IsRow, size, value_at, on_row, entry, KeepsEquations};
@@ -17,7 +17,7 @@ use lp_model::Entry;
 use whole_vectors::{SparseWholes, whole_at, whole_sum};
 
 /// An eta over a denominator of this size or more has long numbers.
-const LONG: u128 = 1 << 16;
+const LONG: u128 = 1 << 10;
 
 /// Whether the last eta has long numbers.
 pub fn has_long_numbers(etas: &[StoredEta]) -> bool {

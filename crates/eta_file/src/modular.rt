@@ -3,7 +3,7 @@
 //! J. von zur Gathen and J. Gerhard, Modern Computer Algebra, 5.10). Nothing is promised of what comes of it. A direction that is found
 //! so is tested by the equations of the matrix before it is taken for one.
 
-ghost use Rattle.std.specs.Prelude.{◌×◌, ◌≤ℤ◌, ◌<ℤ◌, ◌^◌, pos, IfSome};
+ghost use Rattle.std.specs.Prelude.{◌≤ℤ◌, ◌<ℤ◌, ◌^◌, pos, IfSome};
 ghost use Rattle.frac128.specs.Terms.{Fits};
 
 use crate::eta::{StoredEta, WholeEta};
