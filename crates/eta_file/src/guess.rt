@@ -14,7 +14,7 @@ use crate::file::EtaFile;
 use crate::modular::ModularFile;
 use frac128::Frac;
 use lp_model::Entry;
-use whole_vectors::{SparseWholes, whole_at, whole_sum};
+use whole_vectors::{SparseWholes, whole_at};
 
 /// An eta over a denominator of this size or more has long numbers.
 const LONG: u128 = 1 << 10;
@@ -39,9 +39,7 @@ fn add_column(column: &[Entry], number: i128, sums: &mut SparseWholes) -> Option
     ensures places { length sums.new ≡ length sums.old }
 {
     for entry in column {
-        let sum = whole_at(sums.numbers(), entry.row);
-        let next = whole_sum(sum, number, entry.value)?;
-        sums.put(entry.row, next)?;
+        sums.add_product(entry.row, number, entry.value)?;
     }
     Some(())
 }
