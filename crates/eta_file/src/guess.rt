@@ -95,12 +95,7 @@ pub fn keeps_equations(file: &EtaFile, numbers: &SparseWholes, sums: &mut Sparse
 }
 
 /// Puts numbers at the basics and at `j`, that of `j` the denominator that is given.
-pub fn gathered(
-    file: &EtaFile,
-    work: &ModularFile,
-    j: u32,
-    out: &mut SparseWholes,
-) -> Option<Frac>
+pub fn gathered(file: &EtaFile, work: &ModularFile, j: u32, out: &mut SparseWholes) -> Option<Frac>
     requires nonbasic { IsNonbasic file.now.matrix file.now.basics j }
     requires places { length out.old ≡ size file.now.matrix }
     ensures apart { IfSome result (λ d. d ≢ zero_ℚ) }

@@ -12,10 +12,12 @@ use std::alloc::Global;
 use whole_vectors::SparseWholes;
 
 const SMALL_PRIME: u64 = 2_305_843_009_213_693_951;
+
 const LARGE_PRIME: u64 = 18_446_744_069_414_584_321;
 
 /// The product of both primes, and its half.
 const MODULUS: u128 = 42_535_295_855_213_787_602_497_882_669_577_142_271;
+
 const HALF: u128 = 21_267_647_927_606_893_801_248_941_334_788_571_135;
 
 /// The inverse of the smaller prime modulo the larger one.
@@ -23,7 +25,9 @@ const INVERSE: u64 = 16_930_573_323_512_567_275;
 
 /// The lowest 61, 64 and 32 bits.
 const LOW_61: u128 = 2_305_843_009_213_693_951;
+
 const LOW_64: u128 = 18_446_744_073_709_551_615;
+
 const LOW_32: u64 = 4_294_967_295;
 
 /// A numerator of this size or more isn't looked for.
@@ -92,6 +96,7 @@ pub struct Residue {
 }
 
 const ZERO: Residue = Residue { small: 0, large: 0 };
+
 const ONE: Residue = Residue { small: 1, large: 1 };
 
 impl Residue {

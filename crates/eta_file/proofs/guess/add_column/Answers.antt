@@ -1,4 +1,4 @@
-use Rattle.std.proofs.Common.{◌≡◌, ◌≤◌, ◌∙◌, refl, sym, ap, length, arith, subst}
+use Rattle.std.proofs.Common.{◌≤◌, ◌∙◌, refl, sym, ap, length, arith, subst}
 use Rattle.lp_definitions.specs.LinearProgram.{value_at}
 use Rattle.lp_definitions.specs.declared.Entry.{Entry}
 use Rattle.eta_file.proofs.GuessSteps.{plus_nothing, added_more}

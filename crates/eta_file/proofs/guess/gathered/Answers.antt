@@ -1,4 +1,4 @@
-use Rattle.std.proofs.Common.{rules, ◌∙◌, sym, ap, to_z, of_z}
+use Rattle.std.proofs.Common.{rules, ◌∙◌, sym, ap}
 use Rattle.std.specs.Int.{w128}
 use Rattle.std.proofs.lemmas.Int.{to_z-of_z}
 use Rattle.exact_values.specs.Rational.{whole}

@@ -1,4 +1,4 @@
-use Rattle.std.proofs.Common.{◌≡◌, ◌≢◌, ℕ, length}
+use Rattle.std.proofs.Common.{◌≡◌, ℕ, length}
 use Rattle.exact_values.specs.Rational.{zero_ℚ}
 use Rattle.lp_definitions.specs.LinearProgram.{value_at}
 use Rattle.lp_definitions.specs.Basis.{IsNonbasic}
