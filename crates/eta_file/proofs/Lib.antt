@@ -10,3 +10,4 @@ pub mod Counts
 pub mod ColumnLaws
 pub mod WholeSteps
 pub mod ListedLaws
+pub mod GuessSteps

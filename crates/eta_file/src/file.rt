@@ -19,6 +19,8 @@ ghost use Rattle.whole_vectors.specs.Quotients.{Represent};
 use crate::basic_set::{BasicSet, place_of};
 use crate::carry::{clear, fill_column, last_left, leave, transform};
 use crate::eta::{Eta, EtaEntry, ScaledEta, StoredEta};
+use crate::guess::{gathered, has_long_numbers, keeps_equations};
+use crate::modular::ModularFile;
 use crate::steps::Steps;
 use crate::whole::{begin_whole, leave_whole, transform_whole, whole_eta};
 use crate::words::{WordEntry, words_of_columns};
@@ -47,6 +49,7 @@ pub struct EtaFile {
     words: Rc<Vec<Option<Vec<WordEntry>>>, Global>,
     basics: BasicSet,
     etas: Vec<StoredEta>,
+    modular: Option<ModularFile>,
     alloc: Global,
 }
 
@@ -144,6 +147,7 @@ impl EtaFile {
             words: Rc::new(alloc, words).map_err(|_| NoMemory)?,
             basics: BasicSet::new(alloc, row_marks(alloc, lp)?)?,
             etas: Vec::new(alloc),
+            modular: None,
             alloc,
         })
     }
@@ -187,6 +191,7 @@ impl EtaFile {
             words: self.words.clone()?,
             basics: BasicSet::new(self.alloc, marks)?,
             etas: Vec::new(self.alloc),
+            modular: None,
             alloc: self.alloc,
         })
     }
@@ -513,6 +518,112 @@ impl EtaFile {
     {
         let mut values = out.take();
         match self.column_in(j, wholes, &mut values) {
+            Ok(()) => match self.put_direction(j, values, out) {
+                Ok(()) => Ok(()),
+                Err(_refused) => Err(Stop::NoMemory),
+            },
+            Err(stop) => Err(stop),
+        }
+    }
+
+    /// The numbers of the direction of the nonbasic `j` over the denominator that is given, found modulo two primes and tested by the
+    /// equations. It gives up where numbers are short, where one doesn't fit, and where there is no memory.
+    fn guess(&self, work: &mut ModularFile, j: u32, wholes: &mut SparseWholes) -> Option<Frac>
+        requires nonbasic { IsNonbasic self.now.matrix self.now.basics j }
+        requires wholes { length wholes.old ≡ size self.now.matrix }
+        ensures direction { IfSome result (λ d. Represent (λ xs. IsDirectionOf self.now.matrix
+            self.now.basics j (value_at xs)) d wholes.new) }
+        ensures wholes { length wholes.new ≡ length wholes.old }
+    {
+        let first = last_left(&self.etas, j);
+        work.follow(self.alloc, &self.etas)?;
+        if first == 0 {
+            if j <= self.rows {
+                return None;
+            }
+            work.begin(j, self.numbers(j - self.rows))?;
+        } else {
+            work.leave(first - 1)?;
+        }
+        work.carry(first)?;
+        let denominator = gathered(self, work, j, wholes)?;
+        if !keeps_equations(self, wholes, &mut work.sums) {
+            return None;
+        }
+        Some(denominator)
+    }
+
+    /// The same with the room that the file has for it, which is made where numbers are long.
+    fn guess_in_room(&mut self, j: u32, wholes: &mut SparseWholes) -> Option<Frac>
+        requires nonbasic { IsNonbasic self.old.matrix self.old.basics j }
+        requires wholes { length wholes.old ≡ size self.old.matrix }
+        ensures direction { IfSome result (λ d. Represent (λ xs. IsDirectionOf self.old.matrix
+            self.old.basics j (value_at xs)) d wholes.new) }
+        ensures wholes { length wholes.new ≡ length wholes.old }
+        ensures same { self.new ≡ self.old }
+    {
+        if !has_long_numbers(&self.etas) {
+            return None;
+        }
+        let size = self.size() as usize;
+        let mut work = match self.modular.take() {
+            Some(work) => work,
+            None => ModularFile::new(self.alloc, size)?,
+        };
+        let found = self.guess(&mut work, j, wholes);
+        self.modular = Some(work);
+        found
+    }
+
+    /// As `column_in`, where the direction may be found modulo two primes.
+    fn direction_in(
+        &mut self,
+        j: u32,
+        wholes: &mut SparseWholes,
+        out: &mut [Frac],
+    ) -> Result<(), Stop>
+        requires nonbasic { IsNonbasic self.old.matrix self.old.basics j }
+        requires wholes { length wholes.old ≡ size self.old.matrix }
+        requires places { length out.old ≡ size self.old.matrix }
+        requires zero { AreZero out.old }
+        ensures direction { OnOk result (IsDirectionOf self.old.matrix self.old.basics j
+            (value_at out.new)) }
+        ensures overflow { ColumnOverflow result (file_state self.old) (file_state self.old) }
+        ensures wholes { length wholes.new ≡ length wholes.old }
+        ensures same { self.new ≡ self.old }
+    {
+        let _size = self.size();
+        let Some(denominator) = self.guess_in_room(j, wholes) else {
+            return self.column_in(j, wholes, out);
+        };
+        match wholes.divide_into(denominator, out) {
+            Some(()) => Ok(()),
+            None => {
+                clear(out);
+                self.column_in(j, wholes, out)
+            }
+        }
+    }
+
+    /// The same, where long numbers may be found modulo two primes and are tested.
+    pub fn tested_direction(
+        &mut self,
+        j: u32,
+        wholes: &mut SparseWholes,
+        out: &mut SparseVector,
+    ) -> Result<(), Stop>
+        requires nonbasic { IsNonbasic self.old.matrix self.old.basics j }
+        requires wholes { length wholes.old ≡ size self.old.matrix }
+        requires places { length out.old ≡ size self.old.matrix }
+        ensures direction { OnOk result (IsDirectionOf self.old.matrix self.old.basics j
+            (value_at out.new)) }
+        ensures places { OnOk result (length out.new ≡ size self.old.matrix) }
+        ensures overflow { ColumnOverflow result (file_state self.old) (file_state self.old) }
+        ensures wholes { length wholes.new ≡ length wholes.old }
+        ensures same { self.new ≡ self.old }
+    {
+        let mut values = out.take();
+        match self.direction_in(j, wholes, &mut values) {
             Ok(()) => match self.put_direction(j, values, out) {
                 Ok(()) => Ok(()),
                 Err(_refused) => Err(Stop::NoMemory),

@@ -6,6 +6,8 @@ mod by_columns;
 mod carry;
 mod eta;
 mod file;
+mod guess;
+mod modular;
 mod steps;
 mod whole;
 mod words;

@@ -14,7 +14,7 @@ use lp_model::{Entry, NoMemory};
 use std::alloc::Global;
 use whole_vectors::{
     SparseWholes, common_multiple, product, product_by_scale, terms, whole_at, whole_number,
-    whole_quotient, whole_sum,
+    whole_quotient,
 };
 
 /// 1 or -1, with which the pivot is positive.
@@ -145,9 +145,7 @@ fn subtract_whole(
     let opposite = whole_number(multiple.neg())?;
     for entry in entries {
         if entry.i != p {
-            let number = whole_at(out.numbers(), entry.i);
-            let rest = whole_sum(number, opposite, entry.rate)?;
-            out.put(entry.i, rest)?;
+            out.add_product(entry.i, opposite, entry.rate)?;
         }
     }
     Some(())

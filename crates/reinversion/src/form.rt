@@ -245,7 +245,7 @@ impl Rates for ProductForm {
         ensures same { self.new ≡ self.old }
         ensures kept { KeepsBasics (file_state self.old.file) (file_state self.new.file) }
     {
-        self.file.direction(j, &mut self.last.wholes, out)
+        self.file.tested_direction(j, &mut self.last.wholes, out)
     }
 
     /// Takes no memory. The row is carried backwards through the file.

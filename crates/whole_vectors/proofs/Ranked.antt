@@ -2,7 +2,7 @@
 use Rattle.std.proofs.Common.{◌≡◌, ◌≢◌, ℕ, zero, suc, ◌+◌, ◌-◌, ◌<◌, ◌≤◌, List, [], ◌∷◌, length, get_or, set, Bool, true, false, refl, sym, ◌∙◌, ap, subst, arith, ℤ, pos, Option, None, Some}
 use Rattle.std.specs.Prelude.{IfSome, nat_eq, nat_lt, ◌&&◌, replicate, if◌then◌else◌}
 use Rattle.std.proofs.lemmas.List.{get_or-set_same, get_or-set_other, get_or_default, map-set, set-get_or}
-use Rattle.exact_values.specs.Rational.{ℚ, whole, zero_ℚ, ◌/ℚ◌}
+use Rattle.exact_values.specs.Rational.{ℚ, whole, zero_ℚ, ◌+ℚ◌, ◌/ℚ◌}
 use Rattle.lp_definitions.specs.LinearProgram.{value_at}
 use Rattle.lp_laws.proofs.Values.{clash}
 use Rattle.whole_vectors.specs.Words.{wholes}
@@ -160,3 +160,10 @@ none_at xs n h = let place : n ≡ n + 1 - 1 = omega arith in ap (λ i. get_or x
 pub put_same : (ns : List ℤ) (i : ℕ) (x n : ℤ) → x ≡ get_or ns i x → x ≡ n → wholes ns ≡ set (wholes ns) i (whole n)
 put_same ns i x n is same =
     sym (ap (λ m. set (wholes ns) i (whole m)) (sym same) ∙ sym (map-set whole ns i x) ∙ ap (λ m. wholes (set ns i m)) is ∙ ap wholes (set-get_or ns i x))
+
+-- a number that something is added to
+pub put_sum : (ns : List ℤ) (i : ℕ) (x n : ℤ) (more : ℚ) → i < length ns → x ≡ get_or ns i x → whole n ≡ whole x +ℚ more →
+    wholes (set ns i n) ≡ set (wholes ns) i (get_or (wholes ns) i zero_ℚ +ℚ more)
+put_sum ns i x n more inside is sum =
+    map-set whole ns i n
+    ∙ ap (λ q. set (wholes ns) i q) (sum ∙ ap (λ q. q +ℚ more) (ap whole (is ∙ get_or_default ns i x (pos 0) inside) ∙ sym (read_whole ns i)))

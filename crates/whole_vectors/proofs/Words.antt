@@ -22,30 +22,36 @@ word_read z h = to_z-of_z w128 z (wide z h)
 pub word_twice : (z : ℤ) → FitsSigned w64 z → read (to_z w64 (of_z w64 z)) ≡ z
 word_twice z h = ap read (to_z-of_z w64 z h) ∙ word_read z h
 
-module _ (x c e : ℤ) (x_word : FitsSigned w64 x) (c_word : FitsSigned w64 c) (e_word : FitsSigned w64 e) where
-  product_is : read (read (to_z w64 (of_z w64 c)) *ℤ read (to_z w64 (of_z w64 e))) ≡ c *ℤ e
+word_abs : (z : ℤ) → FitsSigned w64 z → unsigned_abs z ≤ 2 ^ 63
+word_abs z h = omega (arith, ints)
+
+-- the product of two words
+module _ (c e : ℤ) (c_word : FitsSigned w64 c) (e_word : FitsSigned w64 e) where
+  pub product_is : read (read (to_z w64 (of_z w64 c)) *ℤ read (to_z w64 (of_z w64 e))) ≡ c *ℤ e
   product_is =
       (word_product c e c e (wide c c_word) (wide e e_word) (rw (word_read c c_word) c_word) (rw (word_read e e_word) e_word) (sym (word_read c c_word))
       (sym (word_read e e_word))).1
 
-  word_abs : (z : ℤ) → FitsSigned w64 z → unsigned_abs z ≤ 2 ^ 63
-  word_abs z h = omega (arith, ints)
+  pub product_small : unsigned_abs (c *ℤ e) ≤ 2 ^ 126
+  product_small =
+      let bound : unsigned_abs c * unsigned_abs e ≤ 2 ^ 63 * 2 ^ 63 =
+      mul-le (unsigned_abs c) (unsigned_abs e) (2 ^ 63) (2 ^ 63) (word_abs c c_word) (word_abs e e_word) in
+      rw (unsigned_abs-mul c e) (omega (arith, bound))
 
+module _ (x c e : ℤ) (x_word : FitsSigned w64 x) (c_word : FitsSigned w64 c) (e_word : FitsSigned w64 e) where
   fitting : (z : ℤ) → Fits z → FitsSigned w128 z
   fitting z h = omega (arith, ints)
 
   pub word_total_is : read (to_z w64 (of_z w64 x)) +ℤ read (read (to_z w64 (of_z w64 c)) *ℤ read (to_z w64 (of_z w64 e))) ≡ x +ℤ c *ℤ e
-  word_total_is = ap₂ (λ a b. a +ℤ b) (word_twice x x_word) product_is
+  word_total_is = ap₂ (λ a b. a +ℤ b) (word_twice x x_word) (product_is c e c_word e_word)
 
   pub word_total_fits : Fits (x +ℤ c *ℤ e)
   word_total_fits =
-      let bound : unsigned_abs c * unsigned_abs e ≤ 2 ^ 63 * 2 ^ 63 =
-      mul-le (unsigned_abs c) (unsigned_abs e) (2 ^ 63) (2 ^ 63) (word_abs c c_word) (word_abs e e_word) in
-      let product : unsigned_abs (c *ℤ e) ≤ 2 ^ 63 * 2 ^ 63 = rw (unsigned_abs-mul c e) bound in
+      let product = product_small c e c_word e_word in
       let first = word_abs x x_word in
       more x (c *ℤ e) first product
     where
-      more : (a b : ℤ) → unsigned_abs a ≤ 2 ^ 63 → unsigned_abs b ≤ 2 ^ 63 * 2 ^ 63 → Fits (a +ℤ b)
+      more : (a b : ℤ) → unsigned_abs a ≤ 2 ^ 63 → unsigned_abs b ≤ 2 ^ 126 → Fits (a +ℤ b)
       more a b h k = omega (arith, ints)
 
   pub word_total_wide : FitsSigned w128 (x +ℤ c *ℤ e)
@@ -87,3 +93,10 @@ pub summed : (o : Option ℤ) (P : Type 0) (a b s x y : ℤ) (q : ℚ) → a ≡
 summed None P a b s x y q is_a is_b is_q h = tt
 summed (Some next) P a b s x y q is_a is_b is_q h =
     ap whole (h.1 ∙ ap₂ (λ m n. m +ℤ n) is_a is_b) ∙ whole_total s x y ∙ ap (λ t. whole s +ℚ whole x *ℚ t) is_q
+
+-- a word that was cast from a number
+pub word_of : (x n : ℤ) → FitsSigned w64 (read n) → x ≡ read n → read n ≡ n → to_z w64 (of_z w64 x) ≡ n
+word_of x n word is_x is_n = ap (λ z. to_z w64 (of_z w64 z)) is_x ∙ to_z-of_z w64 (read n) word ∙ is_n
+
+pub read_small : (n : ℤ) → unsigned_abs n ≤ 2 ^ 126 → read n ≡ n
+read_small n h = read_fitting n (let fits : Fits n = omega (arith, ints, h) in fits)

@@ -1,7 +1,7 @@
 //! Vectors of whole numbers over one denominator, most of which are 0. Where a number doesn't fit, the answer is None.
 
 ghost use Rattle.std.specs.Prelude.{◌≡◌, ◌≢◌, ◌≤◌, ◌<◌, ◌-◌, ◌≤ℤ◌, ℕ, pos, All, IfOk, IfSome, length, replicate, slice_index_or, set};
-ghost use Rattle.exact_values.specs.Rational.{whole, zero_ℚ, ◌*ℚ◌, ◌/ℚ◌};
+ghost use Rattle.exact_values.specs.Rational.{whole, zero_ℚ, ◌+ℚ◌, ◌*ℚ◌, ◌/ℚ◌};
 ghost use Rattle.frac128.specs.Terms.{Fits};
 ghost use Rattle.lp_definitions.specs.LinearProgram.{value_at};
 ghost use Rattle.whole_vectors.specs.Quotients.{AreProducts, AreQuotients, IsSameOver};
@@ -9,7 +9,7 @@ ghost use Rattle.whole_vectors.specs.Words.{wholes};
 ghost use Rattle.whole_vectors.specs.Ranks.{IsRank, AreWritten, AreChanged, AreKept};
 
 use crate::places::enlist;
-use crate::whole_numbers::{whole_multiple, whole_number, whole_quotient};
+use crate::whole_numbers::{whole_multiple, whole_number, whole_quotient, whole_sum};
 use exact_values::gcd;
 use frac128::Frac;
 use std::alloc::{AllocError, Global};
@@ -177,6 +177,27 @@ impl SparseWholes {
         }
         enlist(&mut self.listed, &mut self.ranks, place)?;
         self.numbers[place] = n;
+        Some(())
+    }
+
+    /// Adds a product to the number of the variable `k`, from 1.
+    #[inline(always)]
+    pub fn add_product(&mut self, k: u32, x: i128, y: Frac) -> Option<()>
+        requires low { 1 ≤ k }
+        requires high { k ≤ length self.old }
+        ensures number { IfSome result (λ _. self.new ≡ set self.old (k - 1)
+            (value_at self.old k +ℚ whole x *ℚ y)) }
+        ensures places { length self.new ≡ length self.old }
+    {
+        let place = k as usize - 1;
+        let held = self.numbers[place];
+        let next = whole_sum(held, x, y)?;
+        if held != 0 {
+            self.numbers[place] = next;
+            return Some(());
+        }
+        enlist(&mut self.listed, &mut self.ranks, place)?;
+        self.numbers[place] = next;
         Some(())
     }
 

@@ -1,12 +1,13 @@
 //! Numbers over one denominator that are whole numbers. Where a number isn't, or is too large, the answer is None.
 
-ghost use Rattle.std.specs.Prelude.{◌≡◌, ◌≢◌, ◌≤◌, ◌+ℤ◌, ◌*ℤ◌, ◌≤ℤ◌, pos, All, length, IfSome};
+ghost use Rattle.std.specs.Prelude.{◌≡◌, ◌≢◌, ◌≤◌, ◌^◌, ◌+ℤ◌, ◌*ℤ◌, ◌≤ℤ◌, pos, unsigned_abs, All, length, IfSome};
 ghost use Rattle.std.specs.Option.{SomeIff};
 ghost use Rattle.exact_values.specs.Rational.{whole, zero_ℚ, ◌+ℚ◌, ◌*ℚ◌, ◌/ℚ◌};
 ghost use Rattle.frac128.specs.Terms.{Fits};
 ghost use Rattle.lp_definitions.specs.LinearProgram.{value_at};
 ghost use Rattle.whole_vectors.specs.Words.{wholes};
 
+use crate::word_vectors::word_times;
 use crate::{quotient, word_quotient};
 use frac128::Frac;
 
@@ -53,6 +54,21 @@ pub fn whole_multiple(n: i128, factor: i128) -> Option<i128>
     }
 }
 
+/// Two numbers of this size have a sum that fits.
+const ROOM: u128 = 1 << 126;
+
+/// The sum with a number of at most that size. Nothing is tested where the other one isn't larger either.
+#[inline(always)]
+fn sum_with_small(a: i128, b: i128) -> Option<i128>
+    requires small { unsigned_abs b ≤ 2 ^ 126 }
+    ensures { SomeIff result (Fits (a +ℤ b)) (a +ℤ b) }
+{
+    if a.unsigned_abs() < ROOM {
+        return Some(a + b);
+    }
+    frac128::sum(a, b)
+}
+
 /// The sum, with one product more. Nothing is made of 0.
 #[inline(always)]
 pub fn whole_sum(sum: i128, x: i128, y: Frac) -> Option<i128>
@@ -64,6 +80,9 @@ pub fn whole_sum(sum: i128, x: i128, y: Frac) -> Option<i128>
         return Some(sum);
     }
     let y = whole_number(y)?;
+    if let (Ok(x), Ok(y)) = (i64::try_from(x), i64::try_from(y)) {
+        return sum_with_small(sum, word_times(x, y));
+    }
     let product = frac128::product(x, y)?;
     frac128::sum(sum, product)
 }

@@ -1,6 +1,6 @@
 //! Numbers over one denominator that are whole numbers of one machine word each. Where a number isn't, the answer is None.
 
-ghost use Rattle.std.specs.Prelude.{◌≡◌, ◌≢◌, ◌≤◌, ◌+ℤ◌, ◌*ℤ◌, length, IfSome};
+ghost use Rattle.std.specs.Prelude.{◌≡◌, ◌≢◌, ◌≤◌, ◌^◌, ◌+ℤ◌, ◌*ℤ◌, unsigned_abs, length, IfSome};
 ghost use Rattle.exact_values.specs.Rational.{whole, zero_ℚ, ◌+ℚ◌, ◌*ℚ◌, ◌/ℚ◌};
 ghost use Rattle.frac128.specs.Terms.{Fits};
 ghost use Rattle.lp_definitions.specs.LinearProgram.{value_at};
@@ -39,6 +39,15 @@ pub fn number_at(numbers: &[i64], k: u32) -> i64
     ensures { whole result ≡ value_at (wholes numbers.now) k }
 {
     numbers[k as usize - 1]
+}
+
+/// The product of two words, which is far from the largest number.
+#[inline(always)]
+pub fn word_times(x: i64, y: i64) -> i128
+    ensures value { result ≡ x *ℤ y }
+    ensures small { unsigned_abs result ≤ 2 ^ 126 }
+{
+    x as i128 * y as i128
 }
 
 /// sum + x*y of words, which fits.

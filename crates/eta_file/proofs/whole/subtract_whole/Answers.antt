@@ -1,4 +1,4 @@
-use Rattle.std.proofs.Common.{rules, ◌≡◌, ◌≢◌, ◌∙◌, sym, ap, length, arith, subst, to_z, of_z}
+use Rattle.std.proofs.Common.{rules, ◌≡◌, ◌≢◌, ◌∙◌, refl, sym, ap, length, arith, subst, to_z, of_z}
 use Rattle.std.specs.Int.{w128}
 use Rattle.std.proofs.lemmas.Int.{to_z-of_z}
 use Rattle.exact_values.specs.Rational.{ℚ, whole, neg_ℚ, ◌+ℚ◌, ◌-ℚ◌, ◌*ℚ◌}
@@ -8,7 +8,7 @@ use Rattle.eta_file.specs.Entries.{IsEntryWithin}
 use Rattle.eta_file.proofs.CarrySteps.{sum_next_other, minus_nothing}
 use Rattle.eta_file.proofs.WholeSteps.{subtracted_whole}
 use Rattle.eta_file.proofs.whole.subtract_whole.Goals as goal
-use Rattle.eta_file.proofs.whole.subtract_whole.Goals.{then-entry-p+in_ok-rest+in_ok-put, else-entry-p}
+use Rattle.eta_file.proofs.whole.subtract_whole.Goals.{then-entry-p+in_ok-add_product, else-entry-p}
 
 pub loop-entry-init : goal.loop-entry-init
 loop-entry-init c = record { places = search rules; each = λ k low high other. sym (minus_nothing (value_at c.args.out.now k) c.args.multiple) }
@@ -20,23 +20,17 @@ loop-entry-preserved c =
     (c.requires c.loop-entry.entry-index c.entry-item.result c.loop-entry-test.true) in
     let inside : IsEntryWithin (length c.loop-entry.out) c.entry-item.result = (within.0, omega (arith, within.1, c.loop-entry.invariant.places)) in
     elim c.if-entry-p.branch [
-      | then-entry-p+in_ok-rest+in_ok-put w ↦
-          let number : ℚ = whole (to_z w128 (of_z w128 w.whole_at-number.result)) in
-          let is_number : number ≡ value_at c.loop-entry.out c.entry-item.result.i =
-          ap whole (to_z-of_z w128 w.whole_at-number.result (search rules)) ∙ w.whole_at-number.ensures.value
-          ∙ ap (λ xs. value_at xs c.entry-item.result.i) w.numbers.ensures.numbers in
+      | then-entry-p+in_ok-add_product w ↦
           let minus : ℚ = whole (to_z w128 (of_z w128 c.in_ok-opposite.opposite)) in
           let is_minus : minus ≡ neg_ℚ c.args.multiple =
           ap whole (to_z-of_z w128 c.in_ok-opposite.opposite (search rules)) ∙ c.in_ok-opposite.ensures.value ∙ c.neg.ensures in
-          let rest : ℚ = whole (to_z w128 (of_z w128 w.in_ok-rest.rest)) in
-          let is_rest : rest ≡ number +ℚ minus *ℚ c.entry-item.result.rate =
-          ap whole (to_z-of_z w128 w.in_ok-rest.rest (search rules)) ∙ w.in_ok-rest.ensures.value in
+          let number : ℚ = value_at c.loop-entry.out c.entry-item.result.i in
           rw w.out-is (record {
-            places = w.put.ensures.places ∙ c.loop-entry.invariant.places;
+            places = w.add_product.ensures.places ∙ c.loop-entry.invariant.places;
             each = λ k low high other.
-                ap (λ xs. value_at xs k) w.in_ok-put.ensures.number
+                ap (λ xs. value_at xs k) w.in_ok-add_product.ensures.number
                 ∙ subtracted_whole c.args.entries.now c.loop-entry.entry-index c.entry-item.result c.loop-entry-test.true c.entry-item.is c.loop-entry.out inside
-                c.args.out.now c.args.multiple number minus rest k low is_number is_minus is_rest (c.loop-entry.invariant.each k low high other);
+                c.args.out.now c.args.multiple number minus (number +ℚ minus *ℚ c.entry-item.result.rate) k low refl is_minus refl (c.loop-entry.invariant.each k low high other);
           })
       | else-entry-p w ↦ rw w.out-is (record {
         places = c.loop-entry.invariant.places;
