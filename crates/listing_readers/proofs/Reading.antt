@@ -17,7 +17,7 @@ module _ (of : List ℕ → Option ℚ) (sheet : Sheet) (shape : Shape) where
   -- ---- a line
 
   pub line_read : (k : ℕ) (old left last new : List ℕ) (numbers : Numbers) → left_after (line_head sheet k) old ≡ Some left →
-      AreRead of shape (slots_of shape sheet k) left last (Some numbers) →
+      AreRead of (numbers_of shape) (slots_of shape sheet k) left last (Some numbers) →
       left_after (codes "\n") last ≡ Some new → IsLineRead of sheet shape k old new (Some numbers)
   line_read k old left last new numbers head read end =
       (line_of sheet k read.0, whole_line of sheet (slots_of shape sheet k) k old left read.0 last new head read.1 end, refl, read.2)

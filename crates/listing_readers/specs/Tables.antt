@@ -1,21 +1,30 @@
 -- What is read of tables.
 --     slots_of shape sheet k       what may stand in the line of variable k
 --     numbers_of shape values      the numbers of a line that aren't known before
+--     with_number place x numbers  where one of them is another
+--     slot_view slot               what may stand at a place, as it is looked for
+--     numbers_in slots values      the numbers that are kept of values that stand so
 --     AreRead, IsLineRead, IsTableRead     values, a line, and the lines of variables were read, and these are their numbers; or none are there
+--     IsSlotTaken                  what stands at a place was taken, or it isn't there
 --     IsRayRead                    the multipliers of a ray were read, or it isn't there
-use Rattle.std.specs.Prelude.{◌≡◌, ◌<◌, ℕ, List, [], ◌∷◌, Option, Some, None, map, slice_get}
+use Rattle.std.specs.Prelude.{◌≡◌, ◌+◌, ◌<◌, ℕ, List, [], ◌∷◌, Option, Some, None, map, slice_get}
 use Rattle.exact_values.specs.Rational.{ℚ, zero_ℚ}
 use Rattle.lp_definitions.specs.LinearProgram.{IsVariable, variables}
-use Rattle.listing_definitions.specs.Report.{Value, Line}
+use Rattle.listing_definitions.specs.Report.{Value, Line, limit_value}
 use Rattle.question_definitions.specs.Answers as questions
 use Rattle.listing_tables.specs.declared.sheet.Sheet.{Sheet}
 use Rattle.listing_tables.specs.Sheets.{IsSheet}
-use Rattle.walk_definitions.specs.Tables.{Slot, AnyNumber, pair_slots, part_slots, number_of, number_at, values_in, line_head, line_in, table_in, multiplier_in, ray_in, multipliers}
+use Rattle.walk_definitions.specs.Tables.{Slot, AnyCode, AnyNumber, pair_slots, part_slots, slot_in, number_of, number_at, values_in, line_head, line_in, table_in, multiplier_in, ray_in, multipliers}
+use Rattle.walk_definitions.specs.Tables as tables
 use Rattle.walk_definitions.specs.Words.{left_after}
 use Rattle.walk_definitions.specs.Reading.{row_slots, column_slots}
 use Rattle.listing_readers.specs.declared.tables.Numbers.{Numbers}
+use Rattle.listing_readers.specs.declared.tables.Place.{Place}
+use Rattle.listing_readers.specs.declared.tables.Place.TheVariants.{First, Second, Third, Fourth}
 use Rattle.listing_readers.specs.declared.tables.Shape.{Shape}
 use Rattle.listing_readers.specs.declared.tables.Shape.TheVariants.{Multiplier, Pair, Part, Row, Column}
+use Rattle.listing_readers.specs.declared.tables.Slot as declared
+use Rattle.listing_readers.specs.declared.tables.Slot.TheVariants.{Code, Number, Known}
 
 abbrev pub slots_of : Shape → questions.Sheet → ℕ → List Slot
 slots_of Multiplier sheet k = AnyNumber ∷ []
@@ -35,6 +44,35 @@ numbers_of Part values = record { first = at 1 values; second = at 2 values; thi
 numbers_of Row values = record { first = at 1 values; second = at 5 values; third = at 2 values; fourth = zero_ℚ }
 numbers_of Column values = record { first = at 1 values; second = at 5 values; third = zero_ℚ; fourth = zero_ℚ }
 
+-- ---- what stands at a place of a line, and what is kept of it
+
+abbrev pub slot_view : declared.Slot → Slot
+slot_view Code = AnyCode
+slot_view (Number place) = AnyNumber
+slot_view (Known limit) = tables.Known (limit_value limit)
+
+-- another number at a place
+abbrev pub with_number : Place → ℚ → Numbers → Numbers
+with_number First x numbers = record numbers { first = x }
+with_number Second x numbers = record numbers { second = x }
+with_number Third x numbers = record numbers { third = x }
+with_number Fourth x numbers = record numbers { fourth = x }
+
+abbrev pub no_numbers : Numbers
+no_numbers = record { first = zero_ℚ; second = zero_ℚ; third = zero_ℚ; fourth = zero_ℚ }
+
+abbrev pub kept : declared.Slot → ℚ → Numbers → Numbers
+kept (Number place) x numbers = with_number place x numbers
+kept slot x numbers = numbers
+
+-- the values from place i on, after these numbers
+abbrev pub kept_from : List declared.Slot → ℕ → List Value → Numbers → Numbers
+kept_from [] i values numbers = numbers
+kept_from (slot ∷ slots) i values numbers = kept_from slots (i + 1) values (kept slot (at i values) numbers)
+
+abbrev pub numbers_in : List declared.Slot → List Value → Numbers
+numbers_in slots values = kept_from slots 0 values no_numbers
+
 -- a column comes after the rows, and its cost is known where no row is added to the objective
 abbrev pub IsLinedAt : Shape → Sheet → ℕ → Type 0
 IsLinedAt Column sheet k = (sheet.lp.now.matrix.rows < k) × (sheet.lp.now.change ≡ None)
@@ -48,9 +86,14 @@ pub record MayRead (sheet : Sheet) (shape : Shape) (k : ℕ) : Type 0 where
 
 -- by how the word of a number is read
 module _ (of : List ℕ → Option ℚ) where
-  abbrev pub AreRead : Shape → List Slot → List ℕ → List ℕ → Option Numbers → Type 0
-  AreRead shape slots old new None = values_in of slots old ≡ None
-  AreRead shape slots old new (Some numbers) = (values : List Value) × (values_in of slots old ≡ Some (values, new)) × (numbers ≡ numbers_of shape values)
+  abbrev pub AreRead : (List Value → Numbers) → List Slot → List ℕ → List ℕ → Option Numbers → Type 0
+  AreRead numbers_of slots old new None = values_in of slots old ≡ None
+  AreRead numbers_of slots old new (Some numbers) = (values : List Value) × (values_in of slots old ≡ Some (values, new)) × (numbers ≡ numbers_of values)
+
+  abbrev pub IsSlotTaken : declared.Slot → List ℕ → List ℕ → Numbers → Numbers → Option (Unit {0}) → Type 0
+  IsSlotTaken slot old new before after None = slot_in of (slot_view slot) old ≡ None
+  IsSlotTaken slot old new before after (Some done) =
+      (value : Value) × (slot_in of (slot_view slot) old ≡ Some (value, new)) × (after ≡ kept slot (number_of (Some value)) before)
 
   module _ (sheet : questions.Sheet) where
     abbrev pub IsLineRead : Shape → ℕ → List ℕ → List ℕ → Option Numbers → Type 0

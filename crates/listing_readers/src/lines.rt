@@ -140,8 +140,8 @@ pub fn number<'a, T: Checks>(
     number_by::<T>(alloc, by, cursor.word())?.ok_or(Unread::Absent)
 }
 
-/// This number after a blank.
-pub fn known_number(cursor: &mut Cursor<'_>, value: Frac) -> bool
+// This number after a blank.
+fn known_number(cursor: &mut Cursor<'_>, value: Frac) -> bool
     ensures { known_in (reports.Number value) cursor.old
         ≡ (if result then Some (reports.Number value, cursor.new) else None) }
 {
