@@ -14,4 +14,4 @@ pub use limits::{asked_by, both, counted, feasible, limits_hold, optimal, prices
 pub use prices::{column_sum, reduced_costs_hold};
 pub use rows::{column_top, equations_hold};
 pub use slacks::slacks_hold;
-pub use work::{take_spread, take_sums};
+pub use work::{check_sums, take_spread, take_sums};

@@ -40,10 +40,20 @@ fn most_limbs(column: &Column) -> usize {
     most
 }
 
+// What the sums of so long numbers with those of a linear program are.
+fn products_of_sums(lp: &Lp, limbs: usize) -> usize {
+    let products = count_of_numbers(lp).saturating_mul(PRODUCTS_OF_A_NUMBER);
+    products.saturating_mul(limbs)
+}
+
 // Takes what the sums of so long numbers with those of a linear program are.
 fn take_long(allowance: &mut Allowance, lp: &Lp, limbs: usize) -> Result<(), AllocError> {
-    let products = count_of_numbers(lp).saturating_mul(PRODUCTS_OF_A_NUMBER);
-    allowance.take(products.saturating_mul(limbs))
+    allowance.take(products_of_sums(lp, limbs))
+}
+
+/// Whether the allowance has what the sums of a vector with the numbers of a linear program are, before more is made.
+pub fn check_sums(allowance: &Allowance, lp: &Lp, column: &Column) -> Result<(), AllocError> {
+    allowance.check(products_of_sums(lp, most_limbs(column)))
 }
 
 /// Takes from the allowance what the sums of a vector with the numbers of a linear program are, in its rows or its columns and at its

@@ -23,7 +23,7 @@ use crate::verdicts::judged;
 use listing_claims::{AskedRun, Columns, Part, Stop};
 use listing_tables::Sheet;
 use listing_words::{Allowance, Number};
-use long_points::{End, all_prices_keep, both, optimal, take_spread};
+use long_points::{End, all_prices_keep, both, check_sums, optimal, take_spread};
 use long_programs::{ProgramAt, Spread, change_at, spread_by};
 use long_vectors::{Column, Value, along, column_of, value_of};
 use lp_model::Lp;
@@ -39,15 +39,17 @@ pub struct Lines {
     pub price_rate: Column,
 }
 
-// The lines of an interval over denominators.
+// The lines of an interval over denominators. Where the sums of the first would be too much work, the others aren't made.
 fn lines_of(
     alloc: Global,
+    lp: &Lp,
     columns: &Columns<'_>,
     allowance: &mut Allowance,
 ) -> Result<Lines, AllocError>
     ensures { IfOk result (AreOver columns.now) }
 {
     let value = column_of(alloc, &columns.value, allowance)?;
+    check_sums(allowance, lp, &value)?;
     let value_rate = column_of(alloc, &columns.value_rate, allowance)?;
     let price = column_of(alloc, &columns.price, allowance)?;
     let price_rate = column_of(alloc, &columns.price_rate, allowance)?;
@@ -220,7 +222,7 @@ fn interval_holds(
     };
     let first = value_of(alloc, from)?;
     let last = value_of(alloc, &part.to)?;
-    let lines = lines_of(alloc, &part.columns, allowance)?;
+    let lines = lines_of(alloc, sheet.lp, &part.columns, allowance)?;
     let order = compare_values(alloc, &first, &last)?;
     let most = compare_with_fraction(alloc, &last, request.to)?;
     let goes = goes_on(order, is_first);
