@@ -1,6 +1,6 @@
 use crate::problems::problem_of;
 use basis_deck::{CardStop, DeckFault, DeckFaultKind, read_basis};
-use card_reader::read_job;
+use card_reader::{Cards, read_job};
 use job_devices::SureSource;
 use lp_model::{Basis, Lp, Sense, Status};
 use lp_setup::{Choice, SetupOptions, select};
@@ -84,41 +84,50 @@ fn letters(alloc: Global, basis: &Basis) -> Result<Vec<u8>, Fail> {
     Ok(letters)
 }
 
-// The statuses for which a basis deck of a problem stands, or the card and the kind of its fault.
-fn reading(
-    alloc: Global,
-    problem: &[u8],
-    deck: &[u8],
-) -> Result<Result<Vec<u8>, (u32, DeckFaultKind)>, Fail> {
-    let problem = problem_of(alloc, problem, None)?;
-    let lp = program_of(alloc, &problem)?;
+// The cards of a basis deck.
+fn cards_of(alloc: Global, deck: &[u8]) -> Result<Cards, Fail> {
     let mut source = SureSource::new(alloc, deck)?;
     let cards = read_job(alloc, &mut source)?;
+    Ok(cards)
+}
+
+// The statuses for which a basis deck of a problem stands, or the card and the kind of its fault.
+type Reading = Result<Vec<u8>, (u32, DeckFaultKind)>;
+
+fn reading_of(alloc: Global, problem: &Problem, lp: &Lp, cards: &Cards) -> Result<Reading, Fail> {
     let last = cards.count();
     if last == 0 || problem.row_count() != lp.rows || problem.column_count() != lp.cols {
         return Err(Fail::from("no card, or another problem"));
     }
-    match read_basis(alloc, &problem, &lp, &cards, 1, last) {
+    match read_basis(alloc, problem, lp, cards, 1, last) {
         Ok(basis) => Ok(Ok(letters(alloc, &basis)?)),
         Err(CardStop::Fault(DeckFault { card, kind })) => Ok(Err((card, kind))),
         Err(CardStop::NoMemory) => Err(Fail::from("memory")),
     }
 }
 
-#[test]
-fn basis_decks_stand_for_bases(rt: HostRuntime) -> Result<(), Fail> {
-    let decks: [(&[u8], &[u8]); 5] = [
-        (
-            b"NAME          START
+fn reading(alloc: Global, problem: &[u8], deck: &[u8]) -> Result<Reading, Fail> {
+    let problem = problem_of(alloc, problem, None)?;
+    let lp = program_of(alloc, &problem)?;
+    let cards = cards_of(alloc, deck)?;
+    reading_of(alloc, &problem, &lp, &cards)
+}
+
+// Problems, decks of bases, and the statuses for which they stand.
+const BASES: [(&[u8], &[u8], &[u8]); 6] = [
+    (
+        SMALL,
+        b"NAME          START
  XU A         UPR
  XL C         EQ
  UL B
 ENDATA
 ",
-            b"BUBLBUB",
-        ),
-        (
-            b"NAME          START
+        b"BUBLBUB",
+    ),
+    (
+        SMALL,
+        b"NAME          START
  UL B
 * a comment
  XL C         EQ
@@ -126,18 +135,34 @@ ENDATA
  XU A         UPR
 ENDATA
 ",
-            b"BUBLBUB",
-        ),
-        (b"NAME          NOTHING       FREE\nENDATA\n", b"BBBBLUL"),
-        (b"NAME\n LL A\n UL C\nENDATA\n", b"BBBBLUU"),
-        (b"NAME\n XL B         LOR\nENDATA\n", b"BBLBLBL"),
-    ];
-    for (deck, expected) in decks {
-        let found = reading(rt.alloc(), SMALL, deck)?.ok().ok_or("a basis")?;
-        assert_eq!(rt; found.as_slice(), expected);
+        b"BUBLBUB",
+    ),
+    (
+        SMALL,
+        b"NAME          NOTHING       FREE\nENDATA\n",
+        b"BBBBLUL",
+    ),
+    (SMALL, b"NAME\n LL A\n UL C\nENDATA\n", b"BBBBLUU"),
+    (SMALL, b"NAME\n XL B         LOR\nENDATA\n", b"BBLBLBL"),
+    (TWINS, b"NAME\n XL X         X\nENDATA\n", b"BLB"),
+];
+
+// Whether a deck stands for a basis.
+fn stands_for(alloc: Global, problem: &[u8], deck: &[u8], wanted: &[u8]) -> Result<bool, Fail> {
+    match reading(alloc, problem, deck)? {
+        Ok(letters) => Ok(letters.as_slice() == wanted),
+        Err(_) => Ok(false),
     }
-    let found = reading(rt.alloc(), TWINS, b"NAME\n XL X         X\nENDATA\n")?;
-    assert_eq!(rt; found.ok().ok_or("a basis")?.as_slice(), b"BLB".as_slice());
+}
+
+#[test]
+fn basis_decks_stand_for_bases(rt: HostRuntime) -> Result<(), Fail> {
+    for (place, (problem, deck, wanted)) in BASES.iter().enumerate() {
+        assert!(rt;
+            stands_for(rt.alloc(), problem, deck, wanted)?,
+            "the deck at {place}"
+        );
+    }
     Ok(())
 }
 
@@ -227,14 +252,23 @@ const GROUPS: [Group; 2] = [
     },
 ];
 
+// The card and the kind of the fault of a deck with these cards.
+fn fault_among(
+    alloc: Global,
+    group: &Group,
+    cards: &[u8],
+) -> Result<Option<(u32, DeckFaultKind)>, Fail> {
+    let mut deck = Vec::from_slice(alloc, group.before)?;
+    deck.extend_from_slice(cards)?;
+    deck.extend_from_slice(group.after)?;
+    Ok(reading(alloc, SMALL, &deck)?.err())
+}
+
 #[test]
 fn basis_decks_have_faults(rt: HostRuntime) -> Result<(), Fail> {
     for group in &GROUPS {
         for (cards, card, kind) in group.listed {
-            let mut deck = Vec::from_slice(rt.alloc(), group.before)?;
-            deck.extend_from_slice(cards)?;
-            deck.extend_from_slice(group.after)?;
-            let found = reading(rt.alloc(), SMALL, &deck)?.err();
+            let found = fault_among(rt.alloc(), group, cards)?;
             assert_eq!(rt; found, Some((*card, *kind)), "{}", group.name);
         }
     }

@@ -6,6 +6,7 @@ use deck_fields::NumberFault;
 use frac128::Frac;
 use mps_convert::DeckFaultKind;
 use problem_file::{RowDecl, RowKind};
+use std::alloc::Global;
 use std::test::Fail;
 
 // The rows COST, A and B. The cards after these are the sixth and on.
@@ -126,17 +127,42 @@ pub const FREE_COMBINATIONS: [DeckOfFault; 10] = [
 ];
 
 // The row and the multiplier of a part of a combination, by its place.
-fn part_of(row: &RowDecl, place: usize) -> Result<(u32, Frac), Fail> {
-    let Some(parts) = &row.parts else {
-        return Err(Fail::from("a plain row"));
-    };
-    let part = parts.get(place).ok_or("a part")?;
-    Ok((part.row, part.value.value()))
+fn part_of(row: &RowDecl, place: usize) -> Option<(u32, Frac)> {
+    match &row.parts {
+        Some(parts) => {
+            let part = parts.get(place)?;
+            Some((part.row, part.value.value()))
+        }
+        None => None,
+    }
 }
 
-#[test]
-fn parts_stand_on_earlier_rows_by_number(rt: HostRuntime) -> Result<(), Fail> {
-    let deck = b"NAME          T
+// How many rows there are, and whether the third is a combination; the types of the fourth and the fifth; the first three parts of the
+// fourth, and the first of the fifth.
+type Rows = ((usize, bool), (RowKind, RowKind), [Option<(u32, Frac)>; 4]);
+
+fn looked_at(rows: &[RowDecl]) -> Option<Rows> {
+    let plain = rows.get(2)?;
+    let sum = rows.get(3)?;
+    let last = rows.get(4)?;
+    Some((
+        (rows.len(), plain.is_combination()),
+        (sum.kind, last.kind),
+        [
+            part_of(sum, 0),
+            part_of(sum, 1),
+            part_of(sum, 2),
+            part_of(last, 0),
+        ],
+    ))
+}
+
+fn rows_of(alloc: Global, deck: &[u8]) -> Result<Option<Rows>, Fail> {
+    let problem = problem_of(alloc, deck, None)?;
+    Ok(looked_at(problem.rows()))
+}
+
+const SUMS: &[u8] = b"NAME          T
 ROWS
  N  COST
  L  A
@@ -149,17 +175,19 @@ COLUMNS
     X         A         1
 ENDATA
 ";
-    let problem = problem_of(rt.alloc(), deck, None)?;
-    let rows = problem.rows();
-    let plain = rows.get(2).ok_or("a row")?;
-    let sum = rows.get(3).ok_or("a row")?;
-    let last = rows.get(4).ok_or("a row")?;
-    assert_eq!(rt; (rows.len(), plain.is_combination()), (5, false));
-    assert_eq!(rt; (sum.kind, last.kind), (RowKind::G, RowKind::E));
-    assert_eq!(rt; part_of(sum, 0)?, (3, Frac::whole(-2)));
-    assert_eq!(rt; part_of(sum, 1)?, (2, Frac::whole(1)));
-    assert_eq!(rt; part_of(sum, 2)?, (1, Frac::new(1, 2)));
-    assert_eq!(rt; part_of(last, 0)?, (4, Frac::whole(3)));
+
+#[test]
+fn parts_stand_on_earlier_rows_by_number(rt: HostRuntime) -> Result<(), Fail> {
+    let parts = [
+        Some((3, Frac::whole(-2))),
+        Some((2, Frac::whole(1))),
+        Some((1, Frac::new(1, 2))),
+        Some((4, Frac::whole(3))),
+    ];
+    assert_eq!(rt;
+        rows_of(rt.alloc(), SUMS)?,
+        Some(((5, false), (RowKind::G, RowKind::E), parts))
+    );
     Ok(())
 }
 

@@ -111,12 +111,15 @@ const LARGE_DECKS: [(&str, LargeDeck, Option<(u32, DeckFaultKind)>); 6] = [
     ),
 ];
 
+fn large_fault(alloc: Global, large: LargeDeck) -> Result<Option<(u32, DeckFaultKind)>, Fail> {
+    let deck = built(alloc, large)?;
+    fault_of(alloc, &deck)
+}
+
 #[test]
 fn decks_are_at_their_limits(rt: HostRuntime) -> Result<(), Fail> {
     for (name, large, fault) in LARGE_DECKS {
-        let deck = built(rt.alloc(), large)?;
-        let found = fault_of(rt.alloc(), &deck)?;
-        assert_eq!(rt; found, fault, "{name}");
+        assert_eq!(rt; large_fault(rt.alloc(), large)?, fault, "{name}");
     }
     Ok(())
 }

@@ -22,41 +22,53 @@ pub fn problem_of(alloc: Global, deck: &[u8], name: Option<Name>) -> Result<Prob
     Ok(problem)
 }
 
-#[test]
-fn testprob_is_numbered(rt: HostRuntime) -> Result<(), Fail> {
-    let problem = problem_of(rt.alloc(), TESTPROB, None)?;
-    assert_eq!(rt; problem.row_count(), 4);
-    assert_eq!(rt; problem.column_count(), 3);
-    let column = problem.columns().last().ok_or("a column")?;
-    let entry = column.entries.last().ok_or("an entry")?;
-    assert_eq!(rt; (entry.row, entry.value.value()), (4, Frac::whole(1)));
-    Ok(())
+// How many rows and columns a problem has; the row and the value of the last entry of its last column; how many bounds its first set has,
+// and the column of the last; how many sets of right-hand sides there are, and how many entries the first has.
+type Counted = ((u32, u32), (u32, Frac), (usize, u32), (usize, usize));
+
+fn counted(problem: &Problem) -> Option<Counted> {
+    let column = problem.columns().last()?;
+    let entry = column.entries.last()?;
+    let bounds = problem.bounds().first()?;
+    let bound = bounds.items.last()?;
+    let side = problem.rhs().first()?;
+    Some((
+        (problem.row_count(), problem.column_count()),
+        (entry.row, entry.value.value()),
+        (bounds.items.len(), bound.column),
+        (problem.rhs().len(), side.entries.len()),
+    ))
+}
+
+fn counted_in(alloc: Global, deck: &[u8]) -> Result<Option<Counted>, Fail> {
+    let problem = problem_of(alloc, deck, None)?;
+    Ok(counted(&problem))
 }
 
 #[test]
-fn the_sets_of_testprob_are_numbered(rt: HostRuntime) -> Result<(), Fail> {
-    let problem = problem_of(rt.alloc(), TESTPROB, None)?;
-    let set = problem.bounds().first().ok_or("a set")?;
-    let bound = set.items.last().ok_or("a bound")?;
-    assert_eq!(rt; (set.items.len(), bound.column), (3, 2));
-    let side = problem.rhs().first().ok_or("a set")?;
-    assert_eq!(rt; (problem.rhs().len(), side.entries.len()), (1, 3));
+fn testprob_is_numbered(rt: HostRuntime) -> Result<(), Fail> {
+    assert_eq!(rt;
+        counted_in(rt.alloc(), TESTPROB)?,
+        Some(((4, 3), (4, Frac::whole(1)), (3, 2), (1, 3)))
+    );
     Ok(())
+}
+
+fn name_of(alloc: Global, deck: &[u8], given: Option<Name>) -> Result<Name, Fail> {
+    let problem = problem_of(alloc, deck, given)?;
+    Ok(problem.name())
 }
 
 #[test]
 fn a_name_is_given_or_the_decks_own(rt: HostRuntime) -> Result<(), Fail> {
-    let own = problem_of(rt.alloc(), TESTPROB, None)?;
-    assert_eq!(rt; own.name().bytes(), b"TESTPROB".as_slice());
+    let own = name_of(rt.alloc(), TESTPROB, None)?;
+    assert_eq!(rt; own.bytes(), b"TESTPROB".as_slice());
     let other = Name::of(b"OTHER").ok_or("a name")?;
-    let named = problem_of(rt.alloc(), TESTPROB, Some(other))?;
-    assert_eq!(rt; named.name(), other);
+    assert_eq!(rt; name_of(rt.alloc(), TESTPROB, Some(other))?, other);
     Ok(())
 }
 
-#[test]
-fn blanks_in_front_and_inside_belong_to_names(rt: HostRuntime) -> Result<(), Fail> {
-    let deck = b"NAME
+const BLANKS: &[u8] = b"NAME
 ROWS
   N  COST
  L  A B
@@ -66,15 +78,28 @@ RHS
               A B       2
 ENDATA
 ";
-    let problem = problem_of(rt.alloc(), deck, None)?;
-    assert_eq!(rt; problem.name().bytes(), b"".as_slice());
-    let row = problem.rows().first().ok_or("a row")?;
-    assert_eq!(rt; row.name.bytes(), b" COST".as_slice());
-    let column = problem.columns().first().ok_or("a column")?;
-    assert_eq!(rt; column.name.bytes(), b" X".as_slice());
-    let set = problem.rhs().first().ok_or("a set")?;
-    assert_eq!(rt; set.name.bytes(), b"".as_slice());
-    let item = set.entries.first().ok_or("an item")?;
-    assert_eq!(rt; item.row, 2);
+
+// The names of a problem, its first row, its first column and its first set, and the row of that set's first item.
+fn names_in(problem: &Problem) -> Option<([Name; 4], u32)> {
+    let row = problem.rows().first()?;
+    let column = problem.columns().first()?;
+    let set = problem.rhs().first()?;
+    let item = set.entries.first()?;
+    Some(([problem.name(), row.name, column.name, set.name], item.row))
+}
+
+fn names_of(alloc: Global, deck: &[u8]) -> Result<([Name; 4], u32), Fail> {
+    let problem = problem_of(alloc, deck, None)?;
+    Ok(names_in(&problem).ok_or("the parts")?)
+}
+
+#[test]
+fn blanks_in_front_and_inside_belong_to_names(rt: HostRuntime) -> Result<(), Fail> {
+    let ([own, row, column, set], item) = names_of(rt.alloc(), BLANKS)?;
+    assert_eq!(rt; own.bytes(), b"".as_slice());
+    assert_eq!(rt; row.bytes(), b" COST".as_slice());
+    assert_eq!(rt; column.bytes(), b" X".as_slice());
+    assert_eq!(rt; set.bytes(), b"".as_slice());
+    assert_eq!(rt; item, 2);
     Ok(())
 }

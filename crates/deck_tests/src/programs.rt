@@ -26,10 +26,24 @@ fn verb_at(program: &Program, place: u32) -> Option<&Verb<u32>> {
     Some(&program.statement(place).verb)
 }
 
-#[test]
-fn labels_stand_for_positions(rt: HostRuntime) -> Result<(), Fail> {
-    let alloc = rt.alloc();
-    let job = b"START    PROGRAM('ANY')
+// How many statements a program has, and where its decks begin; and whether its statements are those that are wanted of LABELS.
+fn looked_at(program: &Program) -> ((u32, u32), [bool; 3]) {
+    (
+        (program.count(), program.decks_from()),
+        [
+            matches!(verb_at(program, 1), Some(Verb::Goto(1))),
+            matches!(verb_at(program, 2), Some(Verb::Goto(4))),
+            matches!(verb_at(program, 3), Some(Verb::Mvadr(Demand::Xdonfs, 2))),
+        ],
+    )
+}
+
+fn program_of(alloc: Global, job: &[u8]) -> Result<((u32, u32), [bool; 3]), Fail> {
+    let program = compile(alloc, &cards_of(alloc, job)?)?;
+    Ok(looked_at(&program))
+}
+
+const LABELS: &[u8] = b"START    PROGRAM('ANY')
 * a note
          GOTO(START)
 MIDDLE   GOTO(LAST) it's a remark
@@ -37,12 +51,13 @@ MIDDLE   GOTO(LAST) it's a remark
 LAST     PEND
 NAME
 ";
-    let program = compile(alloc, &cards_of(alloc, job)?)?;
-    assert_eq!(rt; program.count(), 3);
-    assert_eq!(rt; program.decks_from(), 7);
-    assert!(rt; matches!(verb_at(&program, 1), Some(Verb::Goto(1))));
-    assert!(rt; matches!(verb_at(&program, 2), Some(Verb::Goto(4))));
-    assert!(rt; matches!(verb_at(&program, 3), Some(Verb::Mvadr(Demand::Xdonfs, 2))));
+
+#[test]
+fn labels_stand_for_positions(rt: HostRuntime) -> Result<(), Fail> {
+    assert_eq!(rt;
+        program_of(rt.alloc(), LABELS)?,
+        ((3, 7), [true, true, true])
+    );
     Ok(())
 }
 

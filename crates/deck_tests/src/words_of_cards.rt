@@ -1,17 +1,11 @@
 use card_reader::read_job;
-use deck_fields::free_words;
+use deck_fields::{Words, free_words};
 use job_devices::SureSource;
 use std::alloc::Global;
 use std::test::Fail;
 
-// How many words the only card of a job has, and the first seven of them, each with its column before it.
-fn words_of(alloc: Global, card: &[u8]) -> Result<(u8, Vec<u8>), Fail> {
-    let mut source = SureSource::new(alloc, card)?;
-    let cards = read_job(alloc, &mut source)?;
-    if cards.count() == 0 {
-        return Err(Fail::from("no card"));
-    }
-    let found = free_words(cards.card(1));
+// The first seven words of a card, each with its column before it.
+fn report_of(alloc: Global, found: &Words<'_>) -> Result<Vec<u8>, Fail> {
     let mut reported = Vec::new(alloc);
     for (place, word) in found.words.iter().enumerate() {
         if place < usize::from(found.count) {
@@ -23,7 +17,19 @@ fn words_of(alloc: Global, card: &[u8]) -> Result<(u8, Vec<u8>), Fail> {
             return Err(Fail::from("a word that isn't there"));
         }
     }
-    Ok((found.count, reported))
+    Ok(reported)
+}
+
+// Whether the only card of a job has so many words, and these are the first seven of them, each with its column before it.
+fn has_words(alloc: Global, card: &[u8], count: u8, wanted: &[u8]) -> Result<bool, Fail> {
+    let mut source = SureSource::new(alloc, card)?;
+    let cards = read_job(alloc, &mut source)?;
+    if cards.count() == 0 {
+        return Err(Fail::from("no card"));
+    }
+    let found = free_words(cards.card(1));
+    let reported = report_of(alloc, &found)?;
+    Ok(found.count == count && reported.as_slice() == wanted)
 }
 
 const CARDS: [(&[u8], u8, &[u8]); 10] = [
@@ -62,10 +68,11 @@ const CARDS: [(&[u8], u8, &[u8]); 10] = [
 
 #[test]
 fn words_stand_between_blanks(rt: HostRuntime) -> Result<(), Fail> {
-    for (card, count, wanted) in CARDS {
-        let (found, reported) = words_of(rt.alloc(), card)?;
-        assert_eq!(rt; found, count);
-        assert_eq!(rt; reported.as_slice(), wanted);
+    for (place, (card, count, wanted)) in CARDS.iter().enumerate() {
+        assert!(rt;
+            has_words(rt.alloc(), card, *count, wanted)?,
+            "the card at {place}"
+        );
     }
     Ok(())
 }
