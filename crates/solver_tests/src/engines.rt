@@ -149,6 +149,30 @@ fn path_text<E: Engine>(
     Ok(format!(in alloc; "STEPS {steps} COST {cost}")?)
 }
 
+/// What an engine answers at a basis.
+fn answered<E: Engine>(
+    alloc: Global,
+    lp: &Lp,
+    basis: &mut Basis,
+    engine: &mut E,
+    question: Question,
+) -> Result<String, Fail>
+    requires { IsAtBasis (E.state engine.old) lp.now basis.old }
+{
+    match question {
+        Question::Rates => Ok(String::new(alloc)),
+        Question::Direction(j) => direction_text(alloc, lp, basis, engine, j),
+        Question::Row(i) => row_text(alloc, lp, basis, engine, i),
+        Question::Path => path_text(alloc, lp, basis, engine),
+    }
+}
+
+/// The multiples of the rows of which no basis can be made.
+fn dependency_text(alloc: Global, values: &[Frac]) -> Result<String, Fail> {
+    let values = values_text(alloc, values)?;
+    Ok(format!(in alloc; "SINGULAR{values}")?)
+}
+
 /// What an engine answers at the opening basis with these columns in place of rows.
 fn answer_by<E: Engine>(
     alloc: Global,
@@ -157,22 +181,16 @@ fn answer_by<E: Engine>(
     question: Question,
 ) -> Result<String, Fail> {
     let mut basis = placed(alloc, lp, pairs)?;
-    let mut engine = match install::<E>(alloc, lp, &basis) {
-        Ok(engine) => engine,
-        Err(InstallStop::Singular(dependency)) => {
-            let values = values_text(alloc, dependency.values())?;
-            return Ok(format!(in alloc; "SINGULAR{values}")?);
+    match install::<E>(alloc, lp, &basis) {
+        Ok(engine) => {
+            let mut engine = engine;
+            answered(alloc, lp, &mut basis, &mut engine, question)
         }
+        Err(InstallStop::Singular(dependency)) => dependency_text(alloc, dependency.values()),
         Err(InstallStop::Overflow(evidence, engine)) => {
-            return refusal_text(alloc, lp, &evidence, &engine);
+            refusal_text(alloc, lp, &evidence, &engine)
         }
-        Err(InstallStop::NoMemory) => return Err(Fail::from("memory")),
-    };
-    match question {
-        Question::Rates => Ok(String::new(alloc)),
-        Question::Direction(j) => direction_text(alloc, lp, &basis, &mut engine, j),
-        Question::Row(i) => row_text(alloc, lp, &basis, &mut engine, i),
-        Question::Path => path_text(alloc, lp, &mut basis, &mut engine),
+        Err(InstallStop::NoMemory) => Err(Fail::from("memory")),
     }
 }
 

@@ -38,17 +38,23 @@ fn one(alloc: Global) -> Result<Lp, AllocError>
     })
 }
 
+/// Whether the opening basis has these statuses, and whether its copy has them.
+fn openings(alloc: Global, lp: &Lp, wanted: &[Status]) -> Result<(bool, bool), AllocError> {
+    let basis = Basis::opening(alloc, lp)?;
+    let copy = basis.copy(alloc)?;
+    Ok((basis.statuses() == wanted, copy.statuses() == wanted))
+}
+
+/// How many variables the program of one column has, and what its opening basis is.
+fn opened(alloc: Global) -> Result<(u32, (bool, bool)), AllocError> {
+    let lp = one(alloc)?;
+    let found = openings(alloc, &lp, &[Status::Bs, Status::Bs, Status::Ll])?;
+    Ok((lp.number_of_variables(), found))
+}
+
 #[test]
 fn opens_with_the_rows_and_copies(rt: HostRuntime) -> Result<(), Fail> {
-    let lp = one(rt.alloc())?;
-    assert_eq!(rt; lp.number_of_variables(), 3);
-    let basis = Basis::opening(rt.alloc(), &lp)?;
-    assert_eq!(rt;
-        basis.statuses(),
-        [Status::Bs, Status::Bs, Status::Ll].as_slice()
-    );
-    let copy = basis.copy(rt.alloc())?;
-    assert_eq!(rt; copy.statuses(), basis.statuses());
+    assert_eq!(rt; opened(rt.alloc())?, (3, (true, true)));
     Ok(())
 }
 
@@ -80,6 +86,11 @@ fn changes_the_objective_and_the_limits(rt: HostRuntime) -> Result<(), Fail> {
     Ok(())
 }
 
+/// Whether a stop has this text.
+fn says(alloc: Global, stop: &Stop, text: &str) -> Result<bool, Fail> {
+    Ok(format!(in alloc; "{stop}")?.as_str() == text)
+}
+
 #[test]
 fn says_why_a_call_stopped(rt: HostRuntime) -> Result<(), Fail> {
     let refused = Frac::whole(i128::MAX)
@@ -97,12 +108,9 @@ fn says_why_a_call_stopped(rt: HostRuntime) -> Result<(), Fail> {
         theta: Frac::ZERO,
         refused,
     };
-    let text = format!(in rt.alloc(); "{}", Stop::Overflow(evidence))?;
-    assert_eq!(rt;
-        text.as_str(),
-        "formula 3: 170141183460469231731687303715884105727 + 1 has no exact result in 128 bits"
-    );
-    let text = format!(in rt.alloc(); "{}", Stop::from(NoMemory))?;
-    assert_eq!(rt; text.as_str(), "there is no memory");
+    let text =
+        "formula 3: 170141183460469231731687303715884105727 + 1 has no exact result in 128 bits";
+    assert!(rt; says(rt.alloc(), &Stop::Overflow(evidence), text)?);
+    assert!(rt; says(rt.alloc(), &Stop::from(NoMemory), "there is no memory")?);
     Ok(())
 }

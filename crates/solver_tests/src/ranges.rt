@@ -162,11 +162,16 @@ fn intervals_of(alloc: Global, deck: &[u8], sense: Sense) -> Result<String, Fail
     }
 }
 
+/// Whether a deck has these intervals.
+fn has_intervals(alloc: Global, case: &Case) -> Result<bool, Fail> {
+    let (deck, sense, wanted) = *case;
+    Ok(intervals_of(alloc, deck, sense)?.as_str() == wanted)
+}
+
 #[test]
 fn intervals_are_exact(rt: HostRuntime) -> Result<(), Fail> {
-    for (deck, sense, wanted) in &CASES {
-        let text = intervals_of(rt.alloc(), deck, *sense)?;
-        assert_eq!(rt; text.as_str(), *wanted);
+    for (place, case) in CASES.iter().enumerate() {
+        assert!(rt; has_intervals(rt.alloc(), case)?, "the deck at {place}");
     }
     Ok(())
 }
