@@ -39,7 +39,10 @@ fn sizes_of(alloc: Global, deck: &[u8]) -> Result<Option<Sizes>, Fail> {
 
 #[test]
 fn testprob_is_numbered(rt: HostRuntime) -> Result<(), Fail> {
-    assert_eq!(rt; sizes_of(rt.alloc(), TESTPROB)?, Some(((4, 3), (4, Frac::whole(1)))));
+    assert_eq!(rt;
+        sizes_of(rt.alloc(), TESTPROB)?,
+        Some(((4, 3), (4, Frac::whole(1))))
+    );
     Ok(())
 }
 
