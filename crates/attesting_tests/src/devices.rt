@@ -4,7 +4,7 @@ use crate::full::Full;
 use crate::listings::{Answer, answer_from};
 use crate::plans::STORE;
 use checks_of_128_bits::Of128Bits;
-use job_devices::{MemorySink, MemorySource};
+use job_devices::{MemorySink, MemorySource, Sink};
 use listing_check::check_listing;
 use std::alloc::Global;
 use std::test::Fail;
@@ -31,6 +31,17 @@ fn in_pieces(
     )
 }
 
+// Whether they are answered with this status and this line, where these reads of the job and of the listing and these writes fail.
+fn are_answered(
+    alloc: Global,
+    failing: (&[u64], &[u64], &[u64]),
+    status: u8,
+    line: &[u8],
+) -> Result<bool, Fail> {
+    let (job, listing, writes) = failing;
+    Ok(in_pieces(alloc, job, listing, writes)?.is(status, line))
+}
+
 // A read that fails is reported, the job's before the listing's; and where the print fails as well, that is.
 #[test]
 fn a_read_that_fails_is_reported(rt: HostRuntime) -> Result<(), Fail> {
@@ -44,9 +55,8 @@ fn a_read_that_fails_is_reported(rt: HostRuntime) -> Result<(), Fail> {
         (&[], &[2], &[1], 25, b""),
         (&[], &[], &[1], 25, b""),
     ];
-    for (failing_job, failing_listing, failing_writes, status, line) in cases {
-        let answer = in_pieces(rt.alloc(), failing_job, failing_listing, failing_writes)?;
-        assert!(rt; answer.is(status, line));
+    for (job, listing, writes, status, line) in cases {
+        assert!(rt; are_answered(rt.alloc(), (job, listing, writes), status, line)?);
     }
     Ok(())
 }
@@ -55,44 +65,42 @@ fn a_read_that_fails_is_reported(rt: HostRuntime) -> Result<(), Fail> {
 #[test]
 fn each_write_may_fail(rt: HostRuntime) -> Result<(), Fail> {
     for (write, front) in [(1, ""), (2, "ATTESTED "), (3, "ATTESTED 5")] {
-        let answer = in_pieces(rt.alloc(), &[], &[], &[write])?;
-        assert!(rt; answer.is(25, front.as_bytes()));
+        assert!(rt; are_answered(rt.alloc(), (&[], &[], &[write]), 25, front.as_bytes())?);
     }
-    assert!(rt; in_pieces(rt.alloc(), &[], &[], &[4])?.is(0, b"ATTESTED 5 REPORTS\n"));
+    assert!(rt; are_answered(rt.alloc(), (&[], &[], &[4]), 0, b"ATTESTED 5 REPORTS\n")?);
     Ok(())
+}
+
+// The status with which these words are answered over a print, where a read of the job would fail, and one of the listing.
+fn status_over<P: Sink>(alloc: Global, words: &[String], print: &mut P) -> Result<u8, Fail> {
+    let mut job = MemorySource::new(alloc, b"", &[1])?;
+    let mut listing = MemorySource::new(alloc, b"", &[1])?;
+    Ok(check_listing::<Of128Bits, _, _, _>(alloc, words, &mut job, &mut listing, print).code())
+}
+
+// The status with which these words are answered, and whether the line of words is printed.
+fn answer_by(alloc: Global, words: &[String]) -> Result<(u8, bool), Fail> {
+    let mut print = MemorySink::new(alloc, &[])?;
+    let status = status_over(alloc, words, &mut print)?;
+    Ok((status, print.bytes() == WORDS))
+}
+
+fn answer_to_word(alloc: Global, word: &str) -> Result<(u8, bool), Fail> {
+    let words = vec![in alloc; String::from_str(alloc, word)?]?;
+    answer_by(alloc, &words)
 }
 
 // A read would fail, and so would a read of the listing.
 #[test]
 fn words_are_refused(rt: HostRuntime) -> Result<(), Fail> {
-    let alloc = rt.alloc();
     for word in ["", "--help", "LISTING"] {
-        let words = vec![in alloc; String::from_str(alloc, word)?]?;
-        let mut job = MemorySource::new(alloc, b"", &[1])?;
-        let mut listing = MemorySource::new(alloc, b"", &[1])?;
-        let mut print = MemorySink::new(alloc, &[])?;
-        let status = check_listing::<Of128Bits, _, _, _>(
-            alloc,
-            &words,
-            &mut job,
-            &mut listing,
-            &mut print,
-        ).code();
-        assert_eq!(rt; status, 4);
-        assert!(rt; print.bytes() == WORDS);
+        assert_eq!(rt; answer_to_word(rt.alloc(), word)?, (4, true));
     }
     Ok(())
 }
 
 #[test]
 fn a_print_may_want_memory(rt: HostRuntime) -> Result<(), Fail> {
-    let alloc = rt.alloc();
-    let mut job = MemorySource::new(alloc, b"", &[1])?;
-    let mut listing = MemorySource::new(alloc, b"", &[])?;
-    let mut print = Full::new();
-    assert_eq!(rt;
-        check_listing::<Of128Bits, _, _, _>(alloc, &[], &mut job, &mut listing, &mut print).code(),
-        28
-    );
+    assert_eq!(rt; status_over(rt.alloc(), &[], &mut Full::new())?, 28);
     Ok(())
 }

@@ -111,20 +111,42 @@ pub fn answer_to<T: Checks>(alloc: Global, job: &[u8], listing: &[u8]) -> Result
     )
 }
 
+/// Whether a checker answers a job and a listing with this status and this line.
+pub fn is_answered<T: Checks>(
+    alloc: Global,
+    job: &[u8],
+    listing: &[u8],
+    status: u8,
+    line: &[u8],
+) -> Result<bool, Fail> {
+    Ok(answer_to::<T>(alloc, job, listing)?.is(status, line))
+}
+
+// Whether a change of a listing can be made, and is answered as it has to be.
+fn is_right<T: Checks>(alloc: Global, listing: &Listing, case: &Case) -> Result<bool, Fail> {
+    match edited(alloc, listing.text, case.edit)? {
+        Some(text) => is_answered::<T>(alloc, listing.job, &text, case.status, case.line),
+        None => Ok(false),
+    }
+}
+
 /// The first change of a listing after which a checker answers another line or another status, or which can't be made. The listing
 /// as it is comes before its changes.
 pub fn first_other<T: Checks>(
     alloc: Global,
     listing: &Listing,
 ) -> Result<Option<&'static str>, Fail> {
-    if !answer_to::<T>(alloc, listing.job, listing.text)?.is(listing.status, listing.line) {
+    if !is_answered::<T>(
+        alloc,
+        listing.job,
+        listing.text,
+        listing.status,
+        listing.line,
+    )? {
         return Ok(Some("as it is"));
     }
     for case in listing.cases {
-        let Some(text) = edited(alloc, listing.text, case.edit)? else {
-            return Ok(Some(case.name));
-        };
-        if !answer_to::<T>(alloc, listing.job, &text)?.is(case.status, case.line) {
+        if !is_right::<T>(alloc, listing, case)? {
             return Ok(Some(case.name));
         }
     }

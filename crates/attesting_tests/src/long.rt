@@ -1,6 +1,6 @@
 // What the checker of any length finds.
 use crate::last_values::LAST_VALUES;
-use crate::listings::{Edit, Listing, answer_to, edited, first_wrong};
+use crate::listings::{Edit, Listing, edited, first_wrong, is_answered};
 use crate::long_plans::{CHAIN, CHAIN_OBJECTIVE, CHAIN_RHS, LONG_DIRECTION, LONG_RAY};
 use crate::parametric_runs::{
     INFEASIBLE_PAST, LAMPS, MILK, RHS_INTERVALS, RHS_POINT, TWO_INTERVALS, UNBOUNDED_OPENING,
@@ -15,6 +15,7 @@ use crate::wide_changed::{MISSING_ROW, WRONG_LETTER, WRONG_SLACK};
 use crate::wide_cut::{CUT_SECOND_ROW, CUT_THIRD_ROW, CUT_VERDICT};
 use checks_of_128_bits::Of128Bits;
 use checks_of_any_length::OfAnyLength;
+use listing_claims::Checks;
 use std::alloc::Global;
 use std::test::Fail;
 
@@ -96,8 +97,9 @@ fn no_test_is_refused(rt: HostRuntime) -> Result<(), Fail> {
         (&FAR_POINT, 0, b"ATTESTED 3 REPORTS\n"),
     ];
     for (listing, status, line) in cases {
-        let answer = answer_to::<OfAnyLength>(rt.alloc(), listing.job, listing.text)?;
-        assert!(rt; answer.is(status, line), "{}", listing.name);
+        let (job, text) = (listing.job, listing.text);
+        let is_right = is_answered::<OfAnyLength>(rt.alloc(), job, text, status, line)?;
+        assert!(rt; is_right, "{}", listing.name);
     }
     Ok(())
 }
@@ -106,24 +108,27 @@ fn no_test_is_refused(rt: HostRuntime) -> Result<(), Fail> {
 #[test]
 fn long_last_values_are_left(rt: HostRuntime) -> Result<(), Fail> {
     for row in &LAST_VALUES {
-        let answer = answer_to::<OfAnyLength>(rt.alloc(), row.job, row.listing)?;
-        assert!(rt; answer.is(row.status, row.line), "{}", row.name);
+        let (status, line) = (row.status, row.line);
+        let is_right = is_answered::<OfAnyLength>(rt.alloc(), row.job, row.listing, status, line)?;
+        assert!(rt; is_right, "{}", row.name);
     }
     Ok(())
+}
+
+// Whether the plan of a store with the word UNCHECKED at its verdict is answered with this status and this line.
+fn unchecked_is<T: Checks>(alloc: Global, status: u8, line: &[u8]) -> Result<bool, Fail> {
+    let edit = Edit::Text(b"CHECKED", b"UNCHECKED MUL 2 3");
+    match edited(alloc, STORE.text, edit)? {
+        Some(text) => is_answered::<T>(alloc, STORE.job, &text, status, line),
+        None => Ok(false),
+    }
 }
 
 // The word UNCHECKED says nothing of a verdict here. By 128 bits it is wrong where the test is made.
 #[test]
 fn an_unchecked_verdict_is_tested(rt: HostRuntime) -> Result<(), Fail> {
-    let (alloc, store) = (rt.alloc(), &STORE);
-    let text = edited(
-        alloc,
-        store.text,
-        Edit::Text(b"CHECKED", b"UNCHECKED MUL 2 3"),
-    )?;
-    let text = text.unwrap_or(Vec::new(alloc));
-    assert!(rt; answer_to::<OfAnyLength>(alloc, store.job, &text)?.is(0, b"ATTESTED 5 REPORTS\n"));
-    assert!(rt; answer_to::<Of128Bits>(alloc, store.job, &text)?.is(40, b"WRONG LINE 4\n"));
+    assert!(rt; unchecked_is::<OfAnyLength>(rt.alloc(), 0, b"ATTESTED 5 REPORTS\n")?);
+    assert!(rt; unchecked_is::<Of128Bits>(rt.alloc(), 40, b"WRONG LINE 4\n")?);
     Ok(())
 }
 
@@ -178,19 +183,19 @@ fn plan_of_ones(alloc: Global, digits: usize) -> Result<Vec<u8>, Fail> {
     Ok(text)
 }
 
+fn ones_are(alloc: Global, digits: usize, status: u8, line: &[u8]) -> Result<bool, Fail> {
+    let text = plan_of_ones(alloc, digits)?;
+    is_answered::<OfAnyLength>(alloc, COUNTED, &text, status, line)
+}
+
 #[test]
 fn numbers_of_100000_digits_are_read(rt: HostRuntime) -> Result<(), Fail> {
-    let alloc = rt.alloc();
     let cases: [(usize, u8, &[u8]); 2] = [
         (100_000, 0, b"ATTESTED 4 REPORTS\n"),
         (100_001, 42, b"UNCHECKED LINE 4\n"),
     ];
     for (digits, status, line) in cases {
-        let text = plan_of_ones(alloc, digits)?;
-        assert!(rt;
-            answer_to::<OfAnyLength>(alloc, COUNTED, &text)?.is(status, line),
-            "{digits}"
-        );
+        assert!(rt; ones_are(rt.alloc(), digits, status, line)?, "{digits}");
     }
     Ok(())
 }

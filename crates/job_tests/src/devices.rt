@@ -4,7 +4,7 @@ ghost use Rattle.std.specs.Prelude.{◌<◌};
 use crate::jobs::{Answer, Call, answer_from, answer_to};
 use crate::plans::PLANS;
 use crate::punched::DECKS;
-use crate::rows::Row;
+use crate::rows::{DeckRow, Row};
 use job_devices::MemorySource;
 use std::alloc::Global;
 use std::test::Fail;
@@ -108,36 +108,69 @@ fn each_write_of_a_listing_may_fail(rt: HostRuntime) -> Result<(), Fail> {
     Ok(())
 }
 
+// What the job of a deck has to be answered, where writes fail.
+#[derive(Clone, Copy)]
+struct Wanted<'a> {
+    status: u8,
+    listing: &'a [u8],
+    cards: &'a [u8],
+}
+
+// Whether the first deck's job is answered so, where these writes to the print and to the punch fail.
+fn is_answered(
+    alloc: Global,
+    failing: (&[u64], &[u64]),
+    wanted: &Wanted<'_>,
+) -> Result<bool, Fail> {
+    let (writes, punches) = failing;
+    let answer = where_writes_fail(alloc, DECKS[0].job, writes, punches)?;
+    Ok(answer.is_punched(wanted.status, wanted.listing, wanted.cards))
+}
+
+// Whether a fault of this write to the punch ends a job with a front of its deck.
+fn is_broken_off(alloc: Global, row: &DeckRow, write: u64) -> Result<bool, Fail> {
+    let answer = where_writes_fail(alloc, row.job, &[], &[write])?;
+    let listing = b"CONVERT ONE      ROWS 2 COLUMNS 1 ENTRIES 2\nSTOP 26 PUNCH FAULT\n";
+    let cards = answer.punch.bytes();
+    let is_front = row.cards.starts_with(cards) && cards.len() < row.cards.len();
+    Ok(is_front && answer.is_punched(26, listing, cards))
+}
+
 // The deck of this job is punched in 17 writes: seven cards in two, the text and the line feed, and three in one.
 #[test]
 fn a_punch_that_fails_breaks_the_deck_off(rt: HostRuntime) -> Result<(), Fail> {
     let row = &DECKS[0];
     for write in 1..18 {
-        let answer = where_writes_fail(rt.alloc(), row.job, &[], &[write])?;
-        let listing = b"CONVERT ONE      ROWS 2 COLUMNS 1 ENTRIES 2\nSTOP 26 PUNCH FAULT\n";
-        let cards = answer.punch.bytes();
-        assert!(rt; answer.is_punched(26, listing, cards));
-        assert!(rt; row.cards.starts_with(cards) && cards.len() < row.cards.len());
+        assert!(rt; is_broken_off(rt.alloc(), row, write)?, "write {write}");
     }
-    let unbroken = where_writes_fail(rt.alloc(), row.job, &[], &[18])?;
-    assert!(rt; unbroken.is_punched(row.status, row.listing, row.cards));
+    let whole = Wanted {
+        status: row.status,
+        listing: row.listing,
+        cards: row.cards,
+    };
+    assert!(rt; is_answered(rt.alloc(), (&[], &[18]), &whole)?);
     Ok(())
 }
 
 // The line of the conversion is printed in eleven writes; the next one is that of the stop.
 #[test]
 fn a_print_may_fail_after_the_punch(rt: HostRuntime) -> Result<(), Fail> {
-    let answer = where_writes_fail(rt.alloc(), DECKS[0].job, &[12], &[1])?;
-    let listing = b"CONVERT ONE      ROWS 2 COLUMNS 1 ENTRIES 2\n";
-    assert!(rt; answer.is_punched(25, listing, b""));
+    let wanted = Wanted {
+        status: 25,
+        listing: b"CONVERT ONE      ROWS 2 COLUMNS 1 ENTRIES 2\n",
+        cards: b"",
+    };
+    assert!(rt; is_answered(rt.alloc(), (&[12], &[1]), &wanted)?);
     Ok(())
 }
 
 #[test]
 fn a_print_that_fails_after_a_deck_leaves_it_whole(rt: HostRuntime) -> Result<(), Fail> {
-    let row = &DECKS[0];
-    let answer = where_writes_fail(rt.alloc(), row.job, &[13], &[])?;
-    let listing = b"CONVERT ONE      ROWS 2 COLUMNS 1 ENTRIES 2\nBCDOUT  ";
-    assert!(rt; answer.is_punched(25, listing, row.cards));
+    let wanted = Wanted {
+        status: 25,
+        listing: b"CONVERT ONE      ROWS 2 COLUMNS 1 ENTRIES 2\nBCDOUT  ",
+        cards: DECKS[0].cards,
+    };
+    assert!(rt; is_answered(rt.alloc(), (&[13], &[]), &wanted)?);
     Ok(())
 }

@@ -4,8 +4,8 @@ use crate::parametric_runs::PARAMETRIC;
 use crate::plans::PLANS;
 use crate::ranges::RANGES;
 use crate::rows::Row;
-use card_reader::read_job;
-use control_compiler::compile;
+use card_reader::{Cards, read_job};
+use control_compiler::{Program, compile};
 use control_run::{RunEngine, RunStatus, run_on};
 use job_devices::{MemorySink, MemorySource};
 use lp_model::Engine;
@@ -20,24 +20,37 @@ struct Run {
     print: MemorySink,
 }
 
-// Runs the program of a job, with the rates of an engine.
-fn run_of<E: Engine>(alloc: Global, job: &[u8]) -> Result<Run, Fail> {
+fn cards_of(alloc: Global, job: &[u8]) -> Result<Cards, Fail> {
     let mut source = MemorySource::new(alloc, job, &[])?;
     let cards = read_job(alloc, &mut source)?;
-    let program = compile(alloc, &cards)?;
+    Ok(cards)
+}
+
+// Runs a program, with the rates of an engine.
+fn run_by<E: Engine>(alloc: Global, program: &Program, cards: &Cards) -> Result<Run, Fail> {
     let mut print = MemorySink::new(alloc, &[])?;
     let mut punch = MemorySink::new(alloc, &[])?;
-    let status = run_on::<E, MemorySink, MemorySink>(
-        alloc, &program, &cards, &mut print, &mut punch,
-    );
+    let status = run_on::<E, MemorySink, MemorySink>(alloc, program, cards, &mut print, &mut punch);
     Ok(Run { status, print })
+}
+
+// Runs the program of a job.
+fn run_of<E: Engine>(alloc: Global, job: &[u8]) -> Result<Run, Fail> {
+    let cards = cards_of(alloc, job)?;
+    let program = compile(alloc, &cards)?;
+    run_by::<E>(alloc, &program, &cards)
+}
+
+// Whether a job has its status and its listing over this engine.
+fn is_reported<E: Engine>(alloc: Global, row: &Row) -> Result<bool, Fail> {
+    let run = run_of::<E>(alloc, row.job)?;
+    Ok(run.status.code() == row.status && run.print.bytes() == row.listing)
 }
 
 // The name of the first of these jobs that has another status or listing over this engine.
 fn first_unreported<E: Engine>(alloc: Global, rows: &[Row]) -> Result<Option<&'static str>, Fail> {
     for row in rows {
-        let run = run_of::<E>(alloc, row.job)?;
-        if run.status.code() != row.status || run.print.bytes() != row.listing {
+        if !is_reported::<E>(alloc, row)? {
             return Ok(Some(row.name));
         }
     }
@@ -63,13 +76,7 @@ fn the_engine_of_runs_runs_jobs(rt: HostRuntime) -> Result<(), Fail> {
     Ok(())
 }
 
-// An engine whose calls all run out of memory ends the run where the path asks for the first of them, with all printed that came
-// before.
-#[test]
-fn an_engine_without_memory_ends_the_run(rt: HostRuntime) -> Result<(), Fail> {
-    let run = run_of::<Starved>(
-        rt.alloc(),
-        b"         PROGRAM
+const A_PATH: &[u8] = b"         PROGRAM
          CONVERT
          SETUP
          PRIMAL
@@ -85,11 +92,23 @@ COLUMNS
 RHS
     B         LOW       1
 ENDATA
-",
-    )?;
-    assert_eq!(rt; run.status, RunStatus::Memory);
-    let listing: &[u8] =
+";
+
+// The status of a job over an engine whose calls all run out of memory, and whether its listing is this one.
+fn starved(alloc: Global, job: &[u8], listing: &[u8]) -> Result<(RunStatus, bool), Fail> {
+    let run = run_of::<Starved>(alloc, job)?;
+    Ok((run.status, run.print.bytes() == listing))
+}
+
+// An engine whose calls all run out of memory ends the run where the path asks for the first of them, with all printed that came
+// before.
+#[test]
+fn an_engine_without_memory_ends_the_run(rt: HostRuntime) -> Result<(), Fail> {
+    let listing =
         b"CONVERT ONE      ROWS 2 COLUMNS 1 ENTRIES 2\nSETUP   ONE      MIN\nSTOP 28 MEMORY\n";
-    assert!(rt; run.print.bytes() == listing);
+    assert_eq!(rt;
+        starved(rt.alloc(), A_PATH, listing)?,
+        (RunStatus::Memory, true)
+    );
     Ok(())
 }
