@@ -332,11 +332,36 @@ fn row(alloc: Global, seeds: (u64, u64), words: (usize, usize)) -> Result<[u64; 
     remainders(alloc, &a, &b)
 }
 
-fn common(alloc: Global, factor: &Natural, x: &Natural, y: &Natural) -> Result<u64, AllocError> {
-    let a = factor.product(alloc, x)?;
-    let b = factor.product(alloc, y)?;
-    let divisor = gcd(alloc, &a, &b)?;
+fn divisor_of(alloc: Global, a: &Natural, b: &Natural) -> Result<u64, AllocError> {
+    let divisor = gcd(alloc, a, b)?;
     Ok(residue(&divisor))
+}
+
+// The remainder of the greatest common divisor of two multiples of a factor.
+fn common(
+    alloc: Global,
+    factor: &Natural,
+    x: (u64, usize),
+    y: (u64, usize),
+) -> Result<u64, AllocError> {
+    let a = multiple(alloc, factor, x)?;
+    let b = multiple(alloc, factor, y)?;
+    divisor_of(alloc, &a, &b)
+}
+
+fn multiple(alloc: Global, factor: &Natural, by: (u64, usize)) -> Result<Natural, AllocError> {
+    let number = number(alloc, by.0, by.1)?;
+    factor.product(alloc, &number)
+}
+
+fn common_of(
+    alloc: Global,
+    factor: (u64, usize),
+    x: (u64, usize),
+    y: (u64, usize),
+) -> Result<u64, AllocError> {
+    let factor = number(alloc, factor.0, factor.1)?;
+    common(alloc, &factor, x, y)
 }
 
 fn fibonacci(alloc: Global, n: u32) -> Result<(u64, u64, u64), AllocError> {
@@ -377,10 +402,8 @@ fn numbers_of_few_and_many_words(rt: HostRuntime) -> Result<(), Fail> {
 fn common_divisors(rt: HostRuntime) -> Result<(), Fail> {
     let alloc = rt.alloc();
     for (g, g_words, x, x_words, y, y_words, wanted) in FACTORS {
-        let factor = number(alloc, g, g_words)?;
-        let first = number(alloc, x, x_words)?;
-        let second = number(alloc, y, y_words)?;
-        assert_eq!(rt; common(alloc, &factor, &first, &second)?, wanted);
+        let found = common_of(alloc, (g, g_words), (x, x_words), (y, y_words))?;
+        assert_eq!(rt; found, wanted);
     }
     for (n, first, second, divisor) in FIBONACCI {
         assert_eq!(rt; fibonacci(alloc, n)?, (first, second, divisor));
@@ -396,14 +419,21 @@ fn quotients_of_hard_digits(rt: HostRuntime) -> Result<(), Fail> {
     Ok(())
 }
 
+/// A seed, and the parts of a number.
+type Parts = (u64, (usize, usize, usize));
+
+fn product_of(alloc: Global, a: Parts, b: Parts) -> Result<u64, AllocError> {
+    let first = number_in_parts(alloc, a.0, a.1)?;
+    let second = number_in_parts(alloc, b.0, b.1)?;
+    let product = first.product(alloc, &second)?;
+    Ok(residue(&product))
+}
+
 #[test]
 fn products_of_long_numbers(rt: HostRuntime) -> Result<(), Fail> {
     let alloc = rt.alloc();
     for (a, a_parts, b, b_parts, wanted) in PRODUCTS {
-        let first = number_in_parts(alloc, a, a_parts)?;
-        let second = number_in_parts(alloc, b, b_parts)?;
-        let product = first.product(alloc, &second)?;
-        assert_eq!(rt; residue(&product), wanted);
+        assert_eq!(rt; product_of(alloc, (a, a_parts), (b, b_parts))?, wanted);
     }
     Ok(())
 }

@@ -78,11 +78,15 @@ fn spelled(alloc: Global, digits: &[u8]) -> Result<Option<u64>, AllocError> {
     Ok(Some(residue(&number)))
 }
 
+fn spelled_by(alloc: Global, count: usize) -> Result<Option<u64>, AllocError> {
+    let text = digits(alloc, count)?;
+    spelled(alloc, &text)
+}
+
 #[test]
 fn digits_are_read(rt: HostRuntime) -> Result<(), Fail> {
     for (count, wanted) in DIGITS {
-        let text = digits(rt.alloc(), count)?;
-        assert_eq!(rt; spelled(rt.alloc(), &text)?, Some(wanted));
+        assert_eq!(rt; spelled_by(rt.alloc(), count)?, Some(wanted));
     }
     Ok(())
 }

@@ -428,16 +428,25 @@ fn is_followed(
     Ok(true)
 }
 
+// Whether a sum is what is wanted after each product that is added to its first fraction, and then its quotient.
+fn summed(
+    alloc: Global,
+    first: &[u8],
+    products: &[(&[u8], &[u8], &[u8])],
+    divisor: &[u8],
+) -> Result<(bool, Option<Frac>), AllocError> {
+    let (first, divisor) = (fraction(first)?, fraction(divisor)?);
+    let mut sum = Sum::new(alloc, first)?;
+    let is_followed = is_followed(alloc, &mut sum, products)?;
+    Ok((is_followed, quotient_by(alloc, &sum, divisor)?))
+}
+
 #[test]
 fn sums_of_products_of_fractions(rt: HostRuntime) -> Result<(), Fail> {
     let alloc = rt.alloc();
     for (first, products, divisor, quotient) in PRODUCTS {
-        let mut sum = Sum::new(alloc, fraction(first)?)?;
-        assert!(rt; is_followed(alloc, &mut sum, products)?);
-        assert_eq!(rt;
-            quotient_by(alloc, &sum, fraction(divisor)?)?,
-            wanted(quotient)?
-        );
+        let found = summed(alloc, first, products, divisor)?;
+        assert_eq!(rt; found, (true, wanted(quotient)?));
     }
     Ok(())
 }

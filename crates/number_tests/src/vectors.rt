@@ -10,7 +10,15 @@ use std::cmp::Ordering;
 use std::test::Fail;
 
 /// A number theta, a vector, the least common denominator of its numbers, rates, and the vector with theta times the rates.
-const VECTORS: [(&[u8], &[&[u8]], &[u8], &[&[u8]], &[&[u8]]); 4] = [
+type Moving = (
+    &'static [u8],
+    &'static [&'static [u8]],
+    &'static [u8],
+    &'static [&'static [u8]],
+    &'static [&'static [u8]],
+);
+
+const VECTORS: [Moving; 4] = [
     (b"1", &[b"-24"], b"1", &[b"12"], &[b"-12"]),
     (
         b"-28/3",
@@ -115,17 +123,51 @@ fn are_equal(alloc: Global, a: &Column, b: &Column) -> Result<bool, AllocError> 
     Ok(true)
 }
 
+// Whether a vector has this denominator.
+fn is_over(alloc: Global, value: &Column, denominator: &[u8]) -> Result<bool, AllocError> {
+    Ok(value.bottom.compare(&integer(alloc, denominator)?) == Ordering::Equal)
+}
+
+fn has_denominator(
+    alloc: Global,
+    values: &[&'static [u8]],
+    denominator: &[u8],
+    allowance: &mut Allowance,
+) -> Result<bool, AllocError> {
+    let value = column(alloc, values, allowance)?;
+    is_over(alloc, &value, denominator)
+}
+
+// Whether a vector is equal to that of these words.
+fn is_column(
+    alloc: Global,
+    found: &Column,
+    values: &[&'static [u8]],
+    allowance: &mut Allowance,
+) -> Result<bool, AllocError> {
+    let value = column(alloc, values, allowance)?;
+    are_equal(alloc, found, &value)
+}
+
+// Whether the vector that is moved is the one that is wanted, and whether it is the one that it was.
+fn moves(
+    alloc: Global,
+    case: &Moving,
+    allowance: &mut Allowance,
+) -> Result<(bool, bool), AllocError> {
+    let (theta, values, _, rates, wanted) = *case;
+    let found = moved(alloc, theta, values, rates, allowance)?;
+    let is_wanted = is_column(alloc, &found, wanted, allowance)?;
+    Ok((is_wanted, is_column(alloc, &found, values, allowance)?))
+}
+
 #[test]
 fn vectors_over_one_denominator(rt: HostRuntime) -> Result<(), Fail> {
     let alloc = rt.alloc();
     let mut allowance = Allowance::new();
-    for (theta, values, denominator, rates, wanted) in VECTORS {
-        let value = column(alloc, values, &mut allowance)?;
-        assert!(rt; value.bottom.compare(&integer(alloc, denominator)?) == Ordering::Equal);
-        let found = moved(alloc, theta, values, rates, &mut allowance)?;
-        let wanted = column(alloc, wanted, &mut allowance)?;
-        assert!(rt; are_equal(alloc, &found, &wanted)?);
-        assert!(rt; !are_equal(alloc, &found, &value)?);
+    for case in &VECTORS {
+        assert!(rt; has_denominator(alloc, case.1, case.2, &mut allowance)?);
+        assert_eq!(rt; moves(alloc, case, &mut allowance)?, (true, false));
     }
     Ok(())
 }
