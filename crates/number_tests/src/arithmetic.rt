@@ -182,6 +182,36 @@ const FIBONACCI: [(u32, u64, u64, u64); 6] = [
     (14000, 1612246263879327793, 576185218270069590, 1),
 ];
 
+/// Two numbers that are Euclid's quotients in turn, mostly of 33 bits or more, how many there are, the remainders of the two numbers to which they
+/// lead, and their greatest common divisor.
+const LARGE_QUOTIENTS: [((u64, u64), u32, [u64; 3]); 5] = [
+    (
+        (4294967297, 8589934591),
+        60,
+        [1535680804760021175, 1083717314658549808, 15],
+    ),
+    (
+        (1099511627775, 1125899906842631),
+        200,
+        [1911326010769475651, 406065948754035038, 35],
+    ),
+    (
+        (4611686018427387905, 9223372036854775807),
+        40,
+        [1033280565865645645, 158557635650287143, 1],
+    ),
+    (
+        (18446744073709551615, 9223372036854775808),
+        100,
+        [929984040678200598, 1033473986416960296, 7],
+    ),
+    (
+        (18446744073709551615, 3),
+        90,
+        [1822653533310092257, 1489153294509507326, 9],
+    ),
+];
+
 /// Limbs of a number and of a divisor, and of the quotient and the remainder. The estimate of a digit is too large in some.
 const QUOTIENTS: [(&[u64], &[u64], &[u64], &[u64]); 13] = [
     (
@@ -339,16 +369,23 @@ fn common(alloc: Global, factor: &Natural, x: &Natural, y: &Natural) -> Result<u
     Ok(residue(&divisor))
 }
 
-fn fibonacci(alloc: Global, n: u32) -> Result<(u64, u64, u64), AllocError> {
+fn of_quotients(
+    alloc: Global,
+    quotients: (u64, u64),
+    count: u32,
+    last: u64,
+) -> Result<[u64; 3], AllocError> {
     let mut a = Natural::zero(alloc);
-    let mut b = Natural::from_word(alloc, 1)?;
-    for _ in 0..n {
-        let next = a.sum(alloc, &b)?;
+    let mut b = Natural::from_word(alloc, last)?;
+    for k in 0..count {
+        let quotient = if k % 2 == 0 { quotients.0 } else { quotients.1 };
+        let product = b.product(alloc, &Natural::from_word(alloc, quotient)?)?;
+        let next = a.sum(alloc, &product)?;
         a = b;
         b = next;
     }
     let divisor = gcd(alloc, &a, &b)?;
-    Ok((residue(&a), residue(&b), residue(&divisor)))
+    Ok([residue(&a), residue(&b), residue(&divisor)])
 }
 
 fn of(alloc: Global, limbs: &[u64]) -> Result<Natural, AllocError> {
@@ -383,7 +420,14 @@ fn common_divisors(rt: HostRuntime) -> Result<(), Fail> {
         assert_eq!(rt; common(alloc, &factor, &first, &second)?, wanted);
     }
     for (n, first, second, divisor) in FIBONACCI {
-        assert_eq!(rt; fibonacci(alloc, n)?, (first, second, divisor));
+        assert_eq!(rt;
+            of_quotients(alloc, (1, 1), n, 1)?,
+            [first, second, divisor]
+        );
+    }
+    for (quotients, count, wanted) in LARGE_QUOTIENTS {
+        let made = of_quotients(alloc, quotients, count, wanted[2])?;
+        assert_eq!(rt; made, wanted);
     }
     Ok(())
 }
