@@ -41,15 +41,18 @@ nothing_yet f s = sym (add-zero s)
 
 pub next_part : (f : ℕ → ℚ) (ks : List ℕ) (n k d : ℕ) (s t u : ℚ) → n < length ks → k ≡ get_or ks n d → t ≡ u +ℚ f k → u ≡ s +ℚ sum_over (take n ks) f →
     t ≡ s +ℚ sum_over (take (n + 1) ks) f
+unfolding sum_over
 next_part f ks n k d s t u below is is_t is_u =
     is_t ∙ ap (λ x. x +ℚ f k) is_u ∙ add_assoc s (sum_over (take n ks) f) (f k)
     ∙ ap (λ x. s +ℚ x) (ap (λ m. sum_over (take n ks) f +ℚ f m) is ∙ sym (more ks n below))
   where
+    place : (n : ℕ) → suc n + 1 ≡ suc (n + 1)
+    place n = omega arith
+
     more : (ks : List ℕ) (n : ℕ) → n < length ks → sum_over (take (n + 1) ks) f ≡ sum_over (take n ks) f +ℚ f (get_or ks n d)
-    unfolding sum_over
     more [] n below = absurd (omega arith)
     more (k ∷ ks) zero below = add-zero (f k) ∙ sym (zero-add (f k))
-    more (k ∷ ks) (suc n) below = ap (λ x. f k +ℚ x) (more ks n (omega arith)) ∙ sym (add_assoc (f k) (sum_over (take n ks) f) (f (get_or ks n d)))
+    more (k ∷ ks) (suc n) below = ap (λ m. sum_over (take m (k ∷ ks)) f) (place n) ∙ ap (λ x. f k +ℚ x) (more ks n (omega arith)) ∙ sym (add_assoc (f k) (sum_over (take n ks) f) (f (get_or ks n d)))
 
 -- ---- all of them
 

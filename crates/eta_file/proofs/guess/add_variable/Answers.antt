@@ -16,7 +16,7 @@ pub returns-then-number-eq0-clause-added : goal.returns-then-number-eq0-clause-a
 returns-then-number-eq0-clause-added c i low =
     let is_number : whole (to_z w128 (of_z w128 c.whole_at-number.result)) ≡ value_at c.args.numbers.now c.args.k =
     ap whole (to_z-of_z w128 c.whole_at-number.result (search rules)) ∙ c.whole_at-number.ensures.value
-    ∙ ap (λ xs. value_at xs c.args.k) c.numbers-number.ensures.numbers in
+    ∙ ap (λ xs. value_at xs c.args.k) c.numbers.ensures.numbers in
     with_nothing (value_at c.args.sums.now i) _
     (no_part c.args.file.now.matrix (value_at c.args.numbers.now) i c.args.k
     (sym is_number ∙ ap (λ n. whole (to_z w128 n)) c.if-number-eq0.true))
@@ -28,7 +28,7 @@ returns-clause-added c i low =
     let number : ℚ = whole (to_z w128 (of_z w128 c.whole_at-number.result)) in
     let is_number : number ≡ value_at c.args.numbers.now c.args.k =
     ap whole (to_z-of_z w128 c.whole_at-number.result (search rules)) ∙ c.whole_at-number.ensures.value
-    ∙ ap (λ xs. value_at xs c.args.k) c.numbers-number.ensures.numbers in
+    ∙ ap (λ xs. value_at xs c.args.k) c.numbers.ensures.numbers in
     c.in_ok-add_column.ensures.added i low
     ∙ ap (λ x. value_at c.args.sums.now i +ℚ x)
     (ap (λ x. x *ℚ on_row c.numbers-column.result.now i) is_number
