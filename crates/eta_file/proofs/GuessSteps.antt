@@ -1,14 +1,13 @@
 -- Numbers that are found modulo two primes: what one entry more adds to the sum of its row, and when the numbers are a direction.
-use Rattle.std.proofs.Common.{◌≡◌, ◌≢◌, ℕ, zero, suc, ◌+◌, ◌-◌, ◌<◌, ◌≤◌, ◌⊎◌, inl, inr, List, [], ◌∷◌, length, take, get_or, set, map, refl, sym, ◌∙◌, ap, true, false, cond, arith, add-one}
+use Rattle.std.proofs.Common.{◌≡◌, ◌≢◌, ℕ, zero, suc, ◌+◌, ◌-◌, ◌<◌, ◌≤◌, ◌⊎◌, inl, inr, List, [], ◌∷◌, length, take, get_or, set, map, refl, sym, ◌∙◌, ap, true, false, cond, arith}
 use Rattle.std.specs.Prelude.{nat_eq, eqb}
 use Rattle.std.specs.List.{IsDistinct, AllByRecursion}
 use Rattle.std.proofs.lemmas.Bool.Decides.{eqb_tells}
 use Rattle.std.proofs.lemmas.Map.Keys.{IsDistinct-head, IsDistinct-tail}
 use Rattle.exact_values.specs.Rational.{ℚ, zero_ℚ, inverse_ℚ, ◌+ℚ◌, ◌*ℚ◌, ◌/ℚ◌}
-use Rattle.exact_values.specs.Sums.{sum_to, sum_up_to}
 use Rattle.exact_values.proofs.RingLaws.{add-zero, mul-zero, zero-mul, mul_comm}
 use Rattle.exact_values.proofs.Inverse.{mul-inverse}
-use Rattle.lp_definitions.specs.LinearProgram.{Matrix, Vector, column, entry, on_row, value_at, KeepsEquations}
+use Rattle.lp_definitions.specs.LinearProgram.{Matrix, on_row, value_at, KeepsEquations}
 use Rattle.lp_definitions.specs.Basis.{Basics, IsNonbasic, IsDirectionOf}
 use Rattle.lp_definitions.specs.declared.Entry.{Entry}
 use Rattle.lp_laws.proofs.Equations.{KeepsEquations-scale, KeepsEquations-same}

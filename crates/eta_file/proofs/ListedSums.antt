@@ -1,11 +1,11 @@
 -- The sums of the rows over the basics and one nonbasic, where all other numbers are 0.
-use Rattle.std.proofs.Common.{◌≡◌, ◌≢◌, ℕ, zero, suc, ◌+◌, ◌-◌, ◌<◌, ◌≤◌, List, [], ◌∷◌, length, take, get_or, filter, refl, sym, ◌∙◌, ap, ap₂, Bool, true, false, cond, arith}
+use Rattle.std.proofs.Common.{◌≡◌, ◌≢◌, ℕ, zero, suc, ◌+◌, ◌-◌, ◌<◌, ◌≤◌, List, [], ◌∷◌, length, take, get_or, refl, sym, ◌∙◌, ap, ap₂, Bool, true, false, cond, arith}
 use Rattle.std.specs.Prelude.{nat_eq, nat_le}
 use native.Mathlib.Decide.{ℕ_discrete}
 use Rattle.exact_values.specs.Rational.{ℚ, zero_ℚ, ◌+ℚ◌, ◌*ℚ◌}
 use Rattle.exact_values.specs.Sums.{sum_to, sum_up_to, sum_over, only}
 use Rattle.exact_values.proofs.RingLaws.{add-zero, zero-add, add_assoc, mul-zero, mul_comm}
-use Rattle.exact_values.proofs.Sums.{sum_to-same, sum_to-zero, sum_to-add, sum_to-append, sum_to-first, sum_to-only, sum_over-filter, sum_over-append}
+use Rattle.exact_values.proofs.Sums.{sum_to-same, sum_to-zero, sum_to-add, sum_to-append, sum_to-first, sum_to-only, sum_over-filter}
 use Rattle.lp_definitions.specs.LinearProgram.{Matrix, Vector, size, numbers_from, entry, column, on_row}
 use Rattle.lp_definitions.specs.Basis.{Basics, is_in, IsNonbasic}
 use Rattle.lp_laws.proofs.Values.{clash}

@@ -1,4 +1,4 @@
-use Rattle.std.proofs.Common.{◌≡◌, ◌≤◌, ◌∙◌, sym, ap, subst, All, length}
+use Rattle.std.proofs.Common.{◌≤◌, ◌∙◌, sym, ap, subst, All}
 use Rattle.exact_values.specs.Rational.{◌+ℚ◌}
 use Rattle.exact_values.specs.Sums.{sum_over}
 use Rattle.lp_definitions.specs.LinearProgram.{IsVariable, value_at}

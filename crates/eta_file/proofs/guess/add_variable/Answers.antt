@@ -1,8 +1,7 @@
-use Rattle.std.proofs.Common.{rules, ◌≡◌, ◌≤◌, ◌<◌, ◌-◌, ◌∙◌, sym, ap, arith, to_z, of_z}
+use Rattle.std.proofs.Common.{rules, ◌≡◌, ◌-◌, ◌∙◌, sym, ap, arith, to_z, of_z}
 use Rattle.std.specs.Int.{w128}
 use Rattle.std.proofs.lemmas.Int.{to_z-of_z}
-use Rattle.exact_values.specs.Rational.{ℚ, zero_ℚ, whole, ◌+ℚ◌, ◌*ℚ◌}
-use Rattle.exact_values.proofs.RingLaws.{add-zero}
+use Rattle.exact_values.specs.Rational.{ℚ, whole, ◌+ℚ◌, ◌*ℚ◌}
 use Rattle.lp_definitions.specs.LinearProgram.{Matrix, value_at, on_row, column}
 use Rattle.eta_file.proofs.ListedSums.{row_part, part_of_column, no_part, with_nothing}
 use Rattle.eta_file.proofs.guess.add_variable.Goals as goal
