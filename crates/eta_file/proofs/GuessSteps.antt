@@ -1,14 +1,13 @@
--- Numbers that are found modulo two primes: what one entry and one column more add to the sums of the rows, and when the numbers are a direction.
-use Rattle.std.proofs.Common.{◌≡◌, ◌≢◌, ℕ, zero, suc, ◌+◌, ◌-◌, ◌<◌, ◌≤◌, ◌⊎◌, inl, inr, List, [], ◌∷◌, length, take, get_or, set, map, refl, sym, ◌∙◌, ap, true, false, cond, arith, add-one}
+-- Numbers that are found modulo two primes: what one entry more adds to the sum of its row, and when the numbers are a direction.
+use Rattle.std.proofs.Common.{◌≡◌, ◌≢◌, ℕ, zero, suc, ◌+◌, ◌-◌, ◌<◌, ◌≤◌, ◌⊎◌, inl, inr, List, [], ◌∷◌, length, take, get_or, set, map, refl, sym, ◌∙◌, ap, true, false, cond, arith}
 use Rattle.std.specs.Prelude.{nat_eq, eqb}
 use Rattle.std.specs.List.{IsDistinct, AllByRecursion}
 use Rattle.std.proofs.lemmas.Bool.Decides.{eqb_tells}
 use Rattle.std.proofs.lemmas.Map.Keys.{IsDistinct-head, IsDistinct-tail}
 use Rattle.exact_values.specs.Rational.{ℚ, zero_ℚ, inverse_ℚ, ◌+ℚ◌, ◌*ℚ◌, ◌/ℚ◌}
-use Rattle.exact_values.specs.Sums.{sum_to, sum_up_to}
 use Rattle.exact_values.proofs.RingLaws.{add-zero, mul-zero, zero-mul, mul_comm}
 use Rattle.exact_values.proofs.Inverse.{mul-inverse}
-use Rattle.lp_definitions.specs.LinearProgram.{Matrix, Vector, column, entry, on_row, value_at, KeepsEquations}
+use Rattle.lp_definitions.specs.LinearProgram.{Matrix, on_row, value_at, KeepsEquations}
 use Rattle.lp_definitions.specs.Basis.{Basics, IsNonbasic, IsDirectionOf}
 use Rattle.lp_definitions.specs.declared.Entry.{Entry}
 use Rattle.lp_laws.proofs.Equations.{KeepsEquations-scale, KeepsEquations-same}
@@ -54,33 +53,6 @@ module _ (c : List Entry) (n : ℕ) (e : Entry) (below : n < length c) (is : e �
           ∙ ap (λ x. b +ℚ u *ℚ x) (on_row_next_same c n e below is distinct k same.1)
       at (inr other) =
           written_other out e.row k v low some other.1 ∙ so_far ∙ ap (λ x. b +ℚ u *ℚ x) (sym (on_row_next_other c n e below is distinct k other.1))
-
--- ---- one column more
-
-pub no_column : (f : ℕ → ℚ) → sum_up_to 0 f ≡ zero_ℚ
-unfolding sum_to
-no_column f = refl
-
-module _ (a : Matrix) (z : Vector) (i c : ℕ) where
-  abbrev part : ℕ → ℚ
-  part j = entry a i j *ℚ z (a.rows + j)
-
-  next_part : sum_up_to (c + 1) part ≡ sum_up_to c part +ℚ part (c + 1)
-  unfolding sum_to
-  next_part = ap (λ n. sum_up_to n part) (add-one c) ∙ ap (λ n. sum_up_to c part +ℚ part n) (sym (add-one c))
-
-  pub column_more : (s t u : ℚ) → u ≡ z (a.rows + (c + 1)) → s ≡ sum_up_to c (λ j. entry a i j *ℚ z (a.rows + j)) → t ≡ s +ℚ u *ℚ on_row (column a (c + 1)) i
-      → t ≡ sum_up_to (c + 1) (λ j. entry a i j *ℚ z (a.rows + j))
-  column_more s t u is_u is_s is_t =
-      is_t ∙ ap (λ x. x +ℚ u *ℚ on_row (column a (c + 1)) i) is_s
-      ∙ ap (λ x. sum_up_to c part +ℚ x) (mul_comm u (on_row (column a (c + 1)) i) ∙ ap (λ x. on_row (column a (c + 1)) i *ℚ x) is_u)
-      ∙ sym next_part
-
-  pub column_without : (s : ℚ) → z (a.rows + (c + 1)) ≡ zero_ℚ → s ≡ sum_up_to c (λ j. entry a i j *ℚ z (a.rows + j))
-      → s ≡ sum_up_to (c + 1) (λ j. entry a i j *ℚ z (a.rows + j))
-  column_without s none is_s =
-      is_s ∙ sym (ap (λ x. sum_up_to c part +ℚ x) (ap (λ x. entry a i (c + 1) *ℚ x) none ∙ mul-zero (entry a i (c + 1))) ∙ add-zero (sum_up_to c part))
-      ∙ sym next_part
 
 -- ---- a direction
 

@@ -11,3 +11,4 @@ pub mod ColumnLaws
 pub mod WholeSteps
 pub mod ListedLaws
 pub mod GuessSteps
+pub mod ListedSums

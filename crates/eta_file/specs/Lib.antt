@@ -6,5 +6,6 @@ pub mod Inverse
 pub mod File
 pub mod Columns
 pub mod Listed
+pub mod ColumnSums
 pub mod Workspaces
 pub mod WordColumns

@@ -20,7 +20,7 @@ use crate::basic_set::{BasicSet, place_of};
 use crate::carry::{clear, fill_column, last_left, leave, transform};
 use crate::eta::{Eta, EtaEntry, ScaledEta, StoredEta};
 use crate::guess::{gathered, has_long_numbers, keeps_equations};
-use crate::modular::ModularFile;
+use crate::modular::{ModularFile, Room};
 use crate::steps::Steps;
 use crate::whole::{begin_whole, leave_whole, transform_whole, whole_eta};
 use crate::words::{WordEntry, words_of_columns};
@@ -29,6 +29,7 @@ use frac128::Frac;
 use lp_model::{Entry, Evidence, Lp, NoMemory, SparseVector, Stop};
 use std::alloc::Global;
 use std::marker::{Brand, Model};
+use std::mem::replace;
 use std::rc::Rc;
 use std::sync::ledger::{Blank, Ledger};
 use whole_vectors::{LARGE, SparseWholes};
@@ -49,7 +50,7 @@ pub struct EtaFile {
     words: Rc<Vec<Option<Vec<WordEntry>>>, Global>,
     basics: BasicSet,
     etas: Vec<StoredEta>,
-    modular: Option<ModularFile>,
+    modular: Room,
     alloc: Global,
 }
 
@@ -147,7 +148,7 @@ impl EtaFile {
             words: Rc::new(alloc, words).map_err(|_| NoMemory)?,
             basics: BasicSet::new(alloc, row_marks(alloc, lp)?)?,
             etas: Vec::new(alloc),
-            modular: None,
+            modular: Room::Unmade,
             alloc,
         })
     }
@@ -191,7 +192,7 @@ impl EtaFile {
             words: self.words.clone()?,
             basics: BasicSet::new(self.alloc, marks)?,
             etas: Vec::new(self.alloc),
-            modular: None,
+            modular: Room::Unmade,
             alloc: self.alloc,
         })
     }
@@ -547,7 +548,7 @@ impl EtaFile {
         }
         work.carry(first)?;
         let denominator = gathered(self, work, j, wholes)?;
-        if !keeps_equations(self, wholes, &mut work.sums) {
+        if !keeps_equations(self, self.basics.listed(), j, wholes, &mut work.sums) {
             return None;
         }
         Some(denominator)
@@ -566,12 +567,13 @@ impl EtaFile {
             return None;
         }
         let size = self.size() as usize;
-        let mut work = match self.modular.take() {
-            Some(work) => work,
-            None => ModularFile::new(self.alloc, size)?,
+        let mut work = match replace(&mut self.modular, Room::GivenUp) {
+            Room::Made(work) => work,
+            Room::Unmade => ModularFile::new(self.alloc, size)?,
+            Room::GivenUp => return None,
         };
         let found = self.guess(&mut work, j, wholes);
-        self.modular = Some(work);
+        self.modular = work.kept(found.is_some());
         found
     }
 

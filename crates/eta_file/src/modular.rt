@@ -11,23 +11,28 @@ use lp_model::{Entry, NoMemory};
 use std::alloc::Global;
 use whole_vectors::SparseWholes;
 
+/// The smaller prime, 2^61 - 1.
 const SMALL_PRIME: u64 = 2_305_843_009_213_693_951;
 
+/// The larger prime, 2^64 - 2^32 + 1.
 const LARGE_PRIME: u64 = 18_446_744_069_414_584_321;
 
-/// The product of both primes, and its half.
+/// The product of both primes.
 const MODULUS: u128 = 42_535_295_855_213_787_602_497_882_669_577_142_271;
 
+/// The greatest number of which the double is less than that product.
 const HALF: u128 = 21_267_647_927_606_893_801_248_941_334_788_571_135;
 
 /// The inverse of the smaller prime modulo the larger one.
 const INVERSE: u64 = 16_930_573_323_512_567_275;
 
-/// The lowest 61, 64 and 32 bits.
+/// The lowest 61 bits.
 const LOW_61: u128 = 2_305_843_009_213_693_951;
 
+/// The lowest 64 bits.
 const LOW_64: u128 = 18_446_744_073_709_551_615;
 
+/// The lowest 32 bits, which is also 2^64 less the larger prime.
 const LOW_32: u64 = 4_294_967_295;
 
 /// A numerator of this size or more isn't looked for.
@@ -224,8 +229,19 @@ pub struct ModularFile {
     etas: Vec<ModularEta>,
     places: Vec<Place>,
     listed: Vec<u32>,
+    /// Whether the last direction was looked for in vain.
+    was_in_vain: bool,
     /// The sums of the rows of the matrix.
     pub sums: SparseWholes,
+}
+
+/// The room for directions modulo two primes. It is given up where two in a row weren't found, and none is looked for then until the file
+/// is made anew.
+#[derive(Drop)]
+pub enum Room {
+    Unmade,
+    Made(ModularFile),
+    GivenUp,
 }
 
 /// The entries of an eta but the leaver's.
@@ -300,8 +316,18 @@ impl ModularFile {
             etas: Vec::new(alloc),
             places: vec![in alloc; blank; size.checked_add(1)?].ok()?,
             listed: Vec::with_capacity(alloc, size).ok()?,
+            was_in_vain: false,
             sums: SparseWholes::zeros(alloc, size).ok()?,
         })
+    }
+
+    /// The room after a direction was found or not.
+    pub fn kept(mut self, is_found: bool) -> Room {
+        if !is_found && self.was_in_vain {
+            return Room::GivenUp;
+        }
+        self.was_in_vain = !is_found;
+        Room::Made(self)
     }
 
     /// Takes the etas that it doesn't have yet, where all are whole.
