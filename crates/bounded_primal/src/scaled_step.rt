@@ -2,8 +2,9 @@
 //! with these at hand a value takes two products, a quotient and one greatest common divisor, in place of the four of a product and a
 //! sum of fractions.
 
-ghost use Rattle.std.specs.Prelude.{◌≡◌, ◌<◌, pos, IfSome};
+ghost use Rattle.std.specs.Prelude.{◌≡◌, ◌<◌, ◌≤ℤ◌, ◌*ℤ◌, pos, IfSome};
 ghost use Rattle.exact_values.specs.Rational.{whole, ◌+ℚ◌, ◌*ℚ◌};
+ghost use Rattle.frac128.specs.Terms.{Fits};
 
 use frac128::{Frac, product, sum};
 use std::marker::Model;
@@ -49,7 +50,21 @@ fn numerator_over(x: Frac, common: u64) -> Option<i128>
     if common % den != 0 {
         return None;
     }
-    product(x.num(), (common / den) as i128)
+    let scaled = product(x.num(), (common / den) as i128)?;
+    Some(scaled)
+}
+
+/// The quotient, where it leaves no remainder.
+#[inline(always)]
+fn exact_quotient(n: i128, by: i128) -> Option<i128>
+    requires some { pos 1 ≤ℤ by }
+    requires fits { Fits n }
+    ensures value { IfSome result (λ q. q *ℤ by ≡ n) }
+    ensures fits { IfSome result Fits }
+{
+    let quotient = n / by;
+    let back = product(quotient, by)?;
+    if back == n { Some(quotient) } else { None }
 }
 
 /// A common multiple of a denominator and that of a fraction.
@@ -100,17 +115,19 @@ impl ScaledStep {
         ensures same { self.new ≡ self.old }
         ensures value { IfSome result (λ moved. moved ≡ value +ℚ self.old *ℚ rate) }
     {
-        let from_value = product(numerator_over(value, self.values)?, self.of_value)?;
-        let from_rate = product(numerator_over(rate, self.rates)?, self.of_rate)?;
+        let value_number = numerator_over(value, self.values)?;
+        let rate_number = numerator_over(rate, self.rates)?;
+        let from_value = product(value_number, self.of_value)?;
+        let from_rate = product(rate_number, self.of_rate)?;
         let total = sum(from_value, from_rate)?;
-        let part = total / self.shared;
-        if product(part, self.shared) == Some(total) {
+        if let Some(part) = exact_quotient(total, self.shared) {
             return Some(Frac::new(part, self.rest));
         }
         let denominator = product(self.shared, self.rest)?;
         let moved = Frac::new(total, denominator);
+        let shared = exact_quotient(denominator, moved.den())?;
+        self.shared = shared;
         self.rest = moved.den();
-        self.shared = denominator / moved.den();
         Some(moved)
     }
 
