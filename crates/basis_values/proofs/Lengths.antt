@@ -1,12 +1,13 @@
 -- How long a motion lasts until a variable reaches the limit ahead of it.
-use Rattle.std.proofs.Common.{◌≡◌, ◌≢◌, ℕ, ◌+◌, Bool, true, false, refl, sym, ◌∙◌, ap, ap₂, subst, arith, add-one, pos}
-use Rattle.std.specs.Prelude.{Option, Some, None, option_map}
-use Rattle.exact_values.specs.Rational.{ℚ, zero_ℚ, one_ℚ, neg_ℚ, inverse_ℚ, ◌-ℚ◌, ◌*ℚ◌, ◌/ℚ◌}
+use Rattle.std.proofs.Common.{◌≡◌, ◌≢◌, ℕ, ◌+◌, Bool, true, false, refl, sym, ◌∙◌, ap, ap₂, subst, arith, add-one, ℤ, pos, ◌<ℤ◌}
+use Rattle.std.specs.Prelude.{Option, Some, None, option_map, int_lt}
+use Rattle.std.proofs.lemmas.Int.{ints}
+use Rattle.exact_values.specs.Rational.{ℚ, zero_ℚ, one_ℚ, neg_ℚ, inverse_ℚ, ◌-ℚ◌, ◌*ℚ◌, ◌/ℚ◌, ◌<ℚ◌, sign_ℚ}
 use Rattle.exact_values.specs.Tests.{lt_ℚ}
 use Rattle.exact_values.proofs.Inverse.{inverse-neg}
-use Rattle.exact_values.proofs.Order.{lt_irrefl}
+use Rattle.exact_values.proofs.Order.{lt_irrefl, le_of_lt}
 use Rattle.exact_values.proofs.Ring.{by_ring1, by_ring2, number, ◌⊗◌, ◌≐◌, opposite}
-use Rattle.exact_values.proofs.TestsLaws.{lt_from_test}
+use Rattle.exact_values.proofs.TestsLaws.{lt_from_test, test_from_lt, lt_fails_from_le, above_from_positive, below_from_negative}
 use Rattle.lp_definitions.specs.LinearProgram.{LinearProgram, Vector, lower_of, upper_of}
 use Rattle.simplex_definitions.specs.Moves.{limit_ahead, step_length, signed}
 use Rattle.basis_values.specs.Motions.{motion}
@@ -38,6 +39,29 @@ pub ahead_down : (p : LinearProgram) (k : ℕ) (v l : ℚ) → lt_ℚ zero_ℚ v
     IsAhead p (λ _. v) k (Some (record { term = 1; limit = l }))
 ahead_down p k v l not_up down is =
     (rw (not_up, down) is, is, omega arith, λ e. lt_irrefl (lt_from_test zero_ℚ zero_ℚ (subst (λ (x : ℚ). lt_ℚ x zero_ℚ ≡ true) e down)))
+
+none_below : (p : LinearProgram) (k : ℕ) (v : ℚ) → lt_ℚ zero_ℚ v ≡ false → lt_ℚ v zero_ℚ ≡ true → lower_of p k ≡ None → IsAhead p (λ _. v) k None
+none_below p k v not_up down is = rw (not_up, down) is
+
+-- by the sign of the speed
+module _ (p : LinearProgram) (k : ℕ) (v : ℚ) (sign : ℤ) (is : sign ≡ sign_ℚ v) where
+  rises : int_lt (pos 0) sign ≡ true → lt_ℚ zero_ℚ v ≡ true
+  rises up = test_from_lt zero_ℚ v (above_from_positive v (subst (λ (s : ℤ). pos 0 <ℤ s) is (omega (arith, ints, up))))
+
+  falls : int_lt sign (pos 0) ≡ true → v <ℚ zero_ℚ
+  falls down = below_from_negative v (subst (λ (s : ℤ). s <ℤ pos 0) is (omega (arith, ints, down)))
+
+  not_rising : int_lt sign (pos 0) ≡ true → lt_ℚ zero_ℚ v ≡ false
+  not_rising down = lt_fails_from_le zero_ℚ v (le_of_lt (falls down))
+
+  pub ahead_of_rising : (l : ℚ) → int_lt (pos 0) sign ≡ true → upper_of p k ≡ Some l → IsAhead p (λ _. v) k (Some (record { term = 2; limit = l }))
+  ahead_of_rising l up limit = ahead_up p k v l (rises up) limit
+
+  pub ahead_of_falling : (l : ℚ) → int_lt sign (pos 0) ≡ true → lower_of p k ≡ Some l → IsAhead p (λ _. v) k (Some (record { term = 1; limit = l }))
+  ahead_of_falling l down limit = ahead_down p k v l (not_rising down) (test_from_lt v zero_ℚ (falls down)) limit
+
+  pub none_ahead_of_falling : int_lt sign (pos 0) ≡ true → lower_of p k ≡ None → IsAhead p (λ _. v) k None
+  none_ahead_of_falling down limit = none_below p k v (not_rising down) (test_from_lt v zero_ℚ (falls down)) limit
 
 pub ahead_at : (p : LinearProgram) (v : Vector) (k : ℕ) (speed : ℚ) (o : Option Ahead) → speed ≡ v k → IsAhead p (λ _. speed) k o → IsAhead p v k o
 ahead_at p v k speed None e h = subst (λ (x : ℚ). limit_ahead p (λ _. x) k ≡ None) e h

@@ -61,17 +61,14 @@ fn limit_before(lp: &Lp, speed: Frac, k: u32) -> Option<Ahead>
     requires { IsVariable lp.now.matrix k }
     ensures { IsAhead lp.now (λ _. speed) k result }
 {
-    if speed.is_zero() {
-        return None;
-    }
-    let zero = Frac::whole(0);
-    if zero.is_less(speed) {
+    let sign = speed.sign();
+    if sign > 0 {
         let upper = lp.upper_limit(k)?;
         Some(Ahead {
             term: 2,
             limit: upper,
         })
-    } else if speed.is_less(zero) {
+    } else if sign < 0 {
         let lower = lp.lower_limit(k)?;
         Some(Ahead {
             term: 1,

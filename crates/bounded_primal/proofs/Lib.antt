@@ -17,6 +17,7 @@ pub mod CompletePaths
 pub mod BlockingVariableFacts
 pub mod Inside
 pub mod AtOnce
+pub mod ScaledSteps
 pub mod Still
 mod LookedAt
 pub mod FirstWanted

@@ -8,3 +8,4 @@ pub mod Outcomes
 pub mod Complete
 pub mod Workspaces
 pub mod Standing
+pub mod ScaledSteps

@@ -8,6 +8,7 @@ mod kept;
 mod moves;
 mod path;
 mod position;
+mod scaled_step;
 mod step;
 mod stopping;
 mod turns;

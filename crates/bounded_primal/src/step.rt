@@ -13,6 +13,7 @@ ghost use Rattle.bounded_primal.specs.Steps.{IsMoved, IsMovedAtLimits, MovedRefu
 
 use crate::kept::Kept;
 use crate::moves::{BlockingVariable, Move};
+use crate::scaled_step::ScaledStep;
 use basis_values::{Formula, plus_product, reach};
 use frac128::Frac;
 use lp_model::{Basis, Evidence, Lp, Rates, SparseVector, Status, Stop};
@@ -127,6 +128,7 @@ fn move_point(lp: &Lp, step: &Move<'_>, point: &mut [Frac], kept: Kept) -> Resul
         return Ok(kept);
     }
     let mut still = kept;
+    let mut scaled = ScaledStep::new(step.by.step);
     let direction = step.direction.values();
     let moving = step.direction.nonzero();
     for k in moving {
@@ -136,6 +138,14 @@ fn move_point(lp: &Lp, step: &Move<'_>, point: &mut [Frac], kept: Kept) -> Resul
         }
         let value = point[*k as usize - 1];
         let rate = direction[*k as usize - 1];
+        let quickly = match &mut scaled {
+            Some(scaled) => scaled.moved(value, rate),
+            None => None,
+        };
+        if let Some(next) = quickly {
+            point[*k as usize - 1] = next;
+            continue;
+        }
         let Some(next) = moved_if_possible(value, rate, step.by, step.q, *k, needed)? else {
             still = Kept::Limited;
             continue;

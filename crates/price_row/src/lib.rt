@@ -33,6 +33,9 @@ use std::marker::Model;
 use sums::{sum_of_column, sum_over};
 use whole_vectors::{SparseWholes, SparseWords};
 
+/// After a row that didn't fit words so many are made in whole numbers at once.
+const ROWS_WITHOUT_WORDS: u32 = 8;
+
 /// What is asked of the row of the basic `row`: its first rate, or where `up` is false the opposite of one, that is wanted.
 #[derive(Clone, Copy)]
 struct Sought<'a> {
@@ -46,6 +49,7 @@ struct Sought<'a> {
 #[derive(Drop)]
 pub struct PriceRow {
     words: SparseWords,
+    without_words: u32,
     wholes: SparseWholes,
     multipliers: Vec<Frac>,
     workspace: ColumnWorkspace,
@@ -71,6 +75,7 @@ impl PriceRow {
         let size = lp.number_of_variables();
         Ok(PriceRow {
             words: SparseWords::zeros(alloc, size as usize)?,
+            without_words: 0,
             wholes: SparseWholes::zeros(alloc, size as usize)?,
             multipliers: vec![in alloc; Frac::whole(0); size as usize]?,
             workspace: ColumnWorkspace::zeros(alloc, size as usize)?,
@@ -128,9 +133,14 @@ impl PriceRow {
     {
         let _size = file.size();
         let sought = Sought { row: i, wanted, up };
-        let quick = first_by_numbers(file, &sought, &mut self.words, out);
-        if let Some(found) = quick {
-            return Ok(found);
+        if self.without_words == 0 {
+            let quick = first_by_numbers(file, &sought, &mut self.words, out);
+            if let Some(found) = quick {
+                return Ok(found);
+            }
+            self.without_words = ROWS_WITHOUT_WORDS;
+        } else {
+            self.without_words -= 1;
         }
         let quick = first_by_numbers(file, &sought, &mut self.wholes, out);
         if let Some(found) = quick {

@@ -1,0 +1,147 @@
+-- A step over common denominators.
+use Rattle.std.proofs.Common.{◌≡◌, ◌≢◌, ℕ, zero, suc, ◌+◌, ◌*◌, ◌<◌, ◌/◌, ◌%◌, ◌^◌, ℤ, pos, negsuc, ◌+ℤ◌, ◌*ℤ◌, ◌≤ℤ◌, refl, sym, subst, ap, ap₂, ◌∙◌, arith, mul-pos}
+use Rattle.std.specs.Prelude.{nat_abs}
+use Rattle.std.proofs.Math.Nat.{div-add-mod}
+use Rattle.std.proofs.lemmas.Int.{ints}
+use Rattle.exact_values.specs.Rational.{ℚ, whole, fraction, zero_ℚ, one_ℚ, ◌+ℚ◌, ◌*ℚ◌}
+use Rattle.exact_values.proofs.Fractions.{is_ratio, fraction_ratio, mul_ratio, cross_of_ratios, same_from_ratio, whole_of_positive}
+use Rattle.exact_values.proofs.RingLaws.{whole_ratio, whole-add, whole-mul, mul_comm, one-mul}
+use Rattle.exact_values.proofs.Ring.{by_ring3, by_ring4, by_ring5, ◌⊗◌, ◌⊕◌, ◌≐◌}
+use Rattle.exact_values.proofs.Inverse.{cancel_left, same_wholes}
+use Rattle.bounded_primal.specs.declared.scaled_step.ScaledStep.TheInside.{Inside}
+use Rattle.bounded_primal.specs.ScaledSteps.{IsScaled}
+
+-- ---- fractions and their terms
+
+numerator_back : (x : ℚ) → x *ℚ whole (pos x.denominator) ≡ whole x.numerator
+numerator_back x = same_from_ratio (mul_ratio (is_ratio x) (whole_ratio (pos x.denominator))) (whole_ratio x.numerator) (omega arith)
+
+top_back : (a : ℤ) (d : ℕ) → 0 < d → fraction a d *ℚ whole (pos d) ≡ whole a
+top_back a d some = same_from_ratio (mul_ratio (fraction_ratio a d some) (whole_ratio (pos d))) (whole_ratio a) (omega arith)
+
+not_zero : (d : ℕ) → 0 < d → whole (pos d) ≢ zero_ℚ
+not_zero d some is = absurd (omega (arith, some, ints, same_wholes (pos d) (pos 0) is))
+
+fraction_from : (x : ℚ) (a : ℤ) (d : ℕ) → 0 < d → whole a ≡ x *ℚ whole (pos d) → fraction a d ≡ x
+fraction_from x a d some is =
+    cancel_left (whole (pos d)) (fraction a d) x (not_zero d some)
+    (mul_comm (whole (pos d)) (fraction a d) ∙ top_back a d some ∙ is ∙ mul_comm x (whole (pos d)))
+
+-- a fraction over a multiple of its denominator
+pub numerator_is : (x : ℚ) (common den : ℕ) (n : ℤ) → den ≡ x.denominator → common % den ≡ 0 → n ≡ x.numerator *ℤ pos (common / den) →
+    whole n ≡ x *ℚ whole (pos common)
+numerator_is x common den n den_is none is =
+    let parts : common ≡ x.denominator * (common / den) = omega (arith, sym (div-add-mod common den), none, ap (λ d. d * (common / den)) den_is) in
+    ap whole is ∙ whole-mul x.numerator (pos (common / den))
+    ∙ ap (λ t. t *ℚ whole (pos (common / den))) (sym (numerator_back x))
+    ∙ by_ring3 x (whole (pos x.denominator)) (whole (pos (common / den))) (λ x d k. (x ⊗ d) ⊗ k ≐ x ⊗ (d ⊗ k)) refl
+    ∙ ap (λ t. x *ℚ t) (sym (whole-mul (pos x.denominator) (pos (common / den)))) ∙ ap (λ m. x *ℚ whole (pos m)) (sym parts)
+
+-- ---- the value after the step
+
+module _ (s : Inside) (scaled : IsScaled s) (value rate : ℚ) (v r : ℤ) (value_is : whole v ≡ value *ℚ whole (pos s.values))
+    (rate_is : whole r ≡ rate *ℚ whole (pos s.rates)) (total : ℤ) (is : total ≡ v *ℤ s.of_value +ℤ r *ℤ s.of_rate) where
+  abbrev after : ℚ
+  after = value +ℚ s.step *ℚ rate
+
+  total_is : whole total ≡ after *ℚ (whole s.shared *ℚ whole s.rest)
+  total_is =
+      ap whole is ∙ whole-add (v *ℤ s.of_value) (r *ℤ s.of_rate)
+      ∙ ap₂ (λ x y. x +ℚ y)
+      (whole-mul v s.of_value ∙ ap (λ t. t *ℚ whole s.of_value) value_is
+      ∙ by_ring3 value (whole (pos s.values)) (whole s.of_value) (λ x d f. (x ⊗ d) ⊗ f ≐ x ⊗ (f ⊗ d)) refl
+      ∙ ap (λ t. value *ℚ t) scaled.of_value)
+      (whole-mul r s.of_rate ∙ ap (λ t. t *ℚ whole s.of_rate) rate_is
+      ∙ by_ring3 rate (whole (pos s.rates)) (whole s.of_rate) (λ x d f. (x ⊗ d) ⊗ f ≐ x ⊗ (f ⊗ d)) refl
+      ∙ ap (λ t. rate *ℚ t) scaled.of_rate)
+      ∙ by_ring4 value s.step rate (whole s.shared *ℚ whole s.rest) (λ x t y l. x ⊗ l ⊕ y ⊗ (t ⊗ l) ≐ (x ⊕ t ⊗ y) ⊗ l) refl
+
+  -- where what was shared last is shared again
+  pub cancelled_is : (part : ℤ) → part *ℤ s.shared ≡ total → fraction part (nat_abs s.rest) ≡ value +ℚ s.step *ℚ rate
+  cancelled_is part same =
+      let shared_is = whole_of_positive s.shared scaled.some_shared in
+      let rest_is = whole_of_positive s.rest scaled.some_rest in
+      fraction_from after part (nat_abs s.rest) rest_is.1
+      (cancel_left (whole s.shared) (whole part) (after *ℚ whole (pos (nat_abs s.rest)))
+      (subst (λ (z : ℤ). whole z ≢ zero_ℚ) shared_is.0 (not_zero (nat_abs s.shared) shared_is.1))
+      (mul_comm (whole s.shared) (whole part) ∙ sym (whole-mul part s.shared) ∙ ap whole same ∙ total_is
+      ∙ by_ring3 after (whole s.shared) (whole s.rest) (λ x s r. x ⊗ (s ⊗ r) ≐ s ⊗ (x ⊗ r)) refl
+      ∙ ap (λ (z : ℤ). whole s.shared *ℚ (after *ℚ whole z)) (sym rest_is.0)))
+
+  -- with nothing cancelled
+  pub whole_is : (d : ℤ) → d ≡ s.shared *ℤ s.rest → pos 1 ≤ℤ d → fraction total (nat_abs d) ≡ value +ℚ s.step *ℚ rate
+  whole_is d same some =
+      let d_is = whole_of_positive d some in
+      fraction_from after total (nat_abs d) d_is.1
+      (total_is ∙ ap (λ t. after *ℚ t) (sym (whole-mul s.shared s.rest)) ∙ ap (λ (z : ℤ). after *ℚ whole z) (sym same)
+      ∙ ap (λ (z : ℤ). after *ℚ whole z) (sym d_is.0))
+
+pub some_product : (a b : ℤ) → pos 1 ≤ℤ a → pos 1 ≤ℤ b → pos 1 ≤ℤ (a *ℤ b)
+some_product a b some_a some_b =
+    let a_is = whole_of_positive a some_a in
+    let b_is = whole_of_positive b some_b in
+    subst (λ (z : ℤ). pos 1 ≤ℤ (z *ℤ b)) a_is.0 (subst (λ (z : ℤ). pos 1 ≤ℤ (pos (nat_abs a) *ℤ z)) b_is.0 (product_of (nat_abs a) (nat_abs b) a_is.1 b_is.1))
+  where
+    product_of : (m n : ℕ) → 0 < m → 0 < n → pos 1 ≤ℤ (pos m *ℤ pos n)
+    product_of m n some more = omega (arith, ints, mul-pos some more)
+
+factor_is_some : (a : ℤ) (b : ℕ) (c : ℤ) → a *ℤ pos b ≡ c → pos 1 ≤ℤ c → pos 1 ≤ℤ a
+factor_is_some (pos zero) b c same some = absurd (omega (arith, ints, same, some))
+factor_is_some (pos (suc a)) b c same some = omega (arith, ints)
+factor_is_some (negsuc a) b c same some = absurd (omega (arith, ints, same, some))
+
+-- what is shared is found anew
+pub shared_anew : (s : Inside) → IsScaled s → (d rest shared : ℤ) → d ≡ s.shared *ℤ s.rest → pos 1 ≤ℤ d → pos 1 ≤ℤ rest → shared *ℤ rest ≡ d →
+    IsScaled (record { step = s.step; values = s.values; rates = s.rates; of_value = s.of_value; of_rate = s.of_rate; shared = shared; rest = rest })
+shared_anew s scaled d rest shared same some some_rest back =
+    let product : whole shared *ℚ whole rest ≡ whole s.shared *ℚ whole s.rest =
+    sym (whole-mul shared rest) ∙ ap whole (back ∙ same) ∙ whole-mul s.shared s.rest in
+    record {
+      of_value = scaled.of_value ∙ sym product;
+      of_rate = scaled.of_rate ∙ ap (λ t. s.step *ℚ t) (sym product);
+      some_values = scaled.some_values;
+      some_rates = scaled.some_rates;
+      some_shared =
+          factor_is_some shared (nat_abs rest) d (ap (λ (z : ℤ). shared *ℤ z) (whole_of_positive rest some_rest).0 ∙ back) some;
+      some_rest = some_rest;
+    }
+
+-- the factors for these denominators
+pub scaled_by : (step of_one across : ℚ) (values rates : ℕ) (of_value of_rate rest : ℤ) → 0 < values → 0 < rates →
+    of_one ≡ step *ℚ fraction (pos 1) rates → across ≡ fraction (pos of_one.denominator) values →
+    of_value ≡ across.numerator → of_rate ≡ of_one.numerator *ℤ pos across.denominator → rest ≡ pos of_one.denominator *ℤ pos across.denominator →
+    IsScaled (record { step = step; values = values; rates = rates; of_value = of_value; of_rate = of_rate; shared = pos 1; rest = rest })
+scaled_by step of_one across values rates of_value of_rate rest some_values some_rates one_is across_is value_is rate_is rest_is =
+    let s : ℚ = whole (pos of_one.denominator) in
+    let e : ℚ = whole (pos across.denominator) in
+    let product : whole rest ≡ s *ℚ e = ap whole rest_is ∙ whole-mul (pos of_one.denominator) (pos across.denominator) in
+    record {
+      of_value =
+          ap (λ (z : ℤ). whole z *ℚ whole (pos values)) value_is ∙ ap (λ t. t *ℚ whole (pos values)) (sym (numerator_back across))
+          ∙ by_ring3 across e (whole (pos values)) (λ x e v. (x ⊗ e) ⊗ v ≐ (x ⊗ v) ⊗ e) refl
+          ∙ ap (λ (x : ℚ). x *ℚ whole (pos values) *ℚ e) across_is ∙ ap (λ t. t *ℚ e) (top_back (pos of_one.denominator) values some_values)
+          ∙ sym product ∙ sym (one-mul (whole rest));
+      of_rate =
+          ap (λ (z : ℤ). whole z *ℚ whole (pos rates)) rate_is
+          ∙ ap (λ t. t *ℚ whole (pos rates)) (whole-mul of_one.numerator (pos across.denominator) ∙ ap (λ t. t *ℚ e) (sym (numerator_back of_one)))
+          ∙ ap (λ (x : ℚ). x *ℚ s *ℚ e *ℚ whole (pos rates)) one_is
+          ∙ by_ring5 step (fraction (pos 1) rates) s e (whole (pos rates)) (λ t f s e r. ((t ⊗ f) ⊗ s) ⊗ e ⊗ r ≐ t ⊗ ((f ⊗ r) ⊗ (s ⊗ e))) refl
+          ∙ ap (λ t. step *ℚ t) (ap₂ (λ x y. x *ℚ y) (top_back (pos 1) rates some_rates) (sym product));
+      some_values = some_values;
+      some_rates = some_rates;
+      some_shared = omega (arith, ints);
+      some_rest =
+          subst (λ (z : ℤ). pos 1 ≤ℤ z) (sym rest_is)
+          (some_product (pos of_one.denominator) (pos across.denominator) (omega (arith, ints, of_one.positive)) (omega (arith, ints, across.positive)));
+    }
+
+-- a factor of a number that fits does
+pub factor_fits : (a b c : ℤ) → a *ℤ b ≡ c → pos 1 ≤ℤ b → nat_abs c < 2 ^ 127 → nat_abs a < 2 ^ 127
+factor_fits a b c same some fits =
+    let b_is = whole_of_positive b some in
+    at a (nat_abs b) b_is.1 (ap (λ (z : ℤ). a *ℤ z) b_is.0 ∙ same)
+  where
+    at : (a : ℤ) (n : ℕ) → 0 < n → a *ℤ pos n ≡ c → nat_abs a < 2 ^ 127
+    at a zero some is = absurd (omega (arith, some))
+    at (pos a) (suc n) some is = omega (arith, ints, is, fits)
+    at (negsuc a) (suc n) some is = omega (arith, ints, is, fits)
