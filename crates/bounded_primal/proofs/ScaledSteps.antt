@@ -1,10 +1,10 @@
 -- A step over common denominators.
-use Rattle.std.proofs.Common.{◌≡◌, ◌≢◌, ℕ, zero, suc, ◌+◌, ◌*◌, ◌<◌, ◌/◌, ◌%◌, ◌^◌, ℤ, pos, negsuc, ◌+ℤ◌, ◌*ℤ◌, ◌≤ℤ◌, refl, sym, subst, ap, ap₂, ◌∙◌, arith, mul-pos}
+use Rattle.std.proofs.Common.{◌≡◌, ◌≢◌, ℕ, zero, suc, ◌*◌, ◌<◌, ◌/◌, ◌%◌, ◌^◌, ℤ, pos, negsuc, ◌+ℤ◌, ◌*ℤ◌, ◌≤ℤ◌, refl, sym, subst, ap, ap₂, ◌∙◌, arith, mul-pos}
 use Rattle.std.specs.Prelude.{nat_abs}
 use Rattle.std.proofs.Math.Nat.{div-add-mod}
 use Rattle.std.proofs.lemmas.Int.{ints}
-use Rattle.exact_values.specs.Rational.{ℚ, whole, fraction, zero_ℚ, one_ℚ, ◌+ℚ◌, ◌*ℚ◌}
-use Rattle.exact_values.proofs.Fractions.{is_ratio, fraction_ratio, mul_ratio, cross_of_ratios, same_from_ratio, whole_of_positive}
+use Rattle.exact_values.specs.Rational.{ℚ, whole, fraction, zero_ℚ, ◌+ℚ◌, ◌*ℚ◌}
+use Rattle.exact_values.proofs.Fractions.{is_ratio, fraction_ratio, mul_ratio, same_from_ratio, whole_of_positive}
 use Rattle.exact_values.proofs.RingLaws.{whole_ratio, whole-add, whole-mul, mul_comm, one-mul}
 use Rattle.exact_values.proofs.Ring.{by_ring3, by_ring4, by_ring5, ◌⊗◌, ◌⊕◌, ◌≐◌}
 use Rattle.exact_values.proofs.Inverse.{cancel_left, same_wholes}
@@ -145,3 +145,18 @@ factor_fits a b c same some fits =
     at a zero some is = absurd (omega (arith, some))
     at (pos a) (suc n) some is = omega (arith, ints, is, fits)
     at (negsuc a) (suc n) some is = omega (arith, ints, is, fits)
+
+-- the factors for whole numbers
+pub scaled_by_one : (step : ℚ) (of_value of_rate rest : ℤ) → of_value ≡ pos step.denominator → of_rate ≡ step.numerator → rest ≡ pos step.denominator →
+    IsScaled (record { step = step; values = 1; rates = 1; of_value = of_value; of_rate = of_rate; shared = pos 1; rest = rest })
+scaled_by_one step of_value of_rate rest value_is rate_is rest_is = record {
+  of_value = mul_comm (whole of_value) (whole (pos 1)) ∙ ap (λ (z : ℤ). whole (pos 1) *ℚ whole z) (value_is ∙ sym rest_is);
+  of_rate =
+      ap (λ (z : ℤ). whole z *ℚ whole (pos 1)) rate_is ∙ ap (λ t. t *ℚ whole (pos 1)) (sym (numerator_back step))
+      ∙ by_ring3 step (whole (pos step.denominator)) (whole (pos 1)) (λ t d o. (t ⊗ d) ⊗ o ≐ t ⊗ (o ⊗ d)) refl
+      ∙ ap (λ (z : ℤ). step *ℚ (whole (pos 1) *ℚ whole z)) (sym rest_is);
+  some_values = omega arith;
+  some_rates = omega arith;
+  some_shared = omega (arith, ints);
+  some_rest = subst (λ (z : ℤ). pos 1 ≤ℤ z) (sym rest_is) (omega (arith, ints, step.positive));
+}

@@ -5,11 +5,11 @@
 --     StepsFromPoint p s d q by                by is that at the point of the basis
 --     move_by q by                             the move of the basis
 --     BlockingVariableRefused, StepRefused     evidence of a refused call
-use Rattle.std.specs.Prelude.{◌≡◌, ◌≢◌, ℕ, Bool, ◌&&◌, ◌||◌, not, List, [], ◌∷◌, Option, Some, IsSome, option_map, length, unwrap_or, IsTrue, nat_eq, Result, IfErr}
+use Rattle.std.specs.Prelude.{◌≡◌, ℕ, Bool, ◌&&◌, ◌||◌, not, List, [], ◌∷◌, Option, Some, IsSome, option_map, unwrap_or, IsTrue, nat_eq, Result, IfErr}
 use Rattle.exact_values.specs.Rational.{ℚ, zero_ℚ, ◌-ℚ◌, ◌/ℚ◌}
-use Rattle.lp_definitions.specs.LinearProgram.{Matrix, LinearProgram, Vector, size, value_at}
+use Rattle.lp_definitions.specs.LinearProgram.{LinearProgram, Vector}
 use Rattle.lp_definitions.specs.Solutions.{IsFeasible}
-use Rattle.lp_definitions.specs.Basis.{Basics, basics_of, exchanged, IsBasic, IsPointOf, IsDirectionOf}
+use Rattle.lp_definitions.specs.Basis.{Basics, basics_of, exchanged, IsBasic, IsPointOf}
 use Rattle.lp_definitions.specs.declared.Evidence.{Evidence}
 use Rattle.lp_definitions.specs.declared.Status.{Status}
 use Rattle.lp_model.specs.RatesState.{RatesState}

@@ -1,7 +1,7 @@
 -- How a path stands at a basis, and one turn of it from there.
 --     StandsAt p s w at            w and at have what a turn at s needs
 --     Advances result              the turn ends the path, makes a step, or stops
-use Rattle.std.specs.Prelude.{◌≡◌, ℕ, ◌≤◌, List, Option, Some, None, Result, Ok, Err, IsTrue}
+use Rattle.std.specs.Prelude.{◌≡◌, ◌≤◌, List, Option, Some, None, Result, Ok, Err, IsTrue}
 use Rattle.lp_definitions.specs.LinearProgram.{LinearProgram, size, value_at}
 use Rattle.lp_definitions.specs.Basis.{IsPointOf}
 use Rattle.lp_definitions.specs.declared.Status.{Status}

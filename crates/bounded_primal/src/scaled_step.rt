@@ -78,14 +78,19 @@ fn common_multiple(common: u64, x: Frac) -> Option<u64>
 }
 
 impl ScaledStep {
-    /// The step, where it isn't a whole number.
-    pub fn new(step: Frac) -> Option<ScaledStep>
-        ensures { IfSome result (λ made. made ≡ step) }
+    /// The step, where all values and rates are whole numbers.
+    pub fn new(step: Frac) -> ScaledStep
+        ensures { result ≡ step }
     {
-        if step.den() == 1 {
-            return None;
+        ScaledStep {
+            step,
+            values: 1,
+            rates: 1,
+            of_value: step.den(),
+            of_rate: step.num(),
+            shared: 1,
+            rest: step.den(),
         }
-        ScaledStep::over(step, 1, 1)
     }
 
     /// The step, with these denominators of values and of rates.
@@ -131,11 +136,14 @@ impl ScaledStep {
         Some(moved)
     }
 
-    /// A value with the step times a rate. None where a number on the way doesn't fit.
+    /// A value with the step times a rate. None where the step is a whole number, or a number on the way doesn't fit.
     pub fn moved(&mut self, value: Frac, rate: Frac) -> Option<Frac>
         ensures same { self.new ≡ self.old }
         ensures value { IfSome result (λ moved. moved ≡ value +ℚ self.old *ℚ rate) }
     {
+        if self.step.den() == 1 {
+            return None;
+        }
         if let Some(moved) = self.moved_over(value, rate) {
             return Some(moved);
         }

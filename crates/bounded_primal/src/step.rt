@@ -83,24 +83,30 @@ fn is_needed(lp: &Lp, kept: Kept, k: u32) -> bool
 fn moved_if_possible(
     value: Frac,
     rate: Frac,
-    by: &BlockingVariable,
-    q: u32,
+    step: &Move<'_>,
+    scaled: &mut ScaledStep,
     i: u32,
     needed: bool,
 ) -> Result<Option<Frac>, Evidence>
+    requires { scaled.old ≡ step.now.by.now.step }
+    ensures same { scaled.new ≡ scaled.old }
     ensures value { IfOk result
-        (λ found. IfSome found (λ moved. moved ≡ value +ℚ by.now.step *ℚ rate)) }
+        (λ found. IfSome found (λ moved. moved ≡ value +ℚ step.now.by.now.step *ℚ rate)) }
     ensures found { IfOk result (λ found. IsTrue needed → IsSome found) }
-    ensures refused { IfErr result (MovedRefused by.now.step rate value by.now.p q i) }
+    ensures refused { IfErr result (MovedRefused step.now.by.now.step rate value step.now.by.now.p
+        step.now.q i) }
     ensures moves { OnErr result (rate ≢ zero_ℚ) }
     ensures needed { OnErr result (IsTrue needed) }
 {
-    if let Some(moved) = quickly_moved(value, rate, by.step) {
+    if let Some(moved) = scaled.moved(value, rate) {
         return Ok(Some(moved));
     }
-    match plainly_moved(value, rate, by, q, i) {
+    if let Some(moved) = quickly_moved(value, rate, step.by.step) {
+        return Ok(Some(moved));
+    }
+    match plainly_moved(value, rate, step.by, step.q, i) {
         Ok(moved) => Ok(Some(moved)),
-        Err(evidence) => match plus_product(value, by.step, rate) {
+        Err(evidence) => match plus_product(value, step.by.step, rate) {
             Some(moved) => Ok(Some(moved)),
             None => { if needed { Err(evidence) } else { Ok(None) } }
         },
@@ -138,15 +144,7 @@ fn move_point(lp: &Lp, step: &Move<'_>, point: &mut [Frac], kept: Kept) -> Resul
         }
         let value = point[*k as usize - 1];
         let rate = direction[*k as usize - 1];
-        let quickly = match &mut scaled {
-            Some(scaled) => scaled.moved(value, rate),
-            None => None,
-        };
-        if let Some(next) = quickly {
-            point[*k as usize - 1] = next;
-            continue;
-        }
-        let Some(next) = moved_if_possible(value, rate, step.by, step.q, *k, needed)? else {
+        let Some(next) = moved_if_possible(value, rate, step, &mut scaled, *k, needed)? else {
             still = Kept::Limited;
             continue;
         };

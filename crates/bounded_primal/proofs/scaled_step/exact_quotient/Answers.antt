@@ -1,4 +1,4 @@
-use Rattle.std.proofs.Common.{rules, ◌≡◌, ℤ, pos, ◌*ℤ◌, ap, to_z, of_z, sym, ◌∙◌}
+use Rattle.std.proofs.Common.{rules, ℤ, ◌*ℤ◌, ap, to_z, of_z, sym, ◌∙◌}
 use Rattle.std.specs.Prelude.{int_div}
 use Rattle.std.specs.Int.{w128}
 use Rattle.std.proofs.lemmas.Int.{to_z-of_z}

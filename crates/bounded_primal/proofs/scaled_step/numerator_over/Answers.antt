@@ -1,4 +1,4 @@
-use Rattle.std.proofs.Common.{rules, ℤ, ◌*ℤ◌, ◌/◌, ap, ap₂, ◌∙◌, to_z, of_z, arith}
+use Rattle.std.proofs.Common.{rules, ℤ, ◌*ℤ◌, ◌/◌, ap, ap₂, ◌∙◌, arith}
 use Rattle.std.specs.Int.{w128}
 use Rattle.std.proofs.lemmas.Int.{to_z-of_z, to_z_pos}
 use Rattle.std.proofs.Math.Nat.{div-le_self}

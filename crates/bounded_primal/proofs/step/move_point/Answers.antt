@@ -36,6 +36,7 @@ loop-k-init c = record {
       });
   kept = λ kept. kept;
   needed = needed_kept c.args.kept;
+  scaled = c.new-scaled.ensures;
 }
 
 pub is_needed-needed-requires : goal.is_needed-needed-requires
@@ -93,6 +94,7 @@ loop-k-preserved-then-not-has_all c =
           (λ all. let e = sym c.if-not-has_all.true ∙ c.has_all.ensures ∙ all in absurd (let clash : false ≡ true = e in cc)) next.done);
       kept = c.loop-k.invariant.kept;
       needed = c.loop-k.invariant.needed;
+      scaled = c.loop-k.invariant.scaled;
     }
 
 pub returns-in_err-next-clause-refused : goal.returns-in_err-next-clause-refused
@@ -134,6 +136,7 @@ loop-k-preserved-in_default c =
           (λ all. absurd (let clash : false ≡ true = all in cc)) next.done);
       kept = λ all. absurd (let clash : false ≡ true = all in cc);
       needed = λ h. absurd (never (c.is_needed-needed.ensures ∙ or_left (all_needed c.args.kept) (has_limit c.args.lp.now k) h));
+      scaled = search rules;
     }
 
 pub loop-k-preserved : goal.loop-k-preserved
@@ -153,6 +156,7 @@ loop-k-preserved c =
           (all_kept c.loop-k.still) next.before k c.in-Some.next c.index-point-k.result c.index-direction-k.result next.is_next fits value_is rate_is value next.done);
       kept = c.loop-k.invariant.kept;
       needed = c.loop-k.invariant.needed;
+      scaled = search rules;
     }
 
 -- what is moved in the end

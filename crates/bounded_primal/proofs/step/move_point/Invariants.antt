@@ -1,4 +1,4 @@
-use Rattle.std.proofs.Common.{drop}
+use Rattle.std.proofs.Common.{◌≡◌, drop}
 use Rattle.std.specs.Prelude.{IsTrue}
 use Rattle.lp_definitions.specs.LinearProgram.{value_at}
 use Rattle.bounded_primal.specs.KeptPoints.{all_kept, all_needed}
@@ -11,4 +11,5 @@ invariant-loop-k l = record {
       (drop l.k-index l.moving);
   kept : IsTrue (all_kept l.still) → IsTrue (all_kept l.kept);
   needed : IsTrue (all_needed l.kept) → IsTrue (all_kept l.still);
+  scaled : l.scaled ≡ l.step.by.now.step;
 }

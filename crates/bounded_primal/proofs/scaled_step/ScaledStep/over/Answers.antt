@@ -1,6 +1,6 @@
-use Rattle.std.proofs.Common.{rules, ℤ, ◌*ℤ◌, ap, ap₂, to_z, of_z, ◌∙◌, pos}
+use Rattle.std.proofs.Common.{rules, ℤ, ◌*ℤ◌, ap₂, to_z, of_z, ◌∙◌}
 use Rattle.std.specs.Int.{w128}
-use Rattle.std.proofs.lemmas.Int.{to_z-of_z, to_z_pos}
+use Rattle.std.proofs.lemmas.Int.{to_z-of_z}
 use Rattle.bounded_primal.proofs.ScaledSteps.{scaled_by}
 use Rattle.bounded_primal.proofs.scaled_step.ScaledStep.over.Goals as goal
 
