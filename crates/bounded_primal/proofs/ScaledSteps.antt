@@ -110,7 +110,7 @@ shared_anew s scaled d rest shared same some some_rest back =
 pub scaled_by : (step of_one across : ℚ) (values rates : ℕ) (of_value of_rate rest : ℤ) → 0 < values → 0 < rates →
     of_one ≡ step *ℚ fraction (pos 1) rates → across ≡ fraction (pos of_one.denominator) values →
     of_value ≡ across.numerator → of_rate ≡ of_one.numerator *ℤ pos across.denominator → rest ≡ pos of_one.denominator *ℤ pos across.denominator →
-    IsScaled (record { step = step; values = values; rates = rates; of_value = of_value; of_rate = of_rate; shared = pos 1; rest = rest })
+    IsScaled (record { step = step; values = values; rates = rates; of_value = of_value; of_rate = of_rate; shared = rest; rest = pos 1 })
 scaled_by step of_one across values rates of_value of_rate rest some_values some_rates one_is across_is value_is rate_is rest_is =
     let s : ℚ = whole (pos of_one.denominator) in
     let e : ℚ = whole (pos across.denominator) in
@@ -120,17 +120,17 @@ scaled_by step of_one across values rates of_value of_rate rest some_values some
           ap (λ (z : ℤ). whole z *ℚ whole (pos values)) value_is ∙ ap (λ t. t *ℚ whole (pos values)) (sym (numerator_back across))
           ∙ by_ring3 across e (whole (pos values)) (λ x e v. (x ⊗ e) ⊗ v ≐ (x ⊗ v) ⊗ e) refl
           ∙ ap (λ (x : ℚ). x *ℚ whole (pos values) *ℚ e) across_is ∙ ap (λ t. t *ℚ e) (top_back (pos of_one.denominator) values some_values)
-          ∙ sym product ∙ sym (one-mul (whole rest));
+          ∙ sym product ∙ sym (one-mul (whole rest)) ∙ mul_comm (whole (pos 1)) (whole rest);
       of_rate =
           ap (λ (z : ℤ). whole z *ℚ whole (pos rates)) rate_is
           ∙ ap (λ t. t *ℚ whole (pos rates)) (whole-mul of_one.numerator (pos across.denominator) ∙ ap (λ t. t *ℚ e) (sym (numerator_back of_one)))
           ∙ ap (λ (x : ℚ). x *ℚ s *ℚ e *ℚ whole (pos rates)) one_is
           ∙ by_ring5 step (fraction (pos 1) rates) s e (whole (pos rates)) (λ t f s e r. ((t ⊗ f) ⊗ s) ⊗ e ⊗ r ≐ t ⊗ ((f ⊗ r) ⊗ (s ⊗ e))) refl
-          ∙ ap (λ t. step *ℚ t) (ap₂ (λ x y. x *ℚ y) (top_back (pos 1) rates some_rates) (sym product));
+          ∙ ap (λ t. step *ℚ t) (ap₂ (λ x y. x *ℚ y) (top_back (pos 1) rates some_rates) (sym product) ∙ mul_comm (whole (pos 1)) (whole rest));
       some_values = some_values;
       some_rates = some_rates;
-      some_shared = omega (arith, ints);
-      some_rest =
+      some_rest = omega (arith, ints);
+      some_shared =
           subst (λ (z : ℤ). pos 1 ≤ℤ z) (sym rest_is)
           (some_product (pos of_one.denominator) (pos across.denominator) (omega (arith, ints, of_one.positive)) (omega (arith, ints, across.positive)));
     }
@@ -148,15 +148,15 @@ factor_fits a b c same some fits =
 
 -- the factors for whole numbers
 pub scaled_by_one : (step : ℚ) (of_value of_rate rest : ℤ) → of_value ≡ pos step.denominator → of_rate ≡ step.numerator → rest ≡ pos step.denominator →
-    IsScaled (record { step = step; values = 1; rates = 1; of_value = of_value; of_rate = of_rate; shared = pos 1; rest = rest })
+    IsScaled (record { step = step; values = 1; rates = 1; of_value = of_value; of_rate = of_rate; shared = rest; rest = pos 1 })
 scaled_by_one step of_value of_rate rest value_is rate_is rest_is = record {
-  of_value = mul_comm (whole of_value) (whole (pos 1)) ∙ ap (λ (z : ℤ). whole (pos 1) *ℚ whole z) (value_is ∙ sym rest_is);
+  of_value = ap (λ (z : ℤ). whole z *ℚ whole (pos 1)) (value_is ∙ sym rest_is);
   of_rate =
       ap (λ (z : ℤ). whole z *ℚ whole (pos 1)) rate_is ∙ ap (λ t. t *ℚ whole (pos 1)) (sym (numerator_back step))
-      ∙ by_ring3 step (whole (pos step.denominator)) (whole (pos 1)) (λ t d o. (t ⊗ d) ⊗ o ≐ t ⊗ (o ⊗ d)) refl
-      ∙ ap (λ (z : ℤ). step *ℚ (whole (pos 1) *ℚ whole z)) (sym rest_is);
+      ∙ by_ring3 step (whole (pos step.denominator)) (whole (pos 1)) (λ t d o. (t ⊗ d) ⊗ o ≐ t ⊗ (d ⊗ o)) refl
+      ∙ ap (λ (z : ℤ). step *ℚ (whole z *ℚ whole (pos 1))) (sym rest_is);
   some_values = omega arith;
   some_rates = omega arith;
-  some_shared = omega (arith, ints);
-  some_rest = subst (λ (z : ℤ). pos 1 ≤ℤ z) (sym rest_is) (omega (arith, ints, step.positive));
+  some_rest = omega (arith, ints);
+  some_shared = subst (λ (z : ℤ). pos 1 ≤ℤ z) (sym rest_is) (omega (arith, ints, step.positive));
 }

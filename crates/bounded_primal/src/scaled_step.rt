@@ -1,6 +1,5 @@
 //! A step that isn't a whole number. The values that it moves have mostly one denominator, so have the rates, and so has what they make:
-//! with these at hand a value takes two products, a quotient and one greatest common divisor, in place of the four of a product and a
-//! sum of fractions.
+//! with these at hand a value takes one greatest common divisor, in place of the four of a product and a sum of fractions.
 
 ghost use Rattle.std.specs.Prelude.{◌≡◌, ◌<◌, ◌≤ℤ◌, ◌*ℤ◌, pos, IfSome};
 ghost use Rattle.exact_values.specs.Rational.{whole, ◌+ℚ◌, ◌*ℚ◌};
@@ -10,8 +9,8 @@ use frac128::{Frac, product, sum};
 use std::marker::Model;
 
 /// A step with a common denominator of values and one of rates. A value over the one times `of_value`, and a rate over the other times
-/// `of_rate`, are together what the step makes of them, over a third denominator: it is `shared` times `rest`, of which `shared` was
-/// cancelled in the last value.
+/// `of_rate`, are together what the step makes of them, over a third denominator: it is `shared` times `rest`, of which `shared` is
+/// cancelled at once in the next value where it can be, as it was in the last one.
 #[derive(Drop)]
 pub struct ScaledStep {
     step: Frac,
@@ -88,8 +87,8 @@ impl ScaledStep {
             rates: 1,
             of_value: step.den(),
             of_rate: step.num(),
-            shared: 1,
-            rest: step.den(),
+            shared: step.den(),
+            rest: 1,
         }
     }
 
@@ -102,15 +101,15 @@ impl ScaledStep {
         let of_one = step.mul(Frac::new(1, rates as i128)).ok()?;
         let across = Frac::new(of_one.den(), values as i128);
         let of_rate = product(of_one.num(), across.den())?;
-        let rest = product(of_one.den(), across.den())?;
+        let shared = product(of_one.den(), across.den())?;
         Some(ScaledStep {
             step,
             values,
             rates,
             of_value: across.num(),
             of_rate,
-            shared: 1,
-            rest,
+            shared,
+            rest: 1,
         })
     }
 
