@@ -4,13 +4,11 @@ use crate::breaks::face_entering_variable;
 use crate::reaching::reach;
 use crate::turns::{blocking_variable_of, rises, unbounded_end};
 use basis_values::fill_prices;
-use bounded_primal::{PrimalStop, primal};
+use bounded_primal::{PrimalStop, copied, primal};
 use dual_step::read_row;
 use frac128::Frac;
 use lp_model::{Basis, Change, Lp, Outcome, ParaPart, Point, Rates, Stop};
-use parametric_run::{
-    FaceStep, Parametric, Span, Workspace, copied, point_with, prices_with, still_point,
-};
+use parametric_run::{FaceStep, Parametric, Span, Workspace, point_with, prices_with, still_point};
 use std::alloc::Global;
 
 /// A linear program, and a row without limits: theta times the row is added to the objective.

@@ -14,7 +14,7 @@ use Rattle.simplex_definitions.specs.Statements.{SolvingStatement}
 use Rattle.bounded_primal.specs.Calls.{EvidenceHere}
 use Rattle.parametric_run.specs.Programs.{ParametricProgram}
 use Rattle.parametric_run.specs.Standing.{RefusedAt}
-use Rattle.parametric_run.proofs.Walks.{lie_same}
+use Rattle.bounded_primal.proofs.Within.{lie_same}
 
 -- a call that comes after others at the same basis
 pub evidence_later : (statement : SolvingStatement) (a : Matrix) (breakpoint : Option ℚ) (left : ℕ) (now : List Status) (before mid after : List Basics)

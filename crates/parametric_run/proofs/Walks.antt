@@ -1,14 +1,12 @@
 -- From step to step of a run: where it stands, and the waypoints in its bases.
-use Rattle.std.proofs.Common.{◌≡◌, ℕ, ◌+◌, ◌-◌, ◌≤◌, inl, inr, List, [], ◌∷◌, ◌++◌, map, length, get_or, refl, sym, ◌∙◌, ap, subst, arith}
+use Rattle.std.proofs.Common.{◌≡◌, ℕ, ◌+◌, ◌-◌, ◌≤◌, List, [], ◌∷◌, ◌++◌, length, refl, sym, ◌∙◌, ap, subst, arith}
 use Rattle.std.proofs.lemmas.List.{append_assoc, append-nil}
-use Rattle.std.proofs.lemmas.List.Elements.{All-contains}
 use Rattle.exact_values.specs.Rational.{ℚ, ◌<ℚ◌}
 use Rattle.lp_definitions.specs.LinearProgram.{Matrix, LinearProgram}
 use Rattle.lp_definitions.specs.Basis.{Basics, basics_of}
-use Rattle.lp_definitions.specs.Waypoints.{IsWithinOne, IsKept, KeepsWaypoints, waypoint}
+use Rattle.lp_definitions.specs.Waypoints.{KeepsWaypoints, waypoint}
 use Rattle.lp_definitions.specs.declared.Evidence.{Evidence}
 use Rattle.lp_definitions.specs.declared.Status.{Status}
-use Rattle.lp_laws.proofs.WaypointLaws.{within_itself, within_by}
 use Rattle.simplex_definitions.specs.Path.{IsPath, EndsAt, EndsOptimal, last_of}
 use Rattle.simplex_definitions.specs.Chain.{FaceTurn, FaceDone, ReachesTo, IsFaceStep, IsFacePath, RunPlace, InOpening, AtBreakpoint, basis_of, breakpoint_of, Reaches, begins, path_step, first_breakpoint, face_step, next_breakpoint}
 use Rattle.simplex_definitions.specs.Statements.{SolvingStatement}
@@ -17,42 +15,10 @@ use Rattle.basis_values.specs.Calls.{LieIn}
 use Rattle.bounded_primal.specs.declared.moves.PrimalStop.{PrimalStop}
 use Rattle.bounded_primal.specs.declared.moves.PrimalStop.TheVariants.{Limit, Overflow, NoMemory}
 use Rattle.bounded_primal.proofs.PathWalk.{last_more, length_more, before_last}
+use Rattle.bounded_primal.proofs.Within.{lie_more, lie_same}
 use Rattle.parametric_run.specs.Calls.{StandsThere, WaypointsFollowRun, RunOverflows, RunStops}
 use Rattle.bounded_primal.specs.Calls.{EvidenceHere}
 use Rattle.parametric_run.specs.Walks.{HasRun, MayOpen, FaceStops, IntervalStops}
-
--- ---- lists of bases
-
-module _ (a : Matrix) where
-  within_prefix : (w : Basics) (xs ys : List (List Status)) → IsWithinOne a w (map basics_of xs) → IsWithinOne a w (map basics_of (xs ++ ys))
-  within_prefix w [] ys h = elim h [ ]
-  within_prefix w (x ∷ xs) ys (inl h) = inl h
-  within_prefix w (x ∷ xs) ys (inr h) = inr (within_prefix w xs ys h)
-
-  within_last : (xs : List (List Status)) (s : List Status) → IsWithinOne a (basics_of s) (map basics_of (xs ++ s ∷ []))
-  within_last [] s = inl (within_itself a (basics_of s))
-  within_last (x ∷ xs) s = inr (within_last xs s)
-
-  -- a step to next, whose calls kept the waypoints
-  lie_more : (xs : List (List Status)) (now next : List Status) (ways more : List Basics) → KeepsWaypoints a (basics_of now) ways (basics_of next) more →
-      LieIn a ways (xs ++ now ∷ []) → LieIn a more ((xs ++ now ∷ []) ++ next ∷ [])
-  lie_more xs now next ways more keeps lie k d below = place (get_or more k d) (keeps.each k d below)
-    where
-      place : (w : Basics) → IsKept a (basics_of now) ways (basics_of next) w → IsWithinOne a w (map basics_of ((xs ++ now ∷ []) ++ next ∷ []))
-      place w (inl old) = within_prefix w (xs ++ now ∷ []) (next ∷ []) (All-contains (λ w. IsWithinOne a w (map basics_of (xs ++ now ∷ []))) ways w lie old)
-      place w (inr (inl within)) =
-          within_prefix w (xs ++ now ∷ []) (next ∷ []) (within_by a w (basics_of now) (map basics_of (xs ++ now ∷ [])) within (within_last xs now))
-      place w (inr (inr within)) = within_by a w (basics_of next) (map basics_of ((xs ++ now ∷ []) ++ next ∷ [])) within (within_last (xs ++ now ∷ []) next)
-
-  -- calls at the basis that is reached
-  pub lie_same : (xs : List (List Status)) (now : List Status) (ways more : List Basics) → KeepsWaypoints a (basics_of now) ways (basics_of now) more →
-      LieIn a ways (xs ++ now ∷ []) → LieIn a more (xs ++ now ∷ [])
-  lie_same xs now ways more keeps lie k d below = place (get_or more k d) (keeps.each k d below)
-    where
-      place : (w : Basics) → IsKept a (basics_of now) ways (basics_of now) w → IsWithinOne a w (map basics_of (xs ++ now ∷ []))
-      place w (inl old) = All-contains (λ w. IsWithinOne a w (map basics_of (xs ++ now ∷ []))) ways w lie old
-      place w (inr (inl within)) = within_by a w (basics_of now) (map basics_of (xs ++ now ∷ [])) within (within_last xs now)
-      place w (inr (inr within)) = within_by a w (basics_of now) (map basics_of (xs ++ now ∷ [])) within (within_last xs now)
 
 module _ (family : ℚ → LinearProgram) (Face : ℚ → List Status → FaceTurn → Type 0) where
   -- one more step at a breakpoint

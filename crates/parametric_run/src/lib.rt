@@ -11,4 +11,4 @@ mod workspace;
 
 pub use method::{FaceStep, Parametric, Span};
 pub use run::follow;
-pub use workspace::{Workspace, copied, point_with, prices_with, still_point, still_prices, zeros};
+pub use workspace::{Workspace, point_with, prices_with, still_point, still_prices, zeros};

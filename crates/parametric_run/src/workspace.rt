@@ -11,7 +11,7 @@ ghost use Rattle.simplex_definitions.specs.Path.{after};
 ghost use Rattle.bounded_primal.specs.Moves.{IsStepBy, StepOverflow, move_by};
 ghost use Rattle.parametric_run.specs.Standing.{AreSized, IsReady};
 
-use bounded_primal::{BlockingVariable, Kept, Move, step_over};
+use bounded_primal::{BlockingVariable, Kept, Move, copied, step_over, zeroed};
 use frac128::Frac;
 use lp_model::{Basis, Lp, NoMemory, Point, Prices, Rates, SparseVector, Stop};
 use std::alloc::Global;
@@ -91,27 +91,11 @@ impl Workspace {
     }
 }
 
-/// So many zeros.
-fn zeroed(alloc: Global, size: usize) -> Result<Vec<Frac>, NoMemory>
-    ensures { IfOk result (λ values. values.items ≡ replicate size zero_ℚ) }
-{
-    let values = vec![in alloc; Frac::whole(0); size].map_err(|_| NoMemory)?;
-    Ok(values)
-}
-
 /// A 0 for each variable.
 pub fn zeros(alloc: Global, lp: &Lp) -> Result<Vec<Frac>, NoMemory>
     ensures { IfOk result (λ values. values.items ≡ replicate (size lp.now.matrix) zero_ℚ) }
 {
     zeroed(alloc, lp.number_of_variables() as usize)
-}
-
-/// A copy.
-pub fn copied(alloc: Global, values: &[Frac]) -> Result<Vec<Frac>, NoMemory>
-    ensures { IfOk result (λ copy. copy.items ≡ values.now) }
-{
-    let copy = Vec::from_slice(alloc, values)?;
-    Ok(copy)
 }
 
 /// The point with these values.
