@@ -1,24 +1,22 @@
 //! A face step: which way the entering variable goes, and what stops it.
 
-ghost use Rattle.std.specs.Prelude.{◌≡◌, ℕ, length, IsTrue, OnOk, IfOk, IfErr};
+ghost use Rattle.std.specs.Prelude.{◌≡◌, length, IsTrue, OnOk, IfOk, IfErr};
 ghost use Rattle.lp_definitions.specs.LinearProgram.{size, value_at, IsVariable};
 ghost use Rattle.lp_definitions.specs.Solutions.{IsFeasible};
 ghost use Rattle.lp_definitions.specs.Basis.{basics_of, IsNonbasic, IsDirectionOf, IsPointOf};
 ghost use Rattle.lp_model.specs.RatesCalls.{IfOverflow};
 ghost use Rattle.basis_values.specs.Calls.{IsAtBasis, StaysAt};
-ghost use Rattle.basis_values.specs.Motions.{may_move, motion};
+ghost use Rattle.basis_values.specs.Motions.{may_move};
 ghost use Rattle.bounded_primal.specs.Moves.{blocking_variable_of as blocking_variable_by};
 ghost use Rattle.bounded_primal.specs.Turns.{RunStops};
 ghost use Rattle.parametric_run.specs.Standing.{AreSized};
 ghost use Rattle.para_objective.specs.Faces.{face_up, IsUnboundedPast};
 
 use crate::choices::worth;
-use basis_values::counted;
-use bounded_primal::{BlockingVariable, blocking_variable};
+use bounded_primal::{BlockingVariable, blocking_variable, signed_direction};
 use frac128::Frac;
-use lp_model::{Basis, Direction, Lp, NoMemory, ParaEnd, Rates, Stop};
+use lp_model::{Basis, Lp, NoMemory, ParaEnd, Rates, Stop};
 use parametric_run::{Workspace, point_with};
-use std::alloc::Global;
 
 /// Whether a variable with this rate of the change row rises to better it.
 fn rises_by(lp: &Lp, change: &[Frac], q: u32) -> bool
@@ -36,31 +34,6 @@ pub fn rises(lp: &Lp, workspace: &Workspace, q: u32) -> bool
     ensures { result ≡ face_up lp.now (value_at workspace.now.change.items) q }
 {
     rises_by(lp, &workspace.change, q)
-}
-
-/// The speed of `k`, where what has this direction rises or falls.
-fn speed(lp: &Lp, direction: &[Frac], up: bool, k: u32) -> Frac
-    requires variable { IsVariable lp.now.matrix k }
-    requires places { length direction.now ≡ size lp.now.matrix }
-    ensures { result ≡ motion (value_at direction.now) up k }
-{
-    counted(direction[k as usize - 1], up)
-}
-
-/// The speeds of all variables.
-fn speeds(alloc: Global, lp: &Lp, direction: &[Frac], up: bool) -> Result<Direction, NoMemory>
-    requires { length direction.now ≡ size lp.now.matrix }
-    ensures places { IfOk result (λ speeds. length speeds ≡ size lp.now.matrix) }
-    ensures speeds { IfOk result (λ speeds. (k : ℕ) → IsVariable lp.now.matrix k →
-        value_at speeds k ≡ motion (value_at direction.now) up k) }
-{
-    let mut values = Vec::new(alloc);
-    for k in 0..lp.number_of_variables() {
-        values
-            .push(speed(lp, direction, up, k + 1))
-            .map_err(|_| NoMemory)?;
-    }
-    Ok(Direction::new(values))
 }
 
 /// What stops `q`, which moves up or down from the basis's point. The workspace takes the direction of `q`.
@@ -110,7 +83,7 @@ pub fn unbounded_end(
 {
     let alloc = workspace.alloc;
     let point = point_with(alloc, &workspace.point)?;
-    let direction = speeds(alloc, lp, workspace.direction.values(), up)?;
+    let direction = signed_direction(alloc, lp, workspace.direction.values(), up)?;
     Ok(ParaEnd::Unbounded {
         past: theta,
         point,
