@@ -150,35 +150,10 @@ fn least_computed(lp: &Lp, basis: &Basis, prices: &[Frac], change: &[Frac], max:
     best
 }
 
-/// The least of `max` and the ends that the variables make. Where one of them can't be computed, the search begins again from the least of
-/// the others, which may show that it isn't needed.
-fn reach_by(
-    lp: &Lp,
-    basis: &Basis,
-    prices: &[Frac],
-    change: &[Frac],
-    max: Frac,
-) -> Result<Frac, Evidence>
-    requires counted { length basis.now ≡ size lp.now.matrix }
-    requires prices { length prices.now ≡ size lp.now.matrix }
-    requires places { length change.now ≡ size lp.now.matrix }
-    ensures reach { IfOk result (IsReachOf lp.now basis.now
-        (value_at prices.now) (value_at change.now) (size lp.now.matrix) max) }
-    ensures refused { IfErr result
-        (RateRefused (value_at prices.now) (value_at change.now) (size lp.now.matrix)) }
-{
-    match reach_from(lp, basis, prices, change, max) {
-        Ok(to) => Ok(to),
-        Err(_evidence) => {
-            let best = least_computed(lp, basis, prices, change, max);
-            reach_from(lp, basis, prices, change, best)
-        }
-    }
-}
-
 /// The greatest theta up to `max` to which the basis stays optimal, from any theta at which it is, while theta times the row `row` is
-/// added to the objective. `prices` has the basis's prices, and `change` the rates of that row. An overflow comes only with evidence
-/// of it at this basis.
+/// added to the objective. `prices` has the basis's prices, and `change` the rates of that row. Where an end can't be computed, the
+/// search begins again from the least of the others, which may show that it isn't needed. An overflow comes only with evidence of it at
+/// this basis.
 pub fn reach(
     lp: &Lp,
     basis: &Basis,
@@ -198,5 +173,11 @@ pub fn reach(
     ensures reaches { IfOk result (IsReachFromAny lp.now row basis.now max) }
     ensures overflow { IfErr result (EndRefused lp.now row basis.now) }
 {
-    reach_by(lp, basis, prices, change, max)
+    match reach_from(lp, basis, prices, change, max) {
+        Ok(to) => Ok(to),
+        Err(_evidence) => {
+            let best = least_computed(lp, basis, prices, change, max);
+            reach_from(lp, basis, prices, change, best)
+        }
+    }
 }
