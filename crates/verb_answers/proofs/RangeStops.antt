@@ -16,7 +16,8 @@ use Rattle.simplex_definitions.specs.Statements.{Primal, Range, belongs, thetas_
 use Rattle.simplex_definitions.specs.Evidence.{Formula, by_exchange, by_entry, by_carried, by_point, by_slack, by_move, by_ratio, by_range, by_objective, by_slope, ShowsRefusal}
 use Rattle.basis_values.specs.Calls.{job_of, is_of_point, StopsAt, PointRefused, RangeRefused}
 use Rattle.verb_answers.specs.Stops.{RangesRefused}
-use Rattle.verb_answers.proofs.Refused.{within_last, covers_trans}
+use Rattle.bounded_primal.proofs.Within.{within_last}
+use Rattle.verb_answers.proofs.Refused.{covers_trans}
 use Rattle.ranging.proofs.Views.{of_number}
 
 -- what shows that a path stops shows it of RANGE

@@ -1,5 +1,5 @@
 -- From the evidence of a point, of prices and of a slack to evidence of SOLUTION on every path that led to the basis.
-use Rattle.std.proofs.Common.{◌≡◌, ℕ, inl, inr, List, [], ◌∷◌, ◌++◌, map, true, false, refl, sym, ◌∙◌, ap, subst, arith}
+use Rattle.std.proofs.Common.{◌≡◌, ℕ, List, [], ◌∷◌, ◌++◌, map, true, false, refl, sym, ◌∙◌, ap, subst, arith}
 use Rattle.std.specs.Prelude.{Option, None, IsTrue, not, ◌&&◌, ◌||◌, nat_eq, Contains}
 use Rattle.exact_values.specs.Rational.{ℚ}
 use Rattle.lp_definitions.specs.LinearProgram.{Matrix, LinearProgram, Vector}
@@ -9,7 +9,7 @@ use Rattle.lp_definitions.specs.declared.Change.{Change}
 use Rattle.lp_definitions.specs.declared.Evidence.{Evidence}
 use Rattle.lp_definitions.specs.declared.Status.{Status}
 use Rattle.lp_laws.proofs.Values.{clash}
-use Rattle.lp_laws.proofs.WaypointLaws.{Covers, Covers-all, covered, kept_within, within_itself}
+use Rattle.lp_laws.proofs.WaypointLaws.{Covers, Covers-all, covered, kept_within}
 use Rattle.lp_model.specs.RatesCalls.{IfOverflow}
 use Rattle.lp_model.specs.declared.Stop.{Stop}
 use Rattle.lp_model.proofs.Stops.{IfOverflow-map}
@@ -19,6 +19,7 @@ use Rattle.simplex_definitions.specs.Evidence.{Formula, by_exchange, by_entry, b
 use Rattle.basis_values.specs.Calls.{job_of, is_of_point, PointRefused}
 use Rattle.verb_answers.specs.Slack.{SomeSlackRefused}
 use Rattle.verb_answers.specs.Stops.{SolutionRefused}
+use Rattle.bounded_primal.proofs.Within.{within_last}
 
 -- ---- the numbers of the formulas of a point
 
@@ -37,11 +38,6 @@ point_number e h = let n = of_number e.formula e.term h in record { no_move = n.
 -- ---- the bases in which waypoints lie
 
 module _ (a : Matrix) where
-  -- the basis given is the last of the list
-  pub within_last : (xs : List (List Status)) (s : List Status) → IsWithinOne a (basics_of s) (map basics_of (xs ++ s ∷ []))
-  within_last [] s = inl (within_itself a (basics_of s))
-  within_last (x ∷ xs) s = inr (within_last xs s)
-
   pub covers_trans : (xs ys zs : List Basics) → Covers a xs ys → Covers a ys zs → Covers a xs zs
   covers_trans [] ys zs first second = tt
   covers_trans (x ∷ xs) ys zs first second = (covered a x ys zs second first.0, covers_trans xs ys zs first.1 second)
