@@ -52,7 +52,7 @@ use Rattle.setup_verbs.proofs.Selected.{same_matrix}
 use Rattle.run_machine.proofs.Giving.{quietly}
 use Rattle.setup_verbs.proofs.Giving.{gives_fault, gives_found, gives_selected}
 use Rattle.setup_verbs.proofs.Reporting.{reported_executes, cut_executes}
-use Rattle.showing_verbs.proofs.Staying.{lie_later}
+use Rattle.bounded_primal.proofs.Within.{lie_same}
 use Rattle.setup_verbs.proofs.Present.{IsPresentOf, lie_up_to, one_problem, present_at, present_with}
 
 -- ---- the lines of a basis
@@ -204,7 +204,7 @@ module _ (card : ℕ) (cards : List (List ℕ)) (old : Machine) (setup : Setup) 
       still_stands =
           let same : matrix_of problem ≡ setup.lp.matrix = same_matrix problem (choice_of old.cells setup.options) setup.lp ok in
           let lie : LieIn setup.lp.matrix new.engine.waypoints (p.initial ++ setup.basis ∷ []) =
-          lie_later setup.lp.matrix p.initial setup.basis setup.engine.waypoints new.engine.waypoints k.keeps
+          lie_same setup.lp.matrix p.initial setup.basis setup.engine.waypoints new.engine.waypoints k.keeps
           (lie_up_to problem setup state.setup p setup.lp same) in
           record {
             is_position = s.is_position;

@@ -1,18 +1,11 @@
 -- A machine and its waypoints where the setup's basis stays.
-use Rattle.std.proofs.Common.{◌≡◌, ℕ, List, Option, None, Some, IfSome, subst, [], ◌∷◌, ◌++◌, map, get_or, inl, inr}
+use Rattle.std.proofs.Common.{◌≡◌, ℕ, List, Option, None, Some, IfSome, subst}
 use Rattle.problem_file.specs.Filed.{Filed}
 use Rattle.listing_definitions.specs.declared.Mark.{Mark}
 use Rattle.control_definitions.specs.Cells.{Cells}
 use Rattle.setup_verbs.specs.Machines.{Machine}
 use Rattle.setup_verbs.specs.Kept.{Setup}
 use Rattle.setup_verbs.specs.Standing.{IsReady, IsSolved, IsSound}
-use Rattle.std.proofs.lemmas.List.Elements.{All-contains}
-use Rattle.lp_definitions.specs.LinearProgram.{Matrix}
-use Rattle.lp_definitions.specs.Basis.{Basics, basics_of}
-use Rattle.lp_definitions.specs.Waypoints.{IsWithinOne, IsKept, KeepsWaypoints}
-use Rattle.lp_laws.proofs.WaypointLaws.{within_itself, within_by}
-use Rattle.question_definitions.specs.Answers.{Basis}
-use Rattle.basis_values.specs.Calls.{LieIn}
 
 pub solved_of : (cells : Cells) (file : Filed) (mark : Option Mark) (kept : Option Setup) (own : Mark) (setup : Setup) → mark ≡ Some own → kept ≡ Some setup →
     IfSome mark (λ m. IfSome kept (IsSolved m cells.xobj cells.xrhs file)) → IsSolved own cells.xobj cells.xrhs file setup
@@ -34,17 +27,3 @@ module _ (cards : List (List ℕ)) (old : Machine) (setup new : Setup) (ready : 
       IsSound cards (record old { setup = Some new })
   sound_kept is keeps =
       record { first = s.first; last = s.last; demands = s.demands; ready = ready; solved = while_marked old.cells old.file setup new old.mark old.setup is keeps s.solved }
-
-module _ (a : Matrix) where
-  within_last : (xs : List Basis) (s : Basis) → IsWithinOne a (basics_of s) (map basics_of (xs ++ s ∷ []))
-  within_last [] s = inl (within_itself a (basics_of s))
-  within_last (x ∷ xs) s = inr (within_last xs s)
-
-  pub lie_later : (initial : List Basis) (s : Basis) (before after : List Basics) → KeepsWaypoints a (basics_of s) before (basics_of s) after →
-      LieIn a before (initial ++ s ∷ []) → LieIn a after (initial ++ s ∷ [])
-  lie_later initial s before after keeps lie k d below = place (get_or after k d) (keeps.each k d below)
-    where
-      place : (w : Basics) → IsKept a (basics_of s) before (basics_of s) w → IsWithinOne a w (map basics_of (initial ++ s ∷ []))
-      place w (inl old) = All-contains (λ w. IsWithinOne a w (map basics_of (initial ++ s ∷ []))) before w lie old
-      place w (inr (inl within)) = within_by a w (basics_of s) (map basics_of (initial ++ s ∷ [])) within (within_last initial s)
-      place w (inr (inr within)) = within_by a w (basics_of s) (map basics_of (initial ++ s ∷ [])) within (within_last initial s)
