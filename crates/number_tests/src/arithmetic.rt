@@ -184,7 +184,7 @@ const FIBONACCI: [(u32, u64, u64, u64); 6] = [
 
 /// Two numbers that are Euclid's quotients in turn, mostly of 33 bits or more, how many there are, the remainders of the two numbers to which they
 /// lead, and their greatest common divisor.
-const LARGE_QUOTIENTS: [((u64, u64), u32, [u64; 3]); 5] = [
+const LARGE_QUOTIENTS: [((u64, u64), u32, [u64; 3]); 6] = [
     (
         (4294967297, 8589934591),
         60,
@@ -209,6 +209,11 @@ const LARGE_QUOTIENTS: [((u64, u64), u32, [u64; 3]); 5] = [
         (18446744073709551615, 3),
         90,
         [1822653533310092257, 1489153294509507326, 9],
+    ),
+    (
+        (18156696999170608891, 18294645453284151237),
+        60,
+        [1917304010403216949, 855792636148522907, 7],
     ),
 ];
 
