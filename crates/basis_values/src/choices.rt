@@ -9,6 +9,7 @@ ghost use Rattle.simplex_definitions.specs.Moves.{least, is_crossed, is_below, i
 ghost use Rattle.basis_values.specs.Motions.{motion};
 ghost use Rattle.basis_values.specs.Prices.{worth_by};
 
+use crate::ratio::Ratio;
 use crate::wants::want_of;
 use frac128::Frac;
 use lp_model::{Basis, Lp, Sense, Status};
@@ -33,25 +34,25 @@ pub fn crossed(lp: &Lp) -> Option<u32>
 }
 
 /// Whether `k` lies below its lower limit.
-pub fn lies_below(lp: &Lp, point: &[Frac], k: u32) -> bool
+pub fn lies_below(lp: &Lp, point: &[Ratio], k: u32) -> bool
     requires variable { IsVariable lp.now.matrix k }
     requires places { length point.now ≡ size lp.now.matrix }
     ensures { result ≡ is_below lp.now (value_at point.now) k }
 {
     match lp.lower_limit(k) {
-        Some(lower) => point[k as usize - 1].is_less(lower),
+        Some(lower) => point[k as usize - 1].is_below(lower),
         None => false,
     }
 }
 
 /// Whether `k` lies above its upper limit.
-fn lies_above(lp: &Lp, point: &[Frac], k: u32) -> bool
+fn lies_above(lp: &Lp, point: &[Ratio], k: u32) -> bool
     requires variable { IsVariable lp.now.matrix k }
     requires places { length point.now ≡ size lp.now.matrix }
     ensures { result ≡ is_above lp.now (value_at point.now) k }
 {
     match lp.upper_limit(k) {
-        Some(upper) => upper.is_less(point[k as usize - 1]),
+        Some(upper) => point[k as usize - 1].is_above(upper),
         None => false,
     }
 }
@@ -66,7 +67,7 @@ pub fn stands_basic(basis: &Basis, k: u32) -> bool
 }
 
 /// Whether `k` is basic, and outside its limits.
-fn lies_outside(lp: &Lp, basis: &Basis, point: &[Frac], k: u32) -> bool
+fn lies_outside(lp: &Lp, basis: &Basis, point: &[Ratio], k: u32) -> bool
     requires variable { IsVariable lp.now.matrix k }
     requires counted { length basis.now ≡ size lp.now.matrix }
     requires places { length point.now ≡ size lp.now.matrix }
@@ -76,7 +77,7 @@ fn lies_outside(lp: &Lp, basis: &Basis, point: &[Frac], k: u32) -> bool
 }
 
 /// The least-numbered basic outside its limits.
-pub fn outside(lp: &Lp, basis: &Basis, point: &[Frac]) -> Option<u32>
+pub fn outside(lp: &Lp, basis: &Basis, point: &[Ratio]) -> Option<u32>
     requires counted { length basis.now ≡ size lp.now.matrix }
     requires places { length point.now ≡ size lp.now.matrix }
     ensures { result ≡ least lp.now (λ k. is_in (basics_of basis.now) k && is_outside lp.now

@@ -1,6 +1,7 @@
 //! How long a motion lasts until a variable reaches a limit.
 
-ghost use Rattle.std.specs.Prelude.{◌≡◌, length, IfOk, IfErr, IsTrue};
+ghost use Rattle.std.specs.Prelude.{◌≡◌, length, IfOk, IfErr, IfSome, IsTrue};
+ghost use Rattle.exact_values.specs.Rational.{◌-ℚ◌};
 ghost use Rattle.lp_definitions.specs.LinearProgram.{size, value_at, IsVariable};
 ghost use Rattle.simplex_definitions.specs.Moves.{step_length};
 ghost use Rattle.basis_values.specs.Motions.{motion};
@@ -8,6 +9,7 @@ ghost use Rattle.basis_values.specs.Reach.{StepLengthRefused, IsAhead, Yields, s
 
 use crate::choices::counted;
 use crate::formula::{Formula, plus_product};
+use crate::ratio::Ratio;
 use crate::word_terms::lasts;
 use frac128::Frac;
 use lp_model::{Evidence, Lp};
@@ -82,7 +84,7 @@ fn limit_before(lp: &Lp, speed: Frac, k: u32) -> Option<Ahead>
 /// How long `q` moves until `k` reaches the limit ahead of it.
 pub fn length_to(
     lp: &Lp,
-    point: &[Frac],
+    point: &[Ratio],
     direction: &[Frac],
     up: bool,
     q: u32,
@@ -101,15 +103,28 @@ pub fn length_to(
     let Some(ahead) = limit_before(lp, speed, k) else {
         return Ok(None);
     };
-    let distance = formula(6, 0, k, ahead.term).difference(ahead.limit, point[k as usize - 1])?;
+    let value = point[k as usize - 1].reduced();
+    let distance = formula(6, 0, k, ahead.term).difference(ahead.limit, value)?;
     let change = formula(7, q, k, ahead.term).quotient(distance, rate)?;
     Ok(Some(counted(change, up)))
+}
+
+/// A limit less a value. None where a number doesn't fit.
+#[inline(always)]
+fn distance_to(limit: Frac, value: &Ratio) -> Option<Ratio>
+    ensures { IfSome result (λ distance. distance ≡ limit -ℚ value.now) }
+{
+    if let Some(distance) = value.distance_to(limit) {
+        return Some(distance);
+    }
+    let distance = limit.sub(value.reduced()).ok()?;
+    Some(Ratio::of(distance))
 }
 
 /// Whether it is seen without a quotient that `k` is no nearer than what is nearest so far.
 pub fn is_no_nearer(
     lp: &Lp,
-    point: &[Frac],
+    point: &[Ratio],
     direction: &[Frac],
     up: bool,
     nearest: &Option<Reach>,
@@ -128,15 +143,13 @@ pub fn is_no_nearer(
     let Some(nearest) = nearest else {
         return false;
     };
-    let Ok(distance) = distance_formula(k, ahead.term).difference(
-        ahead.limit,
-        point[k as usize - 1],
-    ) else {
+    let Some(distance) = distance_to(ahead.limit, &point[k as usize - 1]) else {
         return false;
     };
     let rises = Frac::whole(0).is_less(speed);
-    let (distance, speed) = (counted(distance, rises), counted(speed, rises));
-    lasts(distance, speed, nearest.length).unwrap_or(false)
+    let distance = if rises { distance } else { distance.neg() };
+    let speed = counted(speed, rises);
+    lasts(&distance, speed, nearest.length).unwrap_or(false)
 }
 
 /// What is nearer: what was nearest so far, or `k` at this length.
@@ -160,7 +173,7 @@ pub fn nearer(nearest: Option<Reach>, length: Option<Frac>, k: u32) -> Option<Re
 /// Whether `k` lets `first` stop the move: after the length of `first` it hasn't passed the limit ahead of it, nor reached it where its
 /// number is the smaller. This follows from its place there, so no length of its own is needed; and nothing follows where the place
 /// can't be computed.
-pub fn yields(lp: &Lp, point: &[Frac], direction: &[Frac], up: bool, first: &Reach, k: u32) -> bool
+pub fn yields(lp: &Lp, point: &[Ratio], direction: &[Frac], up: bool, first: &Reach, k: u32) -> bool
     requires variable { IsVariable lp.now.matrix k }
     requires point_places { length point.now ≡ size lp.now.matrix }
     requires direction_places { length direction.now ≡ size lp.now.matrix }
@@ -171,7 +184,8 @@ pub fn yields(lp: &Lp, point: &[Frac], direction: &[Frac], up: bool, first: &Rea
     let Some(ahead) = limit_before(lp, speed, k) else {
         return true;
     };
-    let Some(place) = plus_product(point[k as usize - 1], first.length, speed) else {
+    let value = point[k as usize - 1].reduced();
+    let Some(place) = plus_product(value, first.length, speed) else {
         return false;
     };
     let rises = Frac::whole(0).is_less(speed);

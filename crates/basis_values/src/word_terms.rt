@@ -4,6 +4,7 @@ ghost use Rattle.std.specs.Prelude.{◌≡◌, ◌*◌, ◌+◌, ◌^◌, ◌<�
 ghost use Rattle.exact_values.specs.Rational.{◌≤ℚ◌, ◌/ℚ◌};
 ghost use Rattle.basis_values.specs.WordTerms.{AreTermsOf};
 
+use crate::ratio::Ratio;
 use frac128::Frac;
 
 /// The least number of more than one machine word.
@@ -23,6 +24,17 @@ fn words_of(x: Frac) -> Option<Words>
 {
     let top = u64::try_from(x.num()).ok()?;
     let bottom = u64::try_from(x.den()).ok()?;
+    Some(Words { top, bottom })
+}
+
+/// The same of a fraction that isn't brought to lowest terms.
+#[inline(always)]
+fn words_of_ratio(x: &Ratio) -> Option<Words>
+    ensures { IfSome result (AreTermsOf x.now) }
+{
+    let (num, den) = x.terms();
+    let top = u64::try_from(num).ok()?;
+    let bottom = u64::try_from(den).ok()?;
     Some(Words { top, bottom })
 }
 
@@ -60,10 +72,10 @@ fn is_at_most(x: &Long, y: &Long) -> bool
 /// Whether a distance over a speed is at least a length, as the product of the length and the speed shows it, where their terms are
 /// words.
 #[inline(always)]
-pub fn lasts(distance: Frac, speed: Frac, length: Frac) -> Option<bool>
-    ensures { IfSome result (λ lasts. IsTrue lasts → length ≤ℚ distance /ℚ speed) }
+pub fn lasts(distance: &Ratio, speed: Frac, length: Frac) -> Option<bool>
+    ensures { IfSome result (λ lasts. IsTrue lasts → length ≤ℚ distance.now /ℚ speed) }
 {
-    let d = words_of(distance)?;
+    let d = words_of_ratio(distance)?;
     let s = words_of(speed)?;
     let l = words_of(length)?;
     if s.top == 0 {

@@ -19,7 +19,7 @@ ghost use Rattle.bounded_dual.specs.Stops.{DualEnds, DualStops, IsNotUnbounded, 
 
 use crate::moves::DualStop;
 use crate::turns::next_turn;
-use basis_values::{crossed, fill_prices, outside, point_of, wrong_price};
+use basis_values::{crossed, fill_prices, outside, wrong_price};
 use bounded_primal::{Kept, Move, Position, Turn, Workspace, step_over};
 use dual_step::prices_over;
 use frac128::Frac;
@@ -76,11 +76,11 @@ fn walk<R: Rates>(
         (R.state rates.new) }
 {
     let alloc = workspace.alloc;
+    workspace.fill_point(lp, basis, rates)?;
     let point = workspace.point.as_mut_slice();
     let prices = workspace.prices.as_mut_slice();
     let row = workspace.row.as_mut_slice();
     let direction = &mut workspace.direction;
-    point_of(alloc, lp, basis, rates, point)?;
     let mut broken = outside(lp, basis, point);
     let mut kept = Kept::AllSoFar;
     let mut steps = 0;

@@ -22,13 +22,12 @@ use crate::position::Position;
 use crate::step::step_over;
 use crate::turns::{Turn, next_turn};
 use crate::workspace::Workspace;
-use basis_values::{crossed, outside, point_of, renew_wants, wants_of};
-use frac128::Frac;
+use basis_values::{Ratio, crossed, outside, renew_wants, wants_of};
 use lp_model::{Basis, Lp, Outcome, Rates, Stop, Wanted};
 use std::alloc::Global;
 
 /// The least-numbered basic outside its limits after a step. Where there was none before the step, there is none.
-pub fn outside_after(lp: &Lp, basis: &Basis, point: &[Frac], broken: Option<u32>) -> Option<u32>
+pub fn outside_after(lp: &Lp, basis: &Basis, point: &[Ratio], broken: Option<u32>) -> Option<u32>
     requires counted { length basis.now ≡ size lp.now.matrix }
     requires places { length point.now ≡ size lp.now.matrix }
     requires stays { broken ≡ None → least_outside lp.now basis.now (value_at point.now) ≡ None }
@@ -67,8 +66,8 @@ pub fn begin<R: Rates>(
     ensures overflow { PointOverflow result lp.now basis.now (R.state rates.old)
         (R.state rates.new) }
 {
+    workspace.fill_point(lp, basis, rates)?;
     let point = workspace.point.as_mut_slice();
-    point_of(workspace.alloc, lp, basis, rates, point)?;
     Ok(Standing {
         kept: Kept::AllSoFar,
         broken: outside(lp, basis, point),

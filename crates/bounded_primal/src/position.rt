@@ -4,7 +4,7 @@ ghost use Rattle.std.specs.Prelude.{◌≡◌, length};
 ghost use Rattle.lp_definitions.specs.LinearProgram.{size};
 
 use crate::kept::Kept;
-use frac128::Frac;
+use basis_values::Ratio;
 use lp_model::{Basis, Lp};
 use std::alloc::Global;
 
@@ -16,7 +16,7 @@ pub struct Position<'a> {
     pub alloc: Global,
     pub lp: &'a Lp,
     pub basis: &'a Basis,
-    pub point: &'a [Frac],
+    pub point: &'a [Ratio],
     pub kept: Kept,
     pub broken: Option<u32>,
     pub steps: u32,

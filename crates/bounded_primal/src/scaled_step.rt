@@ -1,24 +1,24 @@
 //! A step that isn't a whole number. The values that it moves have mostly one denominator, so have the rates, and so has what they make:
-//! with these at hand a value takes two products, a quotient and one greatest common divisor, in place of the four of a product and a
-//! sum of fractions.
+//! with these at hand a value takes two products and a quotient, and no greatest common divisor.
 
 ghost use Rattle.std.specs.Prelude.{◌≡◌, ◌<◌, ◌≤ℤ◌, ◌*ℤ◌, pos, IfSome};
 ghost use Rattle.exact_values.specs.Rational.{whole, ◌+ℚ◌, ◌*ℚ◌};
 ghost use Rattle.frac128.specs.Terms.{Fits};
 
+use basis_values::Ratio;
 use frac128::{Frac, product, sum};
 use std::marker::Model;
 
-/// A step with a common denominator of values and one of rates. A value over the one times `of_value`, and a rate over the other times
-/// `of_rate`, are together what the step makes of them, over a third denominator: it is `shared` times `rest`, of which `shared` was
-/// cancelled in the last value.
+/// A step with a common denominator of values and one of rates. A value over the one times `value_factor`, and a rate over the other times
+/// `rate_factor`, are together what the step makes of them, over a third denominator: it is `shared` times `rest`, of which `shared` was
+/// cancelled in each value so far.
 #[derive(Drop)]
 pub struct ScaledStep {
     step: Frac,
-    values: u64,
-    rates: u64,
-    of_value: i128,
-    of_rate: i128,
+    value_denominator: u64,
+    rate_denominator: u64,
+    value_factor: i128,
+    rate_factor: i128,
     shared: i128,
     rest: i128,
 }
@@ -43,15 +43,18 @@ fn denominator(x: Frac) -> Option<u64>
 
 /// The numerator of a fraction over a common denominator. None where that is no multiple of its own, or the numerator doesn't fit.
 #[inline(always)]
-fn numerator_over(x: Frac, common: u64) -> Option<i128>
-    ensures { IfSome result (λ n. whole n ≡ x *ℚ whole (pos common)) }
+fn numerator_over(x: &Ratio, common: u64) -> Option<i128>
+    ensures { IfSome result (λ n. whole n ≡ x.now *ℚ whole (pos common)) }
 {
-    let den = denominator(x)?;
-    if common % den != 0 {
+    let (num, den) = x.terms();
+    if den == common as i128 {
+        return Some(num);
+    }
+    let den = u64::try_from(den).ok()?;
+    if den == 0 || common % den != 0 {
         return None;
     }
-    let scaled = product(x.num(), (common / den) as i128)?;
-    Some(scaled)
+    product(num, (common / den) as i128)
 }
 
 /// The quotient, where it leaves no remainder.
@@ -84,12 +87,12 @@ impl ScaledStep {
     {
         ScaledStep {
             step,
-            values: 1,
-            rates: 1,
-            of_value: step.den(),
-            of_rate: step.num(),
-            shared: 1,
-            rest: step.den(),
+            value_denominator: 1,
+            rate_denominator: 1,
+            value_factor: step.den(),
+            rate_factor: step.num(),
+            shared: step.den(),
+            rest: 1,
         }
     }
 
@@ -101,45 +104,45 @@ impl ScaledStep {
     {
         let of_one = step.mul(Frac::new(1, rates as i128)).ok()?;
         let across = Frac::new(of_one.den(), values as i128);
-        let of_rate = product(of_one.num(), across.den())?;
-        let rest = product(of_one.den(), across.den())?;
+        let rate_factor = product(of_one.num(), across.den())?;
+        let shared = product(of_one.den(), across.den())?;
         Some(ScaledStep {
             step,
-            values,
-            rates,
-            of_value: across.num(),
-            of_rate,
-            shared: 1,
-            rest,
+            value_denominator: values,
+            rate_denominator: rates,
+            value_factor: across.num(),
+            rate_factor,
+            shared,
+            rest: 1,
         })
     }
 
     /// A value with the step times a rate, over the denominators at hand. None where a number doesn't fit.
     #[inline(always)]
-    fn moved_over(&mut self, value: Frac, rate: Frac) -> Option<Frac>
+    fn moved_over(&mut self, value: &Ratio, rate: Frac) -> Option<Ratio>
         ensures same { self.new ≡ self.old }
-        ensures value { IfSome result (λ moved. moved ≡ value +ℚ self.old *ℚ rate) }
+        ensures value { IfSome result (λ moved. moved ≡ value.now +ℚ self.old *ℚ rate) }
     {
-        let value_number = numerator_over(value, self.values)?;
-        let rate_number = numerator_over(rate, self.rates)?;
-        let from_value = product(value_number, self.of_value)?;
-        let from_rate = product(rate_number, self.of_rate)?;
+        let value_number = numerator_over(value, self.value_denominator)?;
+        let rate_number = numerator_over(&Ratio::of(rate), self.rate_denominator)?;
+        let from_value = product(value_number, self.value_factor)?;
+        let from_rate = product(rate_number, self.rate_factor)?;
         let total = sum(from_value, from_rate)?;
         if let Some(part) = exact_quotient(total, self.shared) {
-            return Some(Frac::new(part, self.rest));
+            return Some(Ratio::new(part, self.rest));
         }
-        let denominator = product(self.shared, self.rest)?;
-        let moved = Frac::new(total, denominator);
-        let shared = exact_quotient(denominator, moved.den())?;
+        let left = Frac::new(total, self.shared);
+        let more = left.den();
+        let shared = exact_quotient(self.shared, more)?;
+        self.rest = product(self.rest, more)?;
         self.shared = shared;
-        self.rest = moved.den();
-        Some(moved)
+        Some(Ratio::new(left.num(), self.rest))
     }
 
     /// A value with the step times a rate. None where the step is a whole number, or a number on the way doesn't fit.
-    pub fn moved(&mut self, value: Frac, rate: Frac) -> Option<Frac>
+    pub fn moved(&mut self, value: &Ratio, rate: Frac) -> Option<Ratio>
         ensures same { self.new ≡ self.old }
-        ensures value { IfSome result (λ moved. moved ≡ value +ℚ self.old *ℚ rate) }
+        ensures value { IfSome result (λ moved. moved ≡ value.now +ℚ self.old *ℚ rate) }
     {
         if self.step.den() == 1 {
             return None;
@@ -147,12 +150,12 @@ impl ScaledStep {
         if let Some(moved) = self.moved_over(value, rate) {
             return Some(moved);
         }
-        let values = common_multiple(self.values, value)?;
-        let rates = common_multiple(self.rates, rate)?;
-        if values == self.values && rates == self.rates {
-            return None;
+        let value = value.reduced();
+        let values = common_multiple(self.value_denominator, value)?;
+        let rates = common_multiple(self.rate_denominator, rate)?;
+        if values != self.value_denominator || rates != self.rate_denominator {
+            *self = ScaledStep::over(self.step, values, rates)?;
         }
-        *self = ScaledStep::over(self.step, values, rates)?;
-        self.moved_over(value, rate)
+        self.moved_over(&Ratio::of(value), rate)
     }
 }

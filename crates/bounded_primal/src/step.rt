@@ -14,7 +14,7 @@ ghost use Rattle.bounded_primal.specs.Steps.{IsMoved, IsMovedAtLimits, MovedRefu
 use crate::kept::Kept;
 use crate::moves::{BlockingVariable, Move};
 use crate::scaled_step::ScaledStep;
-use basis_values::{Formula, plus_product, reach};
+use basis_values::{Formula, Ratio, plus_product, reach};
 use frac128::Frac;
 use lp_model::{Basis, Evidence, Lp, Rates, SparseVector, Status, Stop};
 
@@ -81,19 +81,19 @@ fn is_needed(lp: &Lp, kept: Kept, k: u32) -> bool
 /// The value of `i` after the step, and None where that is refused and it isn't `needed`.
 #[inline(always)]
 fn moved_if_possible(
-    value: Frac,
+    value: &Ratio,
     rate: Frac,
     step: &Move<'_>,
     scaled: &mut ScaledStep,
     i: u32,
     needed: bool,
-) -> Result<Option<Frac>, Evidence>
+) -> Result<Option<Ratio>, Evidence>
     requires { scaled.old ≡ step.now.by.now.step }
     ensures same { scaled.new ≡ scaled.old }
     ensures value { IfOk result
-        (λ found. IfSome found (λ moved. moved ≡ value +ℚ step.now.by.now.step *ℚ rate)) }
+        (λ found. IfSome found (λ moved. moved ≡ value.now +ℚ step.now.by.now.step *ℚ rate)) }
     ensures found { IfOk result (λ found. IsTrue needed → IsSome found) }
-    ensures refused { IfErr result (MovedRefused step.now.by.now.step rate value step.now.by.now.p
+    ensures refused { IfErr result (MovedRefused step.now.by.now.step rate value.now step.now.by.now.p
         step.now.q i) }
     ensures moves { OnErr result (rate ≢ zero_ℚ) }
     ensures needed { OnErr result (IsTrue needed) }
@@ -101,13 +101,14 @@ fn moved_if_possible(
     if let Some(moved) = scaled.moved(value, rate) {
         return Ok(Some(moved));
     }
+    let value = value.reduced();
     if let Some(moved) = quickly_moved(value, rate, step.by.step) {
-        return Ok(Some(moved));
+        return Ok(Some(Ratio::of(moved)));
     }
     match plainly_moved(value, rate, step.by, step.q, i) {
-        Ok(moved) => Ok(Some(moved)),
+        Ok(moved) => Ok(Some(Ratio::of(moved))),
         Err(evidence) => match plus_product(value, step.by.step, rate) {
-            Some(moved) => Ok(Some(moved)),
+            Some(moved) => Ok(Some(Ratio::of(moved))),
             None => { if needed { Err(evidence) } else { Ok(None) } }
         },
     }
@@ -116,7 +117,7 @@ fn moved_if_possible(
 /// Moves the values of the point that are `kept` by the step, and answers which are still kept after it: where not all are
 /// needed, a refused one of a variable without limits stays as it was. What has the rate 0 stays as it is, and isn't looked at; a step
 /// of 0 moves nothing.
-fn move_point(lp: &Lp, step: &Move<'_>, point: &mut [Frac], kept: Kept) -> Result<Kept, Evidence>
+fn move_point(lp: &Lp, step: &Move<'_>, point: &mut [Ratio], kept: Kept) -> Result<Kept, Evidence>
     requires direction_places { length step.now.direction.now ≡ size lp.now.matrix }
     requires point_places { length point.old ≡ size lp.now.matrix }
     ensures limited { OnOk result
@@ -142,7 +143,7 @@ fn move_point(lp: &Lp, step: &Move<'_>, point: &mut [Frac], kept: Kept) -> Resul
         if !needed && !still.has_all() {
             continue;
         }
-        let value = point[*k as usize - 1];
+        let value = &point[*k as usize - 1];
         let rate = direction[*k as usize - 1];
         let Some(next) = moved_if_possible(value, rate, step, &mut scaled, *k, needed)? else {
             still = Kept::Limited;
@@ -179,7 +180,7 @@ fn number_of(to: Status) -> u32
 /// The move of `q` that brings `p` to the limit of the status `to`.
 pub fn returning(
     lp: &Lp,
-    point: &[Frac],
+    point: &[Ratio],
     direction: &[Frac],
     q: u32,
     p: u32,
@@ -198,7 +199,7 @@ pub fn returning(
 {
     let number = number_of(to);
     let limit = limit_at(lp, p, to).unwrap_or(Frac::whole(0));
-    let value = point[p as usize - 1];
+    let value = point[p as usize - 1].reduced();
     let rate = direction[p as usize - 1];
     let distance = reach::formula(6, 0, p, number).difference(limit, value)?;
     let step = reach::formula(7, q, p, number).quotient(distance, rate)?;
@@ -245,7 +246,7 @@ pub fn step_over<R: Rates>(
     lp: &Lp,
     basis: &mut Basis,
     rates: &mut R,
-    point: &mut [Frac],
+    point: &mut [Ratio],
     step: &Move<'_>,
     kept: Kept,
 ) -> Result<Kept, Stop>

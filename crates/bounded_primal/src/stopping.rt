@@ -11,7 +11,7 @@ ghost use Rattle.bounded_primal.specs.Moves.{blocking_variable_of, BlockingVaria
 ghost use Rattle.basis_values.specs.Reach.{length_of, IsFirst, IsNearest, Reaches, SomeStepLengthRefused};
 
 use crate::moves::BlockingVariable;
-use basis_values::counted;
+use basis_values::{Ratio, counted};
 use basis_values::reach::{Reach, is_no_nearer, length_to, nearer, yields};
 use frac128::Frac;
 use lp_model::{Basis, Evidence, Lp, SparseVector, Status};
@@ -30,7 +30,7 @@ fn is_at_once(nearest: &Option<Reach>) -> bool
 /// search ends where a limit is reached at once, since none is reached sooner.
 fn nearest_by_lengths(
     lp: &Lp,
-    point: &[Frac],
+    point: &[Ratio],
     direction: &SparseVector,
     q: u32,
     up: bool,
@@ -60,7 +60,7 @@ fn nearest_by_lengths(
 }
 
 /// The nearest of the variables whose lengths can be computed.
-fn nearest_computed(lp: &Lp, point: &[Frac], direction: &[Frac], q: u32, up: bool) -> Option<Reach>
+fn nearest_computed(lp: &Lp, point: &[Ratio], direction: &[Frac], q: u32, up: bool) -> Option<Reach>
     requires point_places { length point.now ≡ size lp.now.matrix }
     requires direction_places { length direction.now ≡ size lp.now.matrix }
     ensures { IfSome result (Reaches (step_length lp.now (value_at point.now)
@@ -77,7 +77,7 @@ fn nearest_computed(lp: &Lp, point: &[Frac], direction: &[Frac], q: u32, up: boo
 }
 
 /// Whether the place of each variable shows that `first` reaches a limit first.
-fn is_first(lp: &Lp, point: &[Frac], direction: &[Frac], up: bool, first: &Reach) -> bool
+fn is_first(lp: &Lp, point: &[Ratio], direction: &[Frac], up: bool, first: &Reach) -> bool
     requires point_places { length point.now ≡ size lp.now.matrix }
     requires direction_places { length direction.now ≡ size lp.now.matrix }
     requires reaches { Reaches (step_length lp.now (value_at point.now)
@@ -94,7 +94,7 @@ fn is_first(lp: &Lp, point: &[Frac], direction: &[Frac], up: bool, first: &Reach
 }
 
 /// What reaches a limit first, where its length and the places of all variables after it can be computed.
-fn first_by_places(lp: &Lp, point: &[Frac], direction: &[Frac], q: u32, up: bool) -> Option<Reach>
+fn first_by_places(lp: &Lp, point: &[Ratio], direction: &[Frac], q: u32, up: bool) -> Option<Reach>
     requires point_places { length point.now ≡ size lp.now.matrix }
     requires direction_places { length direction.now ≡ size lp.now.matrix }
     ensures { IfSome result (IsFirst (step_length lp.now (value_at point.now)
@@ -112,7 +112,7 @@ fn first_by_places(lp: &Lp, point: &[Frac], direction: &[Frac], q: u32, up: bool
 /// by the places of the variables after the least of the others.
 fn nearest(
     lp: &Lp,
-    point: &[Frac],
+    point: &[Ratio],
     direction: &SparseVector,
     q: u32,
     up: bool,
@@ -148,7 +148,7 @@ fn limit_reached(speed: Frac) -> Status
 /// What `blocking_variable` answers, from the values of the variables that have a limit.
 pub fn blocking_variable_from(
     lp: &Lp,
-    point: &[Frac],
+    point: &[Ratio],
     direction: &SparseVector,
     q: u32,
     up: bool,
@@ -182,7 +182,7 @@ pub fn blocking_variable_from(
 pub fn blocking_variable(
     lp: &Lp,
     basis: &Basis,
-    point: &[Frac],
+    point: &[Ratio],
     direction: &SparseVector,
     q: u32,
     up: bool,

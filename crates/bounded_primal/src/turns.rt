@@ -21,7 +21,9 @@ use crate::moves::{BlockingVariable, PrimalStop};
 use crate::position::Position;
 use crate::step::returning;
 use crate::stopping::blocking_variable_from;
-use basis_values::{counted, fill_prices, is_minimized, lies_below, point_of, wrong_price};
+use basis_values::{
+    Ratio, counted, fill_prices, is_minimized, lies_below, point_of, wrong_price,
+};
 use frac128::Frac;
 use lp_model::{
     Basis, Direction, Lp, NoMemory, Outcome, Point, Prices, Rates, Ray, SparseVector, Status, Stop,
@@ -93,6 +95,17 @@ pub fn copied(alloc: Global, values: &[Frac]) -> Result<Vec<Frac>, NoMemory>
     ensures { IfOk result (λ copy. copy.items ≡ values.now) }
 {
     let copy = Vec::from_slice(alloc, values)?;
+    Ok(copy)
+}
+
+/// The values in lowest terms.
+pub fn reduced_values(alloc: Global, values: &[Ratio]) -> Result<Vec<Frac>, NoMemory>
+    ensures { IfOk result (λ copy. copy.items ≡ values.now) }
+{
+    let mut copy = Vec::with_capacity(alloc, values.len())?;
+    for value in values {
+        copy.push(value.reduced()).map_err(|_| NoMemory)?;
+    }
     Ok(copy)
 }
 
@@ -340,7 +353,7 @@ pub fn whole_point<R: Rates>(at: &Position<'_>, rates: &mut R) -> Result<Vec<Fra
     ensures overflow { PointOverflow result at.now.lp.now at.now.basis.now (R.state rates.old)
         (R.state rates.new) }
 {
-    let mut values = copied(at.alloc, at.point)?;
+    let mut values = reduced_values(at.alloc, at.point)?;
     if at.kept.has_all() {
         return Ok(values);
     }

@@ -3,12 +3,12 @@
 ghost use Rattle.std.specs.Prelude.{◌≡◌, length, replicate, IfOk, OnOk};
 ghost use Rattle.exact_values.specs.Rational.{zero_ℚ};
 ghost use Rattle.lp_definitions.specs.LinearProgram.{size, value_at, IsLinearProgram};
-ghost use Rattle.lp_definitions.specs.Basis.{ArePricesOf};
+ghost use Rattle.lp_definitions.specs.Basis.{ArePricesOf, IsPointOf};
 ghost use Rattle.basis_values.specs.Calls.{IsAtBasis, StaysAt};
 ghost use Rattle.basis_values.specs.Stops.{PointOverflow};
 ghost use Rattle.bounded_primal.specs.Workspaces.{AreSized};
 
-use basis_values::fill_prices;
+use basis_values::{Ratio, fill_prices, point_of};
 use frac128::Frac;
 use lp_model::{Basis, Lp, NoMemory, Rates, SparseVector, Stop};
 use std::alloc::Global;
@@ -18,7 +18,7 @@ use std::alloc::Global;
 #[derive(Drop)]
 pub struct Workspace {
     pub alloc: Global,
-    pub point: Vec<Frac>,
+    pub point: Vec<Ratio>,
     pub prices: Vec<Frac>,
     pub row: Vec<Frac>,
     pub direction: SparseVector,
@@ -32,6 +32,27 @@ pub fn zeroed(alloc: Global, size: usize) -> Result<Vec<Frac>, NoMemory>
     Ok(values)
 }
 
+/// The values as ratios.
+pub fn ratios_of(alloc: Global, values: &[Frac]) -> Result<Vec<Ratio>, NoMemory>
+    ensures { IfOk result (λ made. made.items ≡ values.now) }
+{
+    let mut made = Vec::with_capacity(alloc, values.len())?;
+    for value in values {
+        made.push(Ratio::of(*value)).map_err(|_| NoMemory)?;
+    }
+    Ok(made)
+}
+
+/// Makes the values of one vector those of another.
+pub fn copy_ratios(from: &[Frac], to: &mut [Ratio])
+    requires { length from.now ≡ length to.old }
+    ensures { to.new ≡ from.now }
+{
+    for (place, value) in from.iter().enumerate() {
+        to[place] = Ratio::of(*value);
+    }
+}
+
 impl Workspace {
     /// Vectors that are yet to be filled.
     pub fn new(alloc: Global, lp: &Lp) -> Result<Workspace, NoMemory>
@@ -40,11 +61,31 @@ impl Workspace {
         let size = lp.number_of_variables() as usize;
         Ok(Workspace {
             alloc,
-            point: zeroed(alloc, size)?,
+            point: ratios_of(alloc, &zeroed(alloc, size)?)?,
             prices: zeroed(alloc, size)?,
             row: zeroed(alloc, size)?,
             direction: SparseVector::zeros(alloc, size)?,
         })
+    }
+
+    /// Fills the point with that of the basis. The row is room.
+    pub fn fill_point<R: Rates>(
+        &mut self,
+        lp: &Lp,
+        basis: &Basis,
+        rates: &mut R,
+    ) -> Result<(), Stop>
+        requires rates { IsAtBasis (R.state rates.old) lp.now basis.now }
+        requires sized { AreSized (size lp.now.matrix) self.old }
+        ensures sized { AreSized (size lp.now.matrix) self.new }
+        ensures point { OnOk result (IsPointOf lp.now basis.now (value_at self.new.point.items)) }
+        ensures rates { StaysAt (R.state rates.old) (R.state rates.new) lp.now basis.now }
+        ensures overflow { PointOverflow result lp.now basis.now (R.state rates.old)
+            (R.state rates.new) }
+    {
+        point_of(self.alloc, lp, basis, rates, &mut self.row)?;
+        copy_ratios(&self.row, &mut self.point);
+        Ok(())
     }
 
     /// Fills the prices with those of the basis. The row is room.

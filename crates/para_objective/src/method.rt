@@ -8,7 +8,7 @@ use bounded_primal::{PrimalStop, copied, primal};
 use dual_step::read_row;
 use frac128::Frac;
 use lp_model::{Basis, Change, Lp, Outcome, ParaPart, Point, Rates, Stop};
-use parametric_run::{FaceStep, Parametric, Span, Workspace, point_with, prices_with, still_point};
+use parametric_run::{FaceStep, Parametric, Span, Workspace, prices_with, reduced_point, still_point};
 use std::alloc::Global;
 
 /// A linear program, and a row without limits: theta times the row is added to the objective.
@@ -94,7 +94,7 @@ impl<'a> Parametric for Objective<'a> {
         };
         let alloc = workspace.alloc;
         let statuses = basis.copy(alloc)?;
-        let value = point_with(alloc, &workspace.point)?;
+        let value = reduced_point(alloc, &workspace.point)?;
         let value_rate = still_point(alloc, self.lp)?;
         let price = prices_with(alloc, &workspace.prices)?;
         let price_rate = prices_with(alloc, &workspace.change)?;

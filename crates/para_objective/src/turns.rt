@@ -16,7 +16,7 @@ use crate::choices::worth;
 use bounded_primal::{BlockingVariable, blocking_variable, signed_direction};
 use frac128::Frac;
 use lp_model::{Basis, Lp, NoMemory, ParaEnd, Rates, Stop};
-use parametric_run::{Workspace, point_with};
+use parametric_run::{Workspace, reduced_point};
 
 /// Whether a variable with this rate of the change row rises to better it.
 fn rises_by(lp: &Lp, change: &[Frac], q: u32) -> bool
@@ -82,7 +82,7 @@ pub fn unbounded_end(
         (value_at workspace.now.direction) up) }
 {
     let alloc = workspace.alloc;
-    let point = point_with(alloc, &workspace.point)?;
+    let point = reduced_point(alloc, &workspace.point)?;
     let direction = signed_direction(alloc, lp, workspace.direction.values(), up)?;
     Ok(ParaEnd::Unbounded {
         past: theta,

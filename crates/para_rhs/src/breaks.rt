@@ -11,6 +11,7 @@ ghost use Rattle.para_rhs.specs.Breaks.{leaving_side, IsLeaverOf, IsFaceLeaver};
 ghost use Rattle.para_rhs.specs.Reach.{VariableRefused, SomeVariableRefused};
 ghost use Rattle.para_rhs.specs.Refusals.{RunRefused};
 
+use bounded_primal::Ratio;
 use crate::limits::Side;
 use crate::reaching::approach_of;
 use frac128::Frac;
@@ -62,7 +63,7 @@ fn leaving_side(
 fn leaver_by(
     lp: &Lp,
     shift: &[Frac],
-    value: &[Frac],
+    value: &[Ratio],
     slope: &[Frac],
     theta: Frac,
 ) -> Result<Option<Leaver>, Evidence>
@@ -76,7 +77,7 @@ fn leaver_by(
         (value_at slope.now)) }
 {
     for k in 0..lp.number_of_variables() {
-        let here = value[k as usize];
+        let here = value[k as usize].reduced();
         let rate = slope[k as usize];
         if let Some(side) = leaving_side(lp, shift, here, rate, theta, k + 1)? {
             return Ok(Some(Leaver { r: k + 1, side }));
@@ -90,7 +91,7 @@ fn leaver_by(
 pub fn face_leaver(
     lp: &Lp,
     basis: &Basis,
-    value: &[Frac],
+    value: &[Ratio],
     slope: &[Frac],
     shift: &[Frac],
     theta: Frac,

@@ -10,7 +10,7 @@ use bounded_primal::{PrimalStop, primal};
 use frac128::Frac;
 use lp_model::{Basis, Lp, Outcome, ParaPart, Point, Rates, Stop};
 use parametric_run::{
-    FaceStep, Parametric, Span, Workspace, point_with, prices_with, still_prices, zeros,
+    FaceStep, Parametric, Span, Workspace, point_with, prices_with, reduced_point, still_prices, zeros,
 };
 use std::alloc::Global;
 
@@ -100,7 +100,7 @@ impl<'a> Parametric for RightHandSide<'a> {
         };
         let alloc = workspace.alloc;
         let statuses = basis.copy(alloc)?;
-        let value = point_with(alloc, &workspace.point)?;
+        let value = reduced_point(alloc, &workspace.point)?;
         let value_rate = point_with(alloc, &workspace.change)?;
         let price = prices_with(alloc, &workspace.prices)?;
         let price_rate = still_prices(alloc, self.lp)?;

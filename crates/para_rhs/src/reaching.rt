@@ -13,6 +13,7 @@ ghost use Rattle.para_rhs.specs.Limits.{number_of};
 ghost use Rattle.para_rhs.specs.Reach.{side_ahead, bound_of, IsApproachOf, limit_sides, IsNarrowed, high_of, IsReachOf, IsReachFromAny, basic_formula, VariableRefused, SomeVariableRefused};
 ghost use Rattle.para_rhs.specs.Refusals.{RunRefused};
 
+use bounded_primal::Ratio;
 use crate::limits::{Side, is_upper, limit_on, number_of, shift_of};
 use affine_laws::{Endpoint, Ends, ProductBound, tightened};
 use basis_values::Formula;
@@ -153,7 +154,7 @@ fn high_end(ends: &Ends, max: Frac) -> Frac
 fn ends_by(
     lp: &Lp,
     shift: &[Frac],
-    value: &[Frac],
+    value: &[Ratio],
     slope: &[Frac],
     max: Frac,
 ) -> Result<Ends, Evidence>
@@ -176,7 +177,7 @@ fn ends_by(
         }),
     };
     for k in 0..lp.number_of_variables() {
-        let here = value[k as usize];
+        let here = value[k as usize].reduced();
         let rate = slope[k as usize];
         ends = with_variable(lp, shift, ends, here, rate, k + 1)?;
     }
@@ -188,7 +189,7 @@ fn ends_by(
 pub fn reach(
     lp: &Lp,
     basis: &Basis,
-    value: &[Frac],
+    value: &[Ratio],
     slope: &[Frac],
     shift: &[Frac],
     max: Frac,

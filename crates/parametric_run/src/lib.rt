@@ -11,4 +11,6 @@ mod workspace;
 
 pub use method::{FaceStep, Parametric, Span};
 pub use run::follow;
-pub use workspace::{Workspace, point_with, prices_with, still_point, still_prices, zeros};
+pub use workspace::{
+    Workspace, point_with, prices_with, reduced_point, still_point, still_prices, zeros,
+};

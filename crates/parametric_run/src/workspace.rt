@@ -11,7 +11,9 @@ ghost use Rattle.simplex_definitions.specs.Path.{after};
 ghost use Rattle.bounded_primal.specs.Moves.{IsStepBy, StepOverflow, move_by};
 ghost use Rattle.parametric_run.specs.Standing.{AreSized, IsReady};
 
-use bounded_primal::{BlockingVariable, Kept, Move, copied, step_over, zeroed};
+use bounded_primal::{
+    BlockingVariable, Kept, Move, Ratio, copied, ratios_of, reduced_values, step_over, zeroed,
+};
 use frac128::Frac;
 use lp_model::{Basis, Lp, NoMemory, Point, Prices, Rates, SparseVector, Stop};
 use std::alloc::Global;
@@ -21,7 +23,7 @@ use std::alloc::Global;
 #[derive(Drop)]
 pub struct Workspace {
     pub alloc: Global,
-    pub point: Vec<Frac>,
+    pub point: Vec<Ratio>,
     pub prices: Vec<Frac>,
     pub change: Vec<Frac>,
     pub row: Vec<Frac>,
@@ -32,12 +34,12 @@ impl Workspace {
     /// The vectors of a basis with this point; the others are yet to be filled.
     pub fn with_point(alloc: Global, point: Vec<Frac>) -> Result<Workspace, NoMemory>
         ensures sized { IfOk result (AreSized (length point.items)) }
-        ensures point { IfOk result (λ workspace. workspace.point ≡ point) }
+        ensures point { IfOk result (λ workspace. workspace.point.items ≡ point.items) }
     {
         let size = point.len();
         Ok(Workspace {
             alloc,
-            point,
+            point: ratios_of(alloc, &point)?,
             prices: zeroed(alloc, size)?,
             change: zeroed(alloc, size)?,
             row: zeroed(alloc, size)?,
@@ -106,6 +108,14 @@ pub fn point_with(alloc: Global, values: &[Frac]) -> Result<Point, NoMemory>
     Ok(Point::new(values))
 }
 
+/// The point with these values, which may not be in lowest terms.
+pub fn reduced_point(alloc: Global, values: &[Ratio]) -> Result<Point, NoMemory>
+    ensures { IfOk result (λ point. point ≡ values.now) }
+{
+    let values = reduced_values(alloc, values)?;
+    Ok(Point::new(values))
+}
+
 /// The prices with these values.
 pub fn prices_with(alloc: Global, values: &[Frac]) -> Result<Prices, NoMemory>
     ensures { IfOk result (λ prices. prices ≡ values.now) }
@@ -142,7 +152,7 @@ fn step_along<R: Rates>(
     lp: &Lp,
     basis: &mut Basis,
     rates: &mut R,
-    point: &mut [Frac],
+    point: &mut [Ratio],
     direction: &SparseVector,
     stopped: &StoppedMove<'_>,
 ) -> Result<(), Stop>
