@@ -9,10 +9,9 @@ ghost use Rattle.simplex_definitions.specs.Moves.{least, is_crossed, is_below, i
 ghost use Rattle.basis_values.specs.Motions.{motion};
 ghost use Rattle.basis_values.specs.Prices.{worth_by};
 
-use crate::ratio::Ratio;
 use crate::wants::want_of;
 use frac128::Frac;
-use lp_model::{Basis, Lp, Sense, Status};
+use lp_model::{Basis, Lp, Ratio, Sense, Status};
 
 /// The value as it counts upward or downward.
 pub fn counted(value: Frac, up: bool) -> Frac

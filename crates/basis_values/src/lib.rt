@@ -7,7 +7,6 @@ mod choices;
 mod formula;
 mod point;
 mod prices;
-mod ratio;
 pub mod reach;
 mod wants;
 mod word_terms;
@@ -19,5 +18,4 @@ pub use choices::{
 pub use formula::{Formula, plus_product};
 pub use point::{point_at, point_of};
 pub use prices::{fill_prices, prices_at, prices_of};
-pub use ratio::Ratio;
 pub use wants::{renew_wants, wants_of};

@@ -9,10 +9,9 @@ ghost use Rattle.basis_values.specs.Reach.{StepLengthRefused, IsAhead, Yields, s
 
 use crate::choices::counted;
 use crate::formula::{Formula, plus_product};
-use crate::ratio::Ratio;
 use crate::word_terms::lasts;
-use frac128::Frac;
-use lp_model::{Evidence, Lp};
+use frac128::{Frac, product, sum};
+use lp_model::{Evidence, Lp, Ratio};
 
 /// A variable that reaches a limit after this length.
 #[derive(Clone, Copy)]
@@ -59,11 +58,11 @@ pub fn length_formula(q: u32, k: u32, term: u32) -> Formula
 
 /// The limit ahead of `k`, which moves at this speed.
 #[inline(always)]
-fn limit_before(lp: &Lp, speed: Frac, k: u32) -> Option<Ahead>
+fn limit_before(lp: &Lp, rate: &Ratio, up: bool, k: u32) -> Option<Ahead>
     requires { IsVariable lp.now.matrix k }
-    ensures { IsAhead lp.now (λ _. speed) k result }
+    ensures { IsAhead lp.now (λ _. signed up rate.now) k result }
 {
-    let sign = speed.sign();
+    let sign = if up { rate.sign() } else { -rate.sign() };
     if sign > 0 {
         let upper = lp.upper_limit(k)?;
         Some(Ahead {
@@ -85,7 +84,7 @@ fn limit_before(lp: &Lp, speed: Frac, k: u32) -> Option<Ahead>
 pub fn length_to(
     lp: &Lp,
     point: &[Ratio],
-    direction: &[Frac],
+    direction: &[Ratio],
     up: bool,
     q: u32,
     k: u32,
@@ -98,15 +97,29 @@ pub fn length_to(
     ensures refused { IfErr result (StepLengthRefused lp.now (value_at point.now)
         (value_at direction.now) up q k) }
 {
-    let rate = direction[k as usize - 1];
-    let speed = counted(rate, up);
-    let Some(ahead) = limit_before(lp, speed, k) else {
+    let rate = &direction[k as usize - 1];
+    let Some(ahead) = limit_before(lp, rate, up, k) else {
         return Ok(None);
     };
+    let rate = rate.reduced();
     let value = point[k as usize - 1].reduced();
     let distance = formula(6, 0, k, ahead.term).difference(ahead.limit, value)?;
     let change = formula(7, q, k, ahead.term).quotient(distance, rate)?;
     Ok(Some(counted(change, up)))
+}
+
+/// A whole number less a value, with no greatest common divisor. None where the limit isn't a whole number, or a number doesn't fit.
+#[inline(always)]
+fn whole_less(limit: Frac, value: &Ratio) -> Option<Ratio>
+    ensures { IfSome result (λ distance. distance ≡ limit -ℚ value.now) }
+{
+    if limit.den() != 1 {
+        return None;
+    }
+    let (num, den) = value.terms();
+    let scaled = product(limit.num(), den)?;
+    let left = sum(scaled, -num)?;
+    Some(Ratio::new(left, den))
 }
 
 /// A limit less a value. None where a number doesn't fit.
@@ -114,18 +127,29 @@ pub fn length_to(
 fn distance_to(limit: Frac, value: &Ratio) -> Option<Ratio>
     ensures { IfSome result (λ distance. distance ≡ limit -ℚ value.now) }
 {
-    if let Some(distance) = value.distance_to(limit) {
+    if limit.is_zero() {
+        return Some(value.neg());
+    }
+    if let Some(distance) = whole_less(limit, value) {
         return Some(distance);
     }
     let distance = limit.sub(value.reduced()).ok()?;
     Some(Ratio::of(distance))
 }
 
+/// The number, or its opposite where it doesn't count upward.
+#[inline(always)]
+fn counted_ratio(value: &Ratio, up: bool) -> Ratio
+    ensures { result ≡ signed up value.now }
+{
+    if up { value.copy() } else { value.neg() }
+}
+
 /// Whether it is seen without a quotient that `k` is no nearer than what is nearest so far.
 pub fn is_no_nearer(
     lp: &Lp,
     point: &[Ratio],
-    direction: &[Frac],
+    direction: &[Ratio],
     up: bool,
     nearest: &Option<Reach>,
     k: u32,
@@ -136,8 +160,8 @@ pub fn is_no_nearer(
     ensures { IsTrue result → sooner nearest.now (step_length lp.now (value_at point.now)
         (motion (value_at direction.now) up) k) k ≡ nearest.now }
 {
-    let speed = counted(direction[k as usize - 1], up);
-    let Some(ahead) = limit_before(lp, speed, k) else {
+    let rate = &direction[k as usize - 1];
+    let Some(ahead) = limit_before(lp, rate, up, k) else {
         return true;
     };
     let Some(nearest) = nearest else {
@@ -146,10 +170,10 @@ pub fn is_no_nearer(
     let Some(distance) = distance_to(ahead.limit, &point[k as usize - 1]) else {
         return false;
     };
-    let rises = Frac::whole(0).is_less(speed);
-    let distance = if rises { distance } else { distance.neg() };
-    let speed = counted(speed, rises);
-    lasts(&distance, speed, nearest.length).unwrap_or(false)
+    let rises = ahead.term == 2;
+    let distance = counted_ratio(&distance, rises);
+    let speed = counted_ratio(rate, rises == up);
+    lasts(&distance, &speed, nearest.length).unwrap_or(false)
 }
 
 /// What is nearer: what was nearest so far, or `k` at this length.
@@ -173,17 +197,18 @@ pub fn nearer(nearest: Option<Reach>, length: Option<Frac>, k: u32) -> Option<Re
 /// Whether `k` lets `first` stop the move: after the length of `first` it hasn't passed the limit ahead of it, nor reached it where its
 /// number is the smaller. This follows from its place there, so no length of its own is needed; and nothing follows where the place
 /// can't be computed.
-pub fn yields(lp: &Lp, point: &[Ratio], direction: &[Frac], up: bool, first: &Reach, k: u32) -> bool
+pub fn yields(lp: &Lp, point: &[Ratio], direction: &[Ratio], up: bool, first: &Reach, k: u32) -> bool
     requires variable { IsVariable lp.now.matrix k }
     requires point_places { length point.now ≡ size lp.now.matrix }
     requires direction_places { length direction.now ≡ size lp.now.matrix }
     ensures { IsTrue result → Yields (step_length lp.now (value_at point.now)
         (motion (value_at direction.now) up)) first.now k }
 {
-    let speed = counted(direction[k as usize - 1], up);
-    let Some(ahead) = limit_before(lp, speed, k) else {
+    let rate = &direction[k as usize - 1];
+    let Some(ahead) = limit_before(lp, rate, up, k) else {
         return true;
     };
+    let speed = counted(rate.reduced(), up);
     let value = point[k as usize - 1].reduced();
     let Some(place) = plus_product(value, first.length, speed) else {
         return false;

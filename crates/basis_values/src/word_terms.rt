@@ -4,8 +4,8 @@ ghost use Rattle.std.specs.Prelude.{◌≡◌, ◌*◌, ◌+◌, ◌^◌, ◌<�
 ghost use Rattle.exact_values.specs.Rational.{◌≤ℚ◌, ◌/ℚ◌};
 ghost use Rattle.basis_values.specs.WordTerms.{AreTermsOf};
 
-use crate::ratio::Ratio;
 use frac128::Frac;
+use lp_model::Ratio;
 
 /// The least number of more than one machine word.
 const BASE: u128 = 1 << 64;
@@ -72,11 +72,11 @@ fn is_at_most(x: &Long, y: &Long) -> bool
 /// Whether a distance over a speed is at least a length, as the product of the length and the speed shows it, where their terms are
 /// words.
 #[inline(always)]
-pub fn lasts(distance: &Ratio, speed: Frac, length: Frac) -> Option<bool>
-    ensures { IfSome result (λ lasts. IsTrue lasts → length ≤ℚ distance.now /ℚ speed) }
+pub fn lasts(distance: &Ratio, speed: &Ratio, length: Frac) -> Option<bool>
+    ensures { IfSome result (λ lasts. IsTrue lasts → length ≤ℚ distance.now /ℚ speed.now) }
 {
     let d = words_of_ratio(distance)?;
-    let s = words_of(speed)?;
+    let s = words_of_ratio(speed)?;
     let l = words_of(length)?;
     if s.top == 0 {
         return None;

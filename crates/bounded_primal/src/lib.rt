@@ -14,7 +14,7 @@ mod stopping;
 mod turns;
 mod workspace;
 
-pub use basis_values::{Formula, Ratio, counted, may_lower, plus_product, point_of, prices_of};
+pub use basis_values::{Formula, counted, may_lower, plus_product, point_of, prices_of};
 pub use beginning::opening;
 pub use free_path::primal_free;
 pub use kept::Kept;
@@ -24,7 +24,7 @@ pub use position::Position;
 pub use step::{returning, step_over};
 pub use stopping::blocking_variable;
 pub use turns::{
-    Turn, best, copied, limit_broken, ray_of, reduced_values, return_along, signed_direction,
+    Turn, best, copied, limit_broken, ray_of, return_along, signed_direction,
     whole_point,
 };
-pub use workspace::{Workspace, ratios_of, zeroed};
+pub use workspace::{Workspace, zeroed};

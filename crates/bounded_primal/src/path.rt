@@ -22,8 +22,8 @@ use crate::position::Position;
 use crate::step::step_over;
 use crate::turns::{Turn, next_turn};
 use crate::workspace::Workspace;
-use basis_values::{Ratio, crossed, outside, renew_wants, wants_of};
-use lp_model::{Basis, Lp, Outcome, Rates, Stop, Wanted};
+use basis_values::{crossed, outside, renew_wants, wants_of};
+use lp_model::{Basis, Lp, Outcome, Rates, Ratio, Stop, Wanted};
 use std::alloc::Global;
 
 /// The least-numbered basic outside its limits after a step. Where there was none before the step, there is none.

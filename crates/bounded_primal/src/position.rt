@@ -4,8 +4,7 @@ ghost use Rattle.std.specs.Prelude.{◌≡◌, length};
 ghost use Rattle.lp_definitions.specs.LinearProgram.{size};
 
 use crate::kept::Kept;
-use basis_values::Ratio;
-use lp_model::{Basis, Lp};
+use lp_model::{Basis, Lp, Ratio};
 use std::alloc::Global;
 
 /// Where a path stands: its linear program and its basis, the least-numbered basic outside its limits, which is `broken`, how many steps

@@ -5,7 +5,7 @@ ghost use Rattle.std.specs.Prelude.{◌≡◌, ◌<◌, ◌≤ℤ◌, ◌*ℤ◌
 ghost use Rattle.exact_values.specs.Rational.{whole, ◌+ℚ◌, ◌*ℚ◌};
 ghost use Rattle.frac128.specs.Terms.{Fits};
 
-use basis_values::Ratio;
+use lp_model::Ratio;
 use frac128::{Frac, product, sum};
 use std::marker::Model;
 
@@ -32,13 +32,6 @@ impl Model for ScaledStep {
     ghost view = { λ s. s.step };
 
     ghost invariant = { IsScaled };
-}
-
-/// The denominator of a fraction. None where it isn't one machine word.
-fn denominator(x: Frac) -> Option<u64>
-    ensures { IfSome result (λ d. d ≡ x.denominator) }
-{
-    u64::try_from(x.den()).ok()
 }
 
 /// The numerator of a fraction over a common denominator. None where that is no multiple of its own, or the numerator doesn't fit.
@@ -71,13 +64,32 @@ fn exact_quotient(n: i128, by: i128) -> Option<i128>
 }
 
 /// A common multiple of a denominator and that of a fraction.
-fn common_multiple(common: u64, x: Frac) -> Option<u64>
+fn common_multiple(common: u64, x: &Ratio) -> Option<u64>
     requires { 0 < common }
     ensures { IfSome result (λ multiple. 0 < multiple) }
 {
-    let den = denominator(x)?;
-    let factor = denominator(Frac::new(common as i128, den as i128))?;
-    common.checked_mul(factor)
+    let (_, den) = x.terms();
+    if common == 1 {
+        return u64::try_from(den).ok();
+    }
+    if den == common as i128 {
+        return Some(common);
+    }
+    let factor = Frac::new(common as i128, den).num();
+    let factor = u64::try_from(factor).ok()?;
+    let den = u64::try_from(den).ok()?;
+    factor.checked_mul(den)
+}
+
+/// The same number, in lowest terms where its denominator is another one than the one at hand, if there is one.
+fn fitting(common: u64, x: &Ratio) -> Ratio
+    ensures { result ≡ x.now }
+{
+    let (_, den) = x.terms();
+    if common == 1 || den == common as i128 {
+        return x.copy();
+    }
+    Ratio::of(x.reduced())
 }
 
 impl ScaledStep {
@@ -119,12 +131,12 @@ impl ScaledStep {
 
     /// A value with the step times a rate, over the denominators at hand. None where a number doesn't fit.
     #[inline(always)]
-    fn moved_over(&mut self, value: &Ratio, rate: Frac) -> Option<Ratio>
+    fn moved_over(&mut self, value: &Ratio, rate: &Ratio) -> Option<Ratio>
         ensures same { self.new ≡ self.old }
-        ensures value { IfSome result (λ moved. moved ≡ value.now +ℚ self.old *ℚ rate) }
+        ensures value { IfSome result (λ moved. moved ≡ value.now +ℚ self.old *ℚ rate.now) }
     {
         let value_number = numerator_over(value, self.value_denominator)?;
-        let rate_number = numerator_over(&Ratio::of(rate), self.rate_denominator)?;
+        let rate_number = numerator_over(rate, self.rate_denominator)?;
         let from_value = product(value_number, self.value_factor)?;
         let from_rate = product(rate_number, self.rate_factor)?;
         let total = sum(from_value, from_rate)?;
@@ -140,9 +152,9 @@ impl ScaledStep {
     }
 
     /// A value with the step times a rate. None where the step is a whole number, or a number on the way doesn't fit.
-    pub fn moved(&mut self, value: &Ratio, rate: Frac) -> Option<Ratio>
+    pub fn moved(&mut self, value: &Ratio, rate: &Ratio) -> Option<Ratio>
         ensures same { self.new ≡ self.old }
-        ensures value { IfSome result (λ moved. moved ≡ value.now +ℚ self.old *ℚ rate) }
+        ensures value { IfSome result (λ moved. moved ≡ value.now +ℚ self.old *ℚ rate.now) }
     {
         if self.step.den() == 1 {
             return None;
@@ -150,12 +162,13 @@ impl ScaledStep {
         if let Some(moved) = self.moved_over(value, rate) {
             return Some(moved);
         }
-        let value = value.reduced();
-        let values = common_multiple(self.value_denominator, value)?;
-        let rates = common_multiple(self.rate_denominator, rate)?;
+        let value = fitting(self.value_denominator, value);
+        let rate = fitting(self.rate_denominator, rate);
+        let values = common_multiple(self.value_denominator, &value)?;
+        let rates = common_multiple(self.rate_denominator, &rate)?;
         if values != self.value_denominator || rates != self.rate_denominator {
             *self = ScaledStep::over(self.step, values, rates)?;
         }
-        self.moved_over(&Ratio::of(value), rate)
+        self.moved_over(&value, &rate)
     }
 }

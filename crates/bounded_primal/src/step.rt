@@ -14,9 +14,9 @@ ghost use Rattle.bounded_primal.specs.Steps.{IsMoved, IsMovedAtLimits, MovedRefu
 use crate::kept::Kept;
 use crate::moves::{BlockingVariable, Move};
 use crate::scaled_step::ScaledStep;
-use basis_values::{Formula, Ratio, plus_product, reach};
+use basis_values::{Formula, plus_product, reach};
 use frac128::Frac;
-use lp_model::{Basis, Evidence, Lp, Rates, SparseVector, Status, Stop};
+use lp_model::{Basis, Evidence, Lp, Rates, Ratio, SparseVector, Status, Stop};
 
 /// Formula 8 or 9 of the variable `i`, where `q` moves until `p` stops it.
 fn formula(number: u8, p: u32, q: u32, i: u32) -> Formula
@@ -78,38 +78,34 @@ fn is_needed(lp: &Lp, kept: Kept, k: u32) -> bool
     kept.needs_all() || has_limit(lp, k)
 }
 
-/// The value of `i` after the step, and None where that is refused and it isn't `needed`.
+/// The value of `i` after the step.
 #[inline(always)]
-fn moved_if_possible(
+fn moved(
     value: &Ratio,
-    rate: Frac,
+    rate: &Ratio,
     step: &Move<'_>,
     scaled: &mut ScaledStep,
     i: u32,
-    needed: bool,
-) -> Result<Option<Ratio>, Evidence>
+) -> Result<Ratio, Evidence>
     requires { scaled.old ≡ step.now.by.now.step }
     ensures same { scaled.new ≡ scaled.old }
-    ensures value { IfOk result
-        (λ found. IfSome found (λ moved. moved ≡ value.now +ℚ step.now.by.now.step *ℚ rate)) }
-    ensures found { IfOk result (λ found. IsTrue needed → IsSome found) }
-    ensures refused { IfErr result (MovedRefused step.now.by.now.step rate value.now step.now.by.now.p
-        step.now.q i) }
-    ensures moves { OnErr result (rate ≢ zero_ℚ) }
-    ensures needed { OnErr result (IsTrue needed) }
+    ensures value { IfOk result (λ moved. moved ≡ value.now +ℚ step.now.by.now.step *ℚ rate.now) }
+    ensures refused { IfErr result (MovedRefused step.now.by.now.step rate.now value.now
+        step.now.by.now.p step.now.q i) }
+    ensures moves { OnErr result (rate.now ≢ zero_ℚ) }
 {
     if let Some(moved) = scaled.moved(value, rate) {
-        return Ok(Some(moved));
+        return Ok(moved);
     }
-    let value = value.reduced();
+    let (value, rate) = (value.reduced(), rate.reduced());
     if let Some(moved) = quickly_moved(value, rate, step.by.step) {
-        return Ok(Some(Ratio::of(moved)));
+        return Ok(Ratio::of(moved));
     }
     match plainly_moved(value, rate, step.by, step.q, i) {
-        Ok(moved) => Ok(Some(Ratio::of(moved))),
+        Ok(moved) => Ok(Ratio::of(moved)),
         Err(evidence) => match plus_product(value, step.by.step, rate) {
-            Some(moved) => Ok(Some(Ratio::of(moved))),
-            None => { if needed { Err(evidence) } else { Ok(None) } }
+            Some(moved) => Ok(Ratio::of(moved)),
+            None => Err(evidence),
         },
     }
 }
@@ -139,17 +135,19 @@ fn move_point(lp: &Lp, step: &Move<'_>, point: &mut [Ratio], kept: Kept) -> Resu
     let direction = step.direction.values();
     let moving = step.direction.nonzero();
     for k in moving {
-        let needed = is_needed(lp, kept, *k);
-        if !needed && !still.has_all() {
+        if !still.has_all() && !is_needed(lp, kept, *k) {
             continue;
         }
-        let value = &point[*k as usize - 1];
-        let rate = direction[*k as usize - 1];
-        let Some(next) = moved_if_possible(value, rate, step, &mut scaled, *k, needed)? else {
-            still = Kept::Limited;
-            continue;
-        };
-        point[*k as usize - 1] = next;
+        let place = *k as usize - 1;
+        match moved(&point[place], &direction[place], step, &mut scaled, *k) {
+            Ok(next) => point[place] = next,
+            Err(evidence) => {
+                if is_needed(lp, kept, *k) {
+                    return Err(evidence);
+                }
+                still = Kept::Limited;
+            }
+        }
     }
     Ok(still)
 }
@@ -181,7 +179,7 @@ fn number_of(to: Status) -> u32
 pub fn returning(
     lp: &Lp,
     point: &[Ratio],
-    direction: &[Frac],
+    direction: &[Ratio],
     q: u32,
     p: u32,
     to: Status,
@@ -200,7 +198,7 @@ pub fn returning(
     let number = number_of(to);
     let limit = limit_at(lp, p, to).unwrap_or(Frac::whole(0));
     let value = point[p as usize - 1].reduced();
-    let rate = direction[p as usize - 1];
+    let rate = direction[p as usize - 1].reduced();
     let distance = reach::formula(6, 0, p, number).difference(limit, value)?;
     let step = reach::formula(7, q, p, number).quotient(distance, rate)?;
     Ok(BlockingVariable { p, step, to })

@@ -11,10 +11,10 @@ ghost use Rattle.bounded_primal.specs.Moves.{blocking_variable_of, BlockingVaria
 ghost use Rattle.basis_values.specs.Reach.{length_of, IsFirst, IsNearest, Reaches, SomeStepLengthRefused};
 
 use crate::moves::BlockingVariable;
-use basis_values::{Ratio, counted};
+use basis_values::counted;
 use basis_values::reach::{Reach, is_no_nearer, length_to, nearer, yields};
 use frac128::Frac;
-use lp_model::{Basis, Evidence, Lp, SparseVector, Status};
+use lp_model::{Basis, Evidence, Lp, Ratio, SparseVector, Status};
 
 /// Whether a limit is reached at once.
 fn is_at_once(nearest: &Option<Reach>) -> bool
@@ -60,7 +60,7 @@ fn nearest_by_lengths(
 }
 
 /// The nearest of the variables whose lengths can be computed.
-fn nearest_computed(lp: &Lp, point: &[Ratio], direction: &[Frac], q: u32, up: bool) -> Option<Reach>
+fn nearest_computed(lp: &Lp, point: &[Ratio], direction: &[Ratio], q: u32, up: bool) -> Option<Reach>
     requires point_places { length point.now ≡ size lp.now.matrix }
     requires direction_places { length direction.now ≡ size lp.now.matrix }
     ensures { IfSome result (Reaches (step_length lp.now (value_at point.now)
@@ -77,7 +77,7 @@ fn nearest_computed(lp: &Lp, point: &[Ratio], direction: &[Frac], q: u32, up: bo
 }
 
 /// Whether the place of each variable shows that `first` reaches a limit first.
-fn is_first(lp: &Lp, point: &[Ratio], direction: &[Frac], up: bool, first: &Reach) -> bool
+fn is_first(lp: &Lp, point: &[Ratio], direction: &[Ratio], up: bool, first: &Reach) -> bool
     requires point_places { length point.now ≡ size lp.now.matrix }
     requires direction_places { length direction.now ≡ size lp.now.matrix }
     requires reaches { Reaches (step_length lp.now (value_at point.now)
@@ -94,7 +94,7 @@ fn is_first(lp: &Lp, point: &[Ratio], direction: &[Frac], up: bool, first: &Reac
 }
 
 /// What reaches a limit first, where its length and the places of all variables after it can be computed.
-fn first_by_places(lp: &Lp, point: &[Ratio], direction: &[Frac], q: u32, up: bool) -> Option<Reach>
+fn first_by_places(lp: &Lp, point: &[Ratio], direction: &[Ratio], q: u32, up: bool) -> Option<Reach>
     requires point_places { length point.now ≡ size lp.now.matrix }
     requires direction_places { length direction.now ≡ size lp.now.matrix }
     ensures { IfSome result (IsFirst (step_length lp.now (value_at point.now)
@@ -167,7 +167,7 @@ pub fn blocking_variable_from(
     match found {
         None => Ok(None),
         Some(nearest) => {
-            let speed = counted(rates[nearest.p as usize - 1], up);
+            let speed = counted(rates[nearest.p as usize - 1].reduced(), up);
             Ok(Some(BlockingVariable {
                 p: nearest.p,
                 step: counted(nearest.length, up),

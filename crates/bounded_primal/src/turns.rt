@@ -22,12 +22,12 @@ use crate::position::Position;
 use crate::step::returning;
 use crate::stopping::blocking_variable_from;
 use basis_values::{
-    Ratio, counted, fill_prices, is_minimized, lies_below, point_of, wrong_price,
+    counted, fill_prices, is_minimized, lies_below, point_of, wrong_price,
 };
 use frac128::Frac;
 use lp_model::{
-    Basis, Direction, Lp, NoMemory, Outcome, Point, Prices, Rates, Ray, SparseVector, Status, Stop,
-    Wanted,
+    Basis, Direction, Lp, NoMemory, Outcome, Point, Prices, Rates, Ratio, Ray, SparseVector, Status,
+    Stop, Wanted, reduced_values,
 };
 use std::alloc::Global;
 
@@ -61,19 +61,19 @@ pub fn ray_of(alloc: Global, lp: &Lp, rates: &[Frac], r: u32, below: bool) -> Re
 }
 
 /// The speed of `k`, where what has this direction moves up or down.
-fn speed(lp: &Lp, direction: &[Frac], up: bool, k: u32) -> Frac
+fn speed(lp: &Lp, direction: &[Ratio], up: bool, k: u32) -> Frac
     requires variable { IsVariable lp.now.matrix k }
     requires places { length direction.now ≡ size lp.now.matrix }
     ensures { result ≡ motion (value_at direction.now) up k }
 {
-    counted(direction[k as usize - 1], up)
+    counted(direction[k as usize - 1].reduced(), up)
 }
 
 /// The direction, or its opposite.
 pub fn signed_direction(
     alloc: Global,
     lp: &Lp,
-    direction: &[Frac],
+    direction: &[Ratio],
     up: bool,
 ) -> Result<Direction, NoMemory>
     requires { length direction.now ≡ size lp.now.matrix }
@@ -95,17 +95,6 @@ pub fn copied(alloc: Global, values: &[Frac]) -> Result<Vec<Frac>, NoMemory>
     ensures { IfOk result (λ copy. copy.items ≡ values.now) }
 {
     let copy = Vec::from_slice(alloc, values)?;
-    Ok(copy)
-}
-
-/// The values in lowest terms.
-pub fn reduced_values(alloc: Global, values: &[Ratio]) -> Result<Vec<Frac>, NoMemory>
-    ensures { IfOk result (λ copy. copy.items ≡ values.now) }
-{
-    let mut copy = Vec::with_capacity(alloc, values.len())?;
-    for value in values {
-        copy.push(value.reduced()).map_err(|_| NoMemory)?;
-    }
     Ok(copy)
 }
 
@@ -384,7 +373,7 @@ fn unbounded_ending(
     alloc: Global,
     lp: &Lp,
     point: Vec<Frac>,
-    direction: &[Frac],
+    direction: &[Ratio],
     up: bool,
     steps: u32,
 ) -> Result<Outcome, NoMemory>

@@ -8,9 +8,9 @@ ghost use Rattle.basis_values.specs.Calls.{IsAtBasis, StaysAt};
 ghost use Rattle.basis_values.specs.Stops.{PointOverflow};
 ghost use Rattle.bounded_primal.specs.Workspaces.{AreSized};
 
-use basis_values::{Ratio, fill_prices, point_of};
+use basis_values::{fill_prices, point_of};
 use frac128::Frac;
-use lp_model::{Basis, Lp, NoMemory, Rates, SparseVector, Stop};
+use lp_model::{Basis, Lp, NoMemory, Rates, Ratio, SparseVector, Stop, zero_ratios};
 use std::alloc::Global;
 
 /// The vectors that a path works with, each with a place for each variable: the values of its point, prices, the row of a basic, and
@@ -32,17 +32,6 @@ pub fn zeroed(alloc: Global, size: usize) -> Result<Vec<Frac>, NoMemory>
     Ok(values)
 }
 
-/// The values as ratios.
-pub fn ratios_of(alloc: Global, values: &[Frac]) -> Result<Vec<Ratio>, NoMemory>
-    ensures { IfOk result (λ made. made.items ≡ values.now) }
-{
-    let mut made = Vec::with_capacity(alloc, values.len())?;
-    for value in values {
-        made.push(Ratio::of(*value)).map_err(|_| NoMemory)?;
-    }
-    Ok(made)
-}
-
 /// Makes the values of one vector those of another.
 pub fn copy_ratios(from: &[Frac], to: &mut [Ratio])
     requires { length from.now ≡ length to.old }
@@ -61,7 +50,7 @@ impl Workspace {
         let size = lp.number_of_variables() as usize;
         Ok(Workspace {
             alloc,
-            point: ratios_of(alloc, &zeroed(alloc, size)?)?,
+            point: zero_ratios(alloc, size)?,
             prices: zeroed(alloc, size)?,
             row: zeroed(alloc, size)?,
             direction: SparseVector::zeros(alloc, size)?,

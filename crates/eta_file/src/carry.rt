@@ -127,7 +127,7 @@ impl Transformation {
         steps.tick();
         match self.plain_rest(entry, j, rate, quotient) {
             Ok(rest) => Ok(rest),
-            Err(evidence) => match rate.sub_product(quotient, entry.rate) {
+            Err(evidence) => match rate.sub_product(quotient, entry.rate.reduced()) {
                 Some(rest) => Ok(rest),
                 None => Err(evidence),
             },
@@ -146,7 +146,7 @@ impl Transformation {
         ensures refused { IfErr result (IsRestRefused self.way self.p self.q entry.now.i j rate
             quotient entry.now.rate) }
     {
-        let product = self.product(entry.i, j, quotient, entry.rate)?;
+        let product = self.product(entry.i, j, quotient, entry.rate.reduced())?;
         self.difference(entry.i, j, rate, product)
     }
 
@@ -194,7 +194,7 @@ impl Transformation {
         for entry in entries {
             if entry.i != self.p {
                 let place = entry.i as usize - 1;
-                out[place] = self.multiple(entry.i, reciprocal, entry.rate, steps)?;
+                out[place] = self.multiple(entry.i, reciprocal, entry.rate.reduced(), steps)?;
             }
         }
         Ok(())

@@ -1,12 +1,13 @@
 //! The elementary matrices of the file.
 
 use frac128::Frac;
+use lp_model::Ratio;
 
 /// The rate of the basic `i` at the variable that enters.
-#[derive(Clone, Copy, Debug, PartialEq, Eq)]
+#[derive(Drop)]
 pub struct EtaEntry {
     pub i: u32,
-    pub rate: Frac,
+    pub rate: Ratio,
 }
 
 /// The pivot and the entries of an eta, each times one number. They are whole where that number is a multiple of their denominators.

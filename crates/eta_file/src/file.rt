@@ -26,7 +26,7 @@ use crate::whole::{begin_whole, leave_whole, transform_whole, whole_eta};
 use crate::words::{WordEntry, words_of_columns};
 use crate::workspace::ColumnWorkspace;
 use frac128::Frac;
-use lp_model::{Entry, Evidence, Lp, NoMemory, SparseVector, Stop};
+use lp_model::{Entry, Evidence, Lp, NoMemory, Ratio, SparseVector, Stop};
 use std::alloc::Global;
 use std::marker::{Brand, Model};
 use std::mem::replace;
@@ -88,7 +88,10 @@ fn entries_of(alloc: Global, direction: &[Frac], listed: &[u32]) -> Result<Vec<E
         let rate = direction[*k as usize - 1];
         if !rate.is_zero() {
             entries
-                .push(EtaEntry { i: *k, rate })
+                .push(EtaEntry {
+                    i: *k,
+                    rate: Ratio::of(rate),
+                })
                 .map_err(|_| NoMemory)?;
         }
     }
@@ -111,7 +114,7 @@ fn entries_at(
 /// The numbers of a direction at the listed variables but `q`.
 fn entries_but(
     alloc: Global,
-    direction: &[Frac],
+    direction: &[Ratio],
     listed: &[u32],
     q: u32,
 ) -> Result<Vec<EtaEntry>, NoMemory>
@@ -122,7 +125,7 @@ fn entries_but(
     let mut entries = Vec::with_capacity(alloc, listed.len())?;
     for k in listed {
         if *k != q {
-            let rate = direction[*k as usize - 1];
+            let rate = direction[*k as usize - 1].copy();
             entries
                 .push(EtaEntry { i: *k, rate })
                 .map_err(|_| NoMemory)?;
@@ -482,23 +485,29 @@ impl EtaFile {
         self.column(j, &mut workspace.wholes, &mut workspace.direction)
     }
 
-    /// Puts the direction of the nonbasic `j` in where there are no numbers.
-    fn put_direction(
-        &self,
-        j: u32,
-        values: Vec<Frac>,
-        out: &mut SparseVector,
-    ) -> Result<(), NoMemory>
-        requires nonbasic { IsNonbasic self.now.matrix self.now.basics j }
-        requires places { length values.items ≡ size self.now.matrix }
-        requires direction { IsDirectionOf self.now.matrix self.now.basics j
-            (value_at values.items) }
-        requires none { out.old ≡ [] }
-        ensures { OnOk result (out.new ≡ values.items) }
+    /// Puts the direction of the nonbasic `j` in, whose numbers over the denominator these are. It gives up where the denominator isn't a
+    /// whole number from 1 on.
+    fn put_over(&self, j: u32, denominator: Frac, wholes: &mut SparseWholes, out: &mut SparseVector) -> Result<Option<()>, NoMemory>
     {
+        let Some(denominator) = wholes.reduce_from(2, denominator) else {
+            return Ok(None);
+        };
+        if denominator.den() != 1 || denominator.num() < 1 {
+            return Ok(None);
+        }
         let listed = self.basics.listed();
         let (before, after) = listed.split_at(place_of(listed, j));
-        out.put_around(values, before, j, after)
+        out.put_over(wholes.numbers(), denominator.num(), before, j, after)?;
+        Ok(Some(()))
+    }
+
+    /// Fills in the direction in fractions.
+    fn put_fractions(&self, j: u32, out: &mut SparseVector) -> Result<(), Stop>
+    {
+        let mut values = out.zero_fractions()?;
+        self.carry_by::<Brand>(j, &mut values, Blank::new(1))?;
+        out.put_all(&values)?;
+        Ok(())
     }
 
     /// Makes `out` the direction of the nonbasic `j`, and counts nothing. It is cleared by its list; the new one is taken of the basics and `j`.
@@ -517,14 +526,12 @@ impl EtaFile {
         ensures overflow { ColumnOverflow result (file_state self.now) (file_state self.now) }
         ensures wholes { length wholes.new ≡ length wholes.old }
     {
-        let mut values = out.take();
-        match self.column_in(j, wholes, &mut values) {
-            Ok(()) => match self.put_direction(j, values, out) {
-                Ok(()) => Ok(()),
-                Err(_refused) => Err(Stop::NoMemory),
-            },
-            Err(stop) => Err(stop),
+        if let Some(denominator) = self.carry_whole(j, wholes) {
+            if self.put_over(j, denominator, wholes, out)?.is_some() {
+                return Ok(());
+            }
         }
+        self.put_fractions(j, out)
     }
 
     /// The numbers of the direction of the nonbasic `j` over the denominator that is given, found modulo two primes and tested by the
@@ -577,36 +584,6 @@ impl EtaFile {
         found
     }
 
-    /// As `column_in`, where the direction may be found modulo two primes.
-    fn direction_in(
-        &mut self,
-        j: u32,
-        wholes: &mut SparseWholes,
-        out: &mut [Frac],
-    ) -> Result<(), Stop>
-        requires nonbasic { IsNonbasic self.old.matrix self.old.basics j }
-        requires wholes { length wholes.old ≡ size self.old.matrix }
-        requires places { length out.old ≡ size self.old.matrix }
-        requires zero { AreZero out.old }
-        ensures direction { OnOk result (IsDirectionOf self.old.matrix self.old.basics j
-            (value_at out.new)) }
-        ensures overflow { ColumnOverflow result (file_state self.old) (file_state self.old) }
-        ensures wholes { length wholes.new ≡ length wholes.old }
-        ensures same { self.new ≡ self.old }
-    {
-        let _size = self.size();
-        let Some(denominator) = self.guess_in_room(j, wholes) else {
-            return self.column_in(j, wholes, out);
-        };
-        match wholes.divide_into(denominator, out) {
-            Some(()) => Ok(()),
-            None => {
-                clear(out);
-                self.column_in(j, wholes, out)
-            }
-        }
-    }
-
     /// The same, where long numbers may be found modulo two primes and are tested.
     pub fn tested_direction(
         &mut self,
@@ -624,14 +601,13 @@ impl EtaFile {
         ensures wholes { length wholes.new ≡ length wholes.old }
         ensures same { self.new ≡ self.old }
     {
-        let mut values = out.take();
-        match self.direction_in(j, wholes, &mut values) {
-            Ok(()) => match self.put_direction(j, values, out) {
-                Ok(()) => Ok(()),
-                Err(_refused) => Err(Stop::NoMemory),
-            },
-            Err(stop) => Err(stop),
+        let _size = self.size();
+        if let Some(denominator) = self.guess_in_room(j, wholes) {
+            if self.put_over(j, denominator, wholes, out)?.is_some() {
+                return Ok(());
+            }
         }
+        self.direction(j, wholes, out)
     }
 
     /// Makes the nonbasic `q` basic in place of `p`, where this is the direction of q, and it is not 0 at p.
@@ -664,7 +640,7 @@ impl EtaFile {
         let _size = self.size();
         let values = direction.values();
         let entries = entries_but(self.alloc, values, direction.nonzero(), q)?;
-        self.append_entries(p, q, values[p as usize - 1], entries)
+        self.append_entries(p, q, values[p as usize - 1].reduced(), entries)
     }
 
     /// The same, with the pivot and the entries of the new eta.

@@ -249,7 +249,7 @@ fn entries_of(alloc: Global, p: u32, whole: &WholeEta) -> Result<Vec<ModularEntr
     let mut entries = Vec::with_capacity(alloc, whole.entries.len())?;
     for entry in &whole.entries {
         if entry.i != p {
-            let rate = Residue::of(entry.rate.num());
+            let rate = Residue::of(entry.rate.terms().0);
             entries
                 .push(ModularEntry { i: entry.i, rate })
                 .map_err(|_| NoMemory)?;

@@ -10,7 +10,7 @@ ghost use Rattle.eta_file.specs.Transformations.{IsWithinPlaces, IsSubtracted, I
 
 use crate::eta::{EtaEntry, StoredEta, WholeEta};
 use frac128::Frac;
-use lp_model::{Entry, NoMemory};
+use lp_model::{Entry, NoMemory, Ratio};
 use std::alloc::Global;
 use whole_vectors::{
     SparseWholes, common_multiple, product, product_by_scale, terms, whole_at, whole_number,
@@ -28,13 +28,44 @@ fn sign_of_pivot(pivot: Frac) -> Frac
     }
 }
 
+/// A common multiple of a scale and of the denominator of a rate. Most rates have one denominator.
+#[inline(always)]
+fn with_denominator(scale: Frac, rate: &Ratio) -> Option<Frac>
+    requires { scale ≢ zero_ℚ }
+    ensures { IfSome result (λ multiple. multiple ≢ zero_ℚ) }
+{
+    let (_, den) = rate.terms();
+    if den == scale.num() || den == -scale.num() {
+        return Some(scale);
+    }
+    common_multiple(scale, rate.reduced())
+}
+
+/// A rate times a scale. Most rates have that one as their denominator.
+#[inline(always)]
+fn scaled_rate(rate: &Ratio, scale: Frac) -> Option<Ratio>
+    ensures { IfSome result (λ product. product ≡ rate.now *ℚ scale) }
+{
+    let (num, den) = rate.terms();
+    if scale.den() == 1 {
+        if den == scale.num() {
+            return Some(Ratio::new(num, 1));
+        }
+        if den == -scale.num() {
+            return Some(Ratio::new(-num, 1));
+        }
+    }
+    let made = product_by_scale(rate.reduced(), scale)?;
+    Some(Ratio::of(made))
+}
+
 /// A common multiple of the denominators of the entries, with the sign of the pivot.
 fn common_scale(pivot: Frac, entries: &[EtaEntry]) -> Option<Frac>
     ensures { IfSome result (λ scale. scale ≢ zero_ℚ) }
 {
     let mut scale = sign_of_pivot(pivot);
     for entry in entries {
-        scale = common_multiple(scale, entry.rate)?;
+        scale = with_denominator(scale, &entry.rate)?;
     }
     Some(scale)
 }
@@ -50,7 +81,7 @@ fn scaled_entries(
 {
     let mut list = Vec::with_capacity(alloc, entries.len())?;
     for entry in entries {
-        let Some(rate) = product_by_scale(entry.rate, scale) else {
+        let Some(rate) = scaled_rate(&entry.rate, scale) else {
             return Ok(None);
         };
         list.push(EtaEntry { i: entry.i, rate })
@@ -145,7 +176,7 @@ fn subtract_whole(
     let opposite = whole_number(multiple.neg())?;
     for entry in entries {
         if entry.i != p {
-            out.add_product(entry.i, opposite, entry.rate)?;
+            out.add_product(entry.i, opposite, entry.rate.whole()?)?;
         }
     }
     Some(())
@@ -214,7 +245,7 @@ fn place_entries(entries: &[EtaEntry], p: u32, out: &mut SparseWholes) -> Option
 {
     for entry in entries {
         if entry.i != p {
-            let number = whole_number(entry.rate)?;
+            let number = whole_number(entry.rate.whole()?)?;
             out.put(entry.i, number)?;
         }
     }

@@ -7,6 +7,7 @@ ghost use Rattle.lp_definitions.specs.LinearProgram.{value_at, numbers_from};
 ghost use Rattle.lp_model.specs.Sparse.{AreNonzero, CoverNonzero};
 
 use crate::NoMemory;
+use crate::ratio::{Ratio, ratios_of, zero_ratios};
 use frac128::Frac;
 use std::alloc::Global;
 use std::marker::Model;
@@ -16,7 +17,7 @@ use std::mem::replace;
 /// at the others.
 #[derive(Drop)]
 pub struct SparseVector {
-    values: Vec<Frac>,
+    values: Vec<Ratio>,
     nonzero: Vec<u32>,
     alloc: Global,
 }
@@ -36,7 +37,7 @@ impl Model for SparseVector {
 /// Whether the number of variable `k` isn't 0.
 #[inline(always)]
 #[tactic(auto, using(crate::proofs::NonzeroLists::nonzero_test))]
-fn is_nonzero(values: &[Frac], k: u32) -> bool
+fn is_nonzero(values: &[Ratio], k: u32) -> bool
     requires low { 1 ≤ k }
     requires high { k ≤ length values.now }
     ensures { result ≡ not (eq_ℚ (value_at values.now k) zero_ℚ) }
@@ -45,7 +46,7 @@ fn is_nonzero(values: &[Frac], k: u32) -> bool
 }
 
 /// Adds those of the candidates whose numbers aren't 0.
-fn keep_nonzero(values: &[Frac], candidates: &[u32], kept: &mut Vec<u32>) -> Result<(), NoMemory>
+fn keep_nonzero(values: &[Ratio], candidates: &[u32], kept: &mut Vec<u32>) -> Result<(), NoMemory>
     requires { All (λ k. (1 ≤ k) × (k ≤ length values.now)) candidates.now }
     ensures { OnOk result (kept.new.items ≡ kept.old.items ++ filter
         (λ k. not (eq_ℚ (value_at values.now k) zero_ℚ)) candidates.now) }
@@ -60,7 +61,7 @@ fn keep_nonzero(values: &[Frac], candidates: &[u32], kept: &mut Vec<u32>) -> Res
 
 /// Adds those of two lists, and of one variable between them, whose numbers aren't 0.
 fn keep_around(
-    values: &[Frac],
+    values: &[Ratio],
     before: &[u32],
     k: u32,
     after: &[u32],
@@ -76,7 +77,7 @@ fn keep_around(
 }
 
 /// Adds all variables whose numbers aren't 0.
-fn keep_all_nonzero(values: &[Frac], kept: &mut Vec<u32>) -> Result<(), NoMemory>
+fn keep_all_nonzero(values: &[Ratio], kept: &mut Vec<u32>) -> Result<(), NoMemory>
     requires { length values.now < 2 ^ 32 }
     ensures { OnOk result (kept.new.items ≡ kept.old.items ++ filter
         (λ k. not (eq_ℚ (value_at values.now k) zero_ℚ)) (numbers_from 1 (length values.now))) }
@@ -91,12 +92,12 @@ fn keep_all_nonzero(values: &[Frac], kept: &mut Vec<u32>) -> Result<(), NoMemory
 }
 
 /// Makes the numbers of the listed variables 0.
-fn clear(values: &mut [Frac], listed: &[u32])
+fn clear(values: &mut [Ratio], listed: &[u32])
     requires { AreNonzero values.old listed.now }
     ensures zero { (k : ℕ) → 1 ≤ k → value_at values.new k ≡ zero_ℚ }
 {
     for k in listed {
-        values[*k as usize - 1] = Frac::whole(0);
+        values[*k as usize - 1] = Ratio::of(Frac::whole(0));
     }
 }
 
@@ -106,14 +107,14 @@ impl SparseVector {
         ensures { IfOk result (λ made. made ≡ replicate size zero_ℚ) }
     {
         Ok(SparseVector {
-            values: vec![in alloc; Frac::whole(0); size]?,
+            values: zero_ratios(alloc, size)?,
             nonzero: Vec::new(alloc),
             alloc,
         })
     }
 
     /// The numbers of all variables.
-    pub fn values(&self) -> &[Frac]
+    pub fn values(&self) -> &[Ratio]
         ensures { result.now ≡ self.now }
     {
         &self.values
@@ -127,7 +128,7 @@ impl SparseVector {
     }
 
     /// Takes the numbers out, all of them made 0; none is left.
-    pub fn take(&mut self) -> Vec<Frac>
+    pub fn take(&mut self) -> Vec<Ratio>
         ensures zero { (k : ℕ) → 1 ≤ k → value_at result.items k ≡ zero_ℚ }
         ensures places { length result.items ≡ length self.old }
         ensures none { self.new ≡ [] }
@@ -138,7 +139,7 @@ impl SparseVector {
     }
 
     /// Puts numbers in where there are none. The candidates ascend, and none whose number isn't 0 is missing among them.
-    pub fn put(&mut self, values: Vec<Frac>, candidates: &[u32]) -> Result<(), NoMemory>
+    pub fn put(&mut self, values: Vec<Ratio>, candidates: &[u32]) -> Result<(), NoMemory>
         requires none { self.old ≡ [] }
         requires covered { CoverNonzero values.items candidates.now }
         ensures values { OnOk result (self.new ≡ values.items) }
@@ -160,7 +161,7 @@ impl SparseVector {
     /// The same, where the candidates are two lists and one variable between them.
     pub fn put_around(
         &mut self,
-        values: Vec<Frac>,
+        values: Vec<Ratio>,
         before: &[u32],
         k: u32,
         after: &[u32],
@@ -183,13 +184,20 @@ impl SparseVector {
         }
     }
 
-    /// Puts numbers in where there are none.
-    pub fn put_all(&mut self, values: Vec<Frac>) -> Result<(), NoMemory>
-        requires none { self.old ≡ [] }
-        requires small { length values.items < 2 ^ 32 }
-        ensures values { OnOk result (self.new ≡ values.items) }
-        ensures none { OnErr result (self.new ≡ []) }
+    /// Zeros in lowest terms, one for each variable.
+    pub fn zero_fractions(&self) -> Result<Vec<Frac>, NoMemory>
+        ensures { IfOk result (λ made. made.items ≡ replicate (length self.now) zero_ℚ) }
     {
+        let made = vec![in self.alloc; Frac::whole(0); self.values.len()]?;
+        Ok(made)
+    }
+
+    /// Puts fractions in.
+    pub fn put_all(&mut self, values: &[Frac]) -> Result<(), NoMemory>
+        requires small { length values.now < 2 ^ 32 }
+        ensures values { OnOk result (self.new ≡ values.now) }
+    {
+        let values = ratios_of(self.alloc, values)?;
         self.nonzero.clear();
         match keep_all_nonzero(&values, &mut self.nonzero) {
             Ok(()) => {
@@ -201,5 +209,43 @@ impl SparseVector {
                 Err(refused)
             }
         }
+    }
+}
+
+/// Puts the listed numbers over a denominator, and lists those that aren't 0.
+fn put_listed(
+    numbers: &[i128],
+    denominator: i128,
+    candidates: &[u32],
+    values: &mut [Ratio],
+    kept: &mut Vec<u32>,
+) -> Result<(), NoMemory>
+{
+    for candidate in candidates {
+        let place = *candidate as usize - 1;
+        let number = numbers[place];
+        if number != 0 {
+            values[place] = Ratio::new(number, denominator);
+            kept.push(*candidate).map_err(|_| NoMemory)?;
+        }
+    }
+    Ok(())
+}
+
+impl SparseVector {
+    /// Makes the numbers those of two lists and of one variable between them, over one denominator.
+    pub fn put_over(
+        &mut self,
+        numbers: &[i128],
+        denominator: i128,
+        before: &[u32],
+        k: u32,
+        after: &[u32],
+    ) -> Result<(), NoMemory> {
+        clear(&mut self.values, &self.nonzero);
+        self.nonzero.clear();
+        put_listed(numbers, denominator, before, &mut self.values, &mut self.nonzero)?;
+        put_listed(numbers, denominator, &[k], &mut self.values, &mut self.nonzero)?;
+        put_listed(numbers, denominator, after, &mut self.values, &mut self.nonzero)
     }
 }

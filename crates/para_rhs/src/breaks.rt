@@ -11,11 +11,10 @@ ghost use Rattle.para_rhs.specs.Breaks.{leaving_side, IsLeaverOf, IsFaceLeaver};
 ghost use Rattle.para_rhs.specs.Reach.{VariableRefused, SomeVariableRefused};
 ghost use Rattle.para_rhs.specs.Refusals.{RunRefused};
 
-use bounded_primal::Ratio;
 use crate::limits::Side;
 use crate::reaching::approach_of;
 use frac128::Frac;
-use lp_model::{Basis, Evidence, Lp};
+use lp_model::{Basis, Evidence, Lp, Ratio};
 
 /// A basic that stands at a limit which it would break beyond the breakpoint.
 #[derive(Clone, Copy, Debug)]

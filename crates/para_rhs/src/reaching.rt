@@ -13,12 +13,11 @@ ghost use Rattle.para_rhs.specs.Limits.{number_of};
 ghost use Rattle.para_rhs.specs.Reach.{side_ahead, bound_of, IsApproachOf, limit_sides, IsNarrowed, high_of, IsReachOf, IsReachFromAny, basic_formula, VariableRefused, SomeVariableRefused};
 ghost use Rattle.para_rhs.specs.Refusals.{RunRefused};
 
-use bounded_primal::Ratio;
 use crate::limits::{Side, is_upper, limit_on, number_of, shift_of};
 use affine_laws::{Endpoint, Ends, ProductBound, tightened};
 use basis_values::Formula;
 use frac128::Frac;
-use lp_model::{Basis, Evidence, Lp};
+use lp_model::{Basis, Evidence, Lp, Ratio};
 
 /// Formula 6 or 18 of the basic `i`.
 fn formula(number: u8, i: u32, term: u32) -> Formula

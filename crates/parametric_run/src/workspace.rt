@@ -11,11 +11,11 @@ ghost use Rattle.simplex_definitions.specs.Path.{after};
 ghost use Rattle.bounded_primal.specs.Moves.{IsStepBy, StepOverflow, move_by};
 ghost use Rattle.parametric_run.specs.Standing.{AreSized, IsReady};
 
-use bounded_primal::{
-    BlockingVariable, Kept, Move, Ratio, copied, ratios_of, reduced_values, step_over, zeroed,
-};
+use bounded_primal::{BlockingVariable, Kept, Move, copied, step_over, zeroed};
 use frac128::Frac;
-use lp_model::{Basis, Lp, NoMemory, Point, Prices, Rates, SparseVector, Stop};
+use lp_model::{
+    Basis, Lp, NoMemory, Point, Prices, Rates, Ratio, SparseVector, Stop, ratios_of, reduced_values,
+};
 use std::alloc::Global;
 
 /// The vectors of a basis, each with a place for each variable: its point at 0, its prices, and how it moves with the parameter; and

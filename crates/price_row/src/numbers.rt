@@ -136,7 +136,10 @@ fn sum_of_entries<N: Numbers>(
     let mut sum = first;
     for entry in entries {
         let number = N::number_at(numbers, entry.i);
-        sum = N::plus(sum, number, entry.rate)?;
+        if N::is_zero(number) {
+            continue;
+        }
+        sum = N::plus(sum, number, entry.rate.whole()?)?;
     }
     Some(sum)
 }

@@ -52,7 +52,7 @@ pub fn sum_over(entries: &[EtaEntry], p: u32, first: Frac, values: &[Frac]) -> R
     let mut sum = first;
     for entry in entries {
         if entry.i != p {
-            sum = added(sum, values[entry.i as usize - 1], entry.rate)?;
+            sum = added(sum, values[entry.i as usize - 1], entry.rate.reduced())?;
         }
     }
     Ok(sum)

@@ -8,8 +8,7 @@ ghost use Rattle.reinversion.specs.Rebuilt.{IsRebuilt, IsRemade, KeptRefused, Is
 
 use crate::order::{Entering, entering_order};
 use eta_file::EtaFile;
-use frac128::Frac;
-use lp_model::{Evidence, NoMemory, SparseVector, Stop};
+use lp_model::{Evidence, NoMemory, Ratio, SparseVector, Stop};
 use whole_vectors::SparseWholes;
 
 /// The evidence, naming no set.
@@ -40,7 +39,7 @@ fn kept(stop: Stop) -> Stop
 }
 
 /// Whether row `p` may leave the new file for a column with this direction.
-fn may_leave(old: &EtaFile, new: &EtaFile, direction: &[Frac], p: u32) -> bool
+fn may_leave(old: &EtaFile, new: &EtaFile, direction: &[Ratio], p: u32) -> bool
     requires row { IsRow old.now.matrix p }
     requires same { new.now.matrix ≡ old.now.matrix }
     requires places { length direction.now ≡ size old.now.matrix }
@@ -52,7 +51,7 @@ fn may_leave(old: &EtaFile, new: &EtaFile, direction: &[Frac], p: u32) -> bool
 
 /// A row that may leave the new file for the column with this direction, where there is one: the one that is wished for if it may,
 /// else the first.
-fn leaver(old: &EtaFile, new: &EtaFile, direction: &[Frac], wish: u32) -> u32
+fn leaver(old: &EtaFile, new: &EtaFile, direction: &[Ratio], wish: u32) -> u32
     requires same { new.now.matrix ≡ old.now.matrix }
     requires places { length direction.now ≡ size old.now.matrix }
     requires some { ((p : ℕ) → IsRow old.now.matrix p → IsLeaver old.now.matrix old.now.basics

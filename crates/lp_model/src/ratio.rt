@@ -1,11 +1,13 @@
 //! Fractions that aren't brought to lowest terms, so that what is made of them needs no greatest common divisor.
 
-ghost use Rattle.std.specs.Prelude.{◌≡◌, ◌≤ℤ◌, pos, unsigned_abs, IfSome};
-ghost use Rattle.exact_values.specs.Rational.{fraction, neg_ℚ, ◌-ℚ◌};
+ghost use Rattle.std.specs.Prelude.{◌≡◌, ◌↔◌, ◌≤ℤ◌, pos, unsigned_abs, IfOk, IfSome, IsTrue, replicate};
+ghost use Rattle.exact_values.specs.Rational.{fraction, zero_ℚ, neg_ℚ, sign_ℚ};
 ghost use Rattle.exact_values.specs.Tests.{lt_ℚ};
 ghost use Rattle.frac128.specs.Terms.{Fits};
 
-use frac128::{Frac, product, sum};
+use crate::NoMemory;
+use frac128::{Frac, product};
+use std::alloc::Global;
 use std::marker::Model;
 
 /// A fraction whose terms may have a common divisor: the denominator is at least 1, and neither term is larger than 2^127 - 1.
@@ -18,7 +20,7 @@ pub struct Ratio {
 impl Model for Ratio {
     ghost use Rattle.std.specs.Prelude.{unsigned_abs};
     ghost use Rattle.exact_values.specs.Rational.{ℚ, fraction};
-    ghost use Rattle.basis_values.specs.Ratios.{AreTerms};
+    ghost use Rattle.lp_model.specs.Ratios.{AreTerms};
 
     ghost Value = { ℚ };
 
@@ -55,6 +57,51 @@ impl Ratio {
         ensures den_fits { Fits result.1 }
     {
         (self.num, self.den)
+    }
+
+    /// Whether the number is 0.
+    #[inline(always)]
+    pub fn is_zero(&self) -> bool
+        ensures { IsTrue result ↔ (self.now ≡ zero_ℚ) }
+    {
+        self.num == 0
+    }
+
+    /// -1, 0 or 1, as the number is below, at or above 0.
+    #[inline(always)]
+    pub fn sign(&self) -> i8
+        ensures { result ≡ sign_ℚ self.now }
+    {
+        if self.num > 0 {
+            1
+        } else if self.num < 0 {
+            -1
+        } else {
+            0
+        }
+    }
+
+    /// The whole number, where the denominator is 1.
+    #[inline(always)]
+    pub fn whole(&self) -> Option<Frac>
+        ensures { IfSome result (λ x. x ≡ self.now) }
+    {
+        if self.den == 1 {
+            Some(Frac::whole(self.num))
+        } else {
+            None
+        }
+    }
+
+    /// A copy.
+    #[inline(always)]
+    pub fn copy(&self) -> Ratio
+        ensures { result ≡ self.now }
+    {
+        Ratio {
+            num: self.num,
+            den: self.den,
+        }
     }
 
     /// The same number in lowest terms.
@@ -99,20 +146,37 @@ impl Ratio {
             _ => limit.is_less(self.reduced()),
         }
     }
+}
 
-    /// A whole number less this number. None where the limit isn't a whole number, or a number on the way doesn't fit.
-    #[inline(always)]
-    pub fn distance_to(&self, limit: Frac) -> Option<Ratio>
-        ensures { IfSome result (λ distance. distance ≡ limit -ℚ self.now) }
-    {
-        if limit.is_zero() {
-            return Some(self.neg());
-        }
-        if limit.den() != 1 {
-            return None;
-        }
-        let scaled = product(limit.num(), self.den)?;
-        let num = sum(scaled, -self.num)?;
-        Some(Ratio { num, den: self.den })
+/// So many zeros.
+pub fn zero_ratios(alloc: Global, size: usize) -> Result<Vec<Ratio>, NoMemory>
+    ensures { IfOk result (λ made. made.items ≡ replicate size zero_ℚ) }
+{
+    let mut made = Vec::with_capacity(alloc, size)?;
+    for _place in 0..size {
+        made.push(Ratio::of(Frac::whole(0))).map_err(|_| NoMemory)?;
     }
+    Ok(made)
+}
+
+/// Fractions as ratios.
+pub fn ratios_of(alloc: Global, values: &[Frac]) -> Result<Vec<Ratio>, NoMemory>
+    ensures { IfOk result (λ made. made.items ≡ values.now) }
+{
+    let mut made = Vec::with_capacity(alloc, values.len())?;
+    for value in values {
+        made.push(Ratio::of(*value)).map_err(|_| NoMemory)?;
+    }
+    Ok(made)
+}
+
+/// Ratios in lowest terms.
+pub fn reduced_values(alloc: Global, values: &[Ratio]) -> Result<Vec<Frac>, NoMemory>
+    ensures { IfOk result (λ copy. copy.items ≡ values.now) }
+{
+    let mut copy = Vec::with_capacity(alloc, values.len())?;
+    for value in values {
+        copy.push(value.reduced()).map_err(|_| NoMemory)?;
+    }
+    Ok(copy)
 }
