@@ -197,7 +197,14 @@ pub fn nearer(nearest: Option<Reach>, length: Option<Frac>, k: u32) -> Option<Re
 /// Whether `k` lets `first` stop the move: after the length of `first` it hasn't passed the limit ahead of it, nor reached it where its
 /// number is the smaller. This follows from its place there, so no length of its own is needed; and nothing follows where the place
 /// can't be computed.
-pub fn yields(lp: &Lp, point: &[Ratio], direction: &[Ratio], up: bool, first: &Reach, k: u32) -> bool
+pub fn yields(
+    lp: &Lp,
+    point: &[Ratio],
+    direction: &[Ratio],
+    up: bool,
+    first: &Reach,
+    k: u32,
+) -> bool
     requires variable { IsVariable lp.now.matrix k }
     requires point_places { length point.now ≡ size lp.now.matrix }
     requires direction_places { length direction.now ≡ size lp.now.matrix }

@@ -24,7 +24,6 @@ pub use position::Position;
 pub use step::{returning, step_over};
 pub use stopping::blocking_variable;
 pub use turns::{
-    Turn, best, copied, limit_broken, ray_of, return_along, signed_direction,
-    whole_point,
+    Turn, best, copied, limit_broken, ray_of, return_along, signed_direction, whole_point,
 };
 pub use workspace::{Workspace, zeroed};

@@ -5,8 +5,8 @@ ghost use Rattle.std.specs.Prelude.{◌≡◌, ◌<◌, ◌≤ℤ◌, ◌*ℤ◌
 ghost use Rattle.exact_values.specs.Rational.{whole, ◌+ℚ◌, ◌*ℚ◌};
 ghost use Rattle.frac128.specs.Terms.{Fits};
 
-use lp_model::Ratio;
 use frac128::{Frac, product, sum};
+use lp_model::Ratio;
 use std::marker::Model;
 
 /// A step with a common denominator of values and one of rates. A value over the one times `value_factor`, and a rate over the other times

@@ -60,7 +60,13 @@ fn nearest_by_lengths(
 }
 
 /// The nearest of the variables whose lengths can be computed.
-fn nearest_computed(lp: &Lp, point: &[Ratio], direction: &[Ratio], q: u32, up: bool) -> Option<Reach>
+fn nearest_computed(
+    lp: &Lp,
+    point: &[Ratio],
+    direction: &[Ratio],
+    q: u32,
+    up: bool,
+) -> Option<Reach>
     requires point_places { length point.now ≡ size lp.now.matrix }
     requires direction_places { length direction.now ≡ size lp.now.matrix }
     ensures { IfSome result (Reaches (step_length lp.now (value_at point.now)

@@ -21,13 +21,11 @@ use crate::moves::{BlockingVariable, PrimalStop};
 use crate::position::Position;
 use crate::step::returning;
 use crate::stopping::blocking_variable_from;
-use basis_values::{
-    counted, fill_prices, is_minimized, lies_below, point_of, wrong_price,
-};
+use basis_values::{counted, fill_prices, is_minimized, lies_below, point_of, wrong_price};
 use frac128::Frac;
 use lp_model::{
-    Basis, Direction, Lp, NoMemory, Outcome, Point, Prices, Rates, Ratio, Ray, SparseVector, Status,
-    Stop, Wanted, reduced_values,
+    Basis, Direction, Lp, NoMemory, Outcome, Point, Prices, Rates, Ratio, Ray, SparseVector,
+    Status, Stop, Wanted, reduced_values,
 };
 use std::alloc::Global;
 

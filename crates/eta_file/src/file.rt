@@ -40,6 +40,9 @@ const MOST_ETAS: usize = 4_294_967_294;
 /// A denominator of this size or more is reduced, where numbers that fit one machine word mostly stay words.
 const VERY_LARGE: u128 = 1 << 58;
 
+/// The least denominator that may have a common divisor with numbers.
+const LEAST: u128 = 2;
+
 /// A set of basics of one matrix, and the exchanges that led to it from the rows. Waypoint w, from 1, is the set of basics after the
 /// first w - 1 etas.
 #[derive(Drop)]
@@ -485,32 +488,55 @@ impl EtaFile {
         self.column(j, &mut workspace.wholes, &mut workspace.direction)
     }
 
-    /// Puts the direction of the nonbasic `j` in, whose numbers over the denominator these are. It gives up where the denominator isn't a
-    /// whole number from 1 on.
-    fn put_over(&self, j: u32, denominator: Frac, wholes: &mut SparseWholes, out: &mut SparseVector) -> Result<Option<()>, NoMemory>
+    /// Makes `out` the direction of the nonbasic `j`, whose numbers over this denominator are at hand; they are brought to the least one. It
+    /// gives up where that one isn't a whole number from 1 on.
+    fn put_direction(
+        &self,
+        j: u32,
+        denominator: Frac,
+        wholes: &mut SparseWholes,
+        out: &mut SparseVector,
+    ) -> Result<Option<()>, NoMemory>
+        requires nonbasic { IsNonbasic self.now.matrix self.now.basics j }
+        requires direction { Represent (λ xs. IsDirectionOf self.now.matrix self.now.basics j
+            (value_at xs)) denominator wholes.old }
+        requires wholes { length wholes.old ≡ size self.now.matrix }
+        requires places { length out.old ≡ size self.now.matrix }
+        ensures direction { IfOk result (λ put. IfSome put (λ _. IsDirectionOf self.now.matrix
+            self.now.basics j (value_at out.new))) }
+        ensures places { OnOk result (length out.new ≡ size self.now.matrix) }
+        ensures wholes { length wholes.new ≡ length wholes.old }
     {
-        let Some(denominator) = wholes.reduce_from(2, denominator) else {
+        let Some(least) = wholes.reduce_from(LEAST, denominator) else {
             return Ok(None);
         };
-        if denominator.den() != 1 || denominator.num() < 1 {
+        if least.den() != 1 || least.num() < 1 {
             return Ok(None);
         }
         let listed = self.basics.listed();
         let (before, after) = listed.split_at(place_of(listed, j));
-        out.put_over(wholes.numbers(), denominator.num(), before, j, after)?;
+        out.put_over(wholes.numbers(), least.num(), before, j, after)?;
         Ok(Some(()))
     }
 
-    /// Fills in the direction in fractions.
-    fn put_fractions(&self, j: u32, out: &mut SparseVector) -> Result<(), Stop>
+    /// Makes `out` the direction of the nonbasic `j`, carried in fractions.
+    fn direction_in_fractions(&self, j: u32, out: &mut SparseVector) -> Result<(), Stop>
+        requires nonbasic { IsNonbasic self.now.matrix self.now.basics j }
+        requires places { length out.old ≡ size self.now.matrix }
+        ensures direction { OnOk result (IsDirectionOf self.now.matrix self.now.basics j
+            (value_at out.new)) }
+        ensures places { OnOk result (length out.new ≡ size self.now.matrix) }
+        ensures overflow { ColumnOverflow result (file_state self.now) (file_state self.now) }
     {
+        let _size = self.size();
         let mut values = out.zero_fractions()?;
         self.carry_by::<Brand>(j, &mut values, Blank::new(1))?;
         out.put_all(&values)?;
         Ok(())
     }
 
-    /// Makes `out` the direction of the nonbasic `j`, and counts nothing. It is cleared by its list; the new one is taken of the basics and `j`.
+    /// Makes `out` the direction of the nonbasic `j`, and counts nothing: carried in whole numbers over one denominator, and where these don't
+    /// fit in fractions.
     pub fn direction(
         &self,
         j: u32,
@@ -526,12 +552,13 @@ impl EtaFile {
         ensures overflow { ColumnOverflow result (file_state self.now) (file_state self.now) }
         ensures wholes { length wholes.new ≡ length wholes.old }
     {
+        let _size = self.size();
         if let Some(denominator) = self.carry_whole(j, wholes) {
-            if self.put_over(j, denominator, wholes, out)?.is_some() {
+            if self.put_direction(j, denominator, wholes, out)?.is_some() {
                 return Ok(());
             }
         }
-        self.put_fractions(j, out)
+        self.direction_in_fractions(j, out)
     }
 
     /// The numbers of the direction of the nonbasic `j` over the denominator that is given, found modulo two primes and tested by the
@@ -603,7 +630,7 @@ impl EtaFile {
     {
         let _size = self.size();
         if let Some(denominator) = self.guess_in_room(j, wholes) {
-            if self.put_over(j, denominator, wholes, out)?.is_some() {
+            if self.put_direction(j, denominator, wholes, out)?.is_some() {
                 return Ok(());
             }
         }

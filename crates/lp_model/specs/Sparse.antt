@@ -4,8 +4,10 @@
 --     AreNonzero xs ks             ks are all the variables whose numbers aren't 0
 --     CoverNonzeroFrom xs n ks     ks ascend from n on, and no number from n on that isn't 0 is missing among them
 --     CoverNonzero xs ks           the same of all variables
-use Rattle.std.specs.Prelude.{◌≡◌, ◌≢◌, ℕ, suc, ◌≤◌, ◌<◌, List, [], ◌∷◌, length}
-use Rattle.exact_values.specs.Rational.{ℚ, zero_ℚ}
+--     over d ns                    whole numbers over a denominator
+--     IsPartly xs ys               each number of ys is that of xs, or 0
+use Rattle.std.specs.Prelude.{◌≡◌, ◌≢◌, ℕ, ℤ, suc, ◌≤◌, ◌<◌, List, [], ◌∷◌, length, map, unsigned_abs, ◌⊎◌}
+use Rattle.exact_values.specs.Rational.{ℚ, zero_ℚ, fraction}
 use Rattle.lp_definitions.specs.LinearProgram.{value_at}
 use Rattle.lp_model.specs.declared.sparse.SparseVector.TheInside.{Inside}
 
@@ -40,3 +42,11 @@ CoverNonzero xs ks = CoverNonzeroFrom xs 1 ks
 -- the list that is kept is that of the numbers
 abbrev pub IsSparse : Inside → Type 0
 IsSparse a = AreNonzero a.values.items a.nonzero.items
+
+-- whole numbers over a denominator
+abbrev pub over : ℤ → List ℤ → List ℚ
+over d ns = map (λ n. fraction n (unsigned_abs d)) ns
+
+-- each number of ys is that of xs, or 0
+abbrev pub IsPartly : List ℚ → List ℚ → Type 0
+IsPartly xs ys = (k : ℕ) → (value_at ys k ≡ value_at xs k) ⊎ (value_at ys k ≡ zero_ℚ)

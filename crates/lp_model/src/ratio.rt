@@ -128,7 +128,10 @@ impl Ratio {
         if limit.is_zero() {
             return self.num < 0;
         }
-        match (product(self.num, limit.den()), product(limit.num(), self.den)) {
+        match (
+            product(self.num, limit.den()),
+            product(limit.num(), self.den),
+        ) {
             (Some(left), Some(right)) => left < right,
             _ => self.reduced().is_less(limit),
         }
@@ -141,7 +144,10 @@ impl Ratio {
         if limit.is_zero() {
             return self.num > 0;
         }
-        match (product(self.num, limit.den()), product(limit.num(), self.den)) {
+        match (
+            product(self.num, limit.den()),
+            product(limit.num(), self.den),
+        ) {
             (Some(left), Some(right)) => right < left,
             _ => limit.is_less(self.reduced()),
         }

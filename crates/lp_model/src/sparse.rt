@@ -1,10 +1,11 @@
 //! Vectors most of whose numbers are 0.
 
-ghost use Rattle.std.specs.Prelude.{◌≡◌, ◌≢◌, ◌≤◌, ◌++◌, ◌∷◌, ◌^◌, ◌<◌, [], ℕ, All, filter, length, replicate, IfOk, OnOk, OnErr, not};
+ghost use Rattle.std.specs.Prelude.{◌≡◌, ◌≢◌, ◌≤◌, ◌≤ℤ◌, pos, ◌++◌, ◌∷◌, ◌^◌, ◌<◌, [], ℕ, All, filter, length, replicate, IfOk, OnOk, OnErr, not};
 ghost use Rattle.exact_values.specs.Rational.{zero_ℚ};
 ghost use Rattle.exact_values.specs.Tests.{eq_ℚ};
+ghost use Rattle.frac128.specs.Terms.{Fits};
 ghost use Rattle.lp_definitions.specs.LinearProgram.{value_at, numbers_from};
-ghost use Rattle.lp_model.specs.Sparse.{AreNonzero, CoverNonzero};
+ghost use Rattle.lp_model.specs.Sparse.{AreNonzero, CoverNonzero, over, IsPartly};
 
 use crate::NoMemory;
 use crate::ratio::{Ratio, ratios_of, zero_ratios};
@@ -45,35 +46,63 @@ fn is_nonzero(values: &[Ratio], k: u32) -> bool
     !values[k as usize - 1].is_zero()
 }
 
-/// Adds those of the candidates whose numbers aren't 0.
-fn keep_nonzero(values: &[Ratio], candidates: &[u32], kept: &mut Vec<u32>) -> Result<(), NoMemory>
-    requires { All (λ k. (1 ≤ k) × (k ≤ length values.now)) candidates.now }
-    ensures { OnOk result (kept.new.items ≡ kept.old.items ++ filter
-        (λ k. not (eq_ℚ (value_at values.now k) zero_ℚ)) candidates.now) }
+/// Puts the candidates' numbers over a denominator, and lists the candidates whose numbers aren't 0.
+fn put_listed(
+    numbers: &[i128],
+    denominator: i128,
+    candidates: &[u32],
+    values: &mut [Ratio],
+    kept: &mut Vec<u32>,
+) -> Result<(), NoMemory>
+    requires at_least_one { pos 1 ≤ℤ denominator }
+    requires fit { All Fits numbers.now }
+    requires places { length values.old ≡ length numbers.now }
+    requires candidates { All (λ k. (1 ≤ k) × (k ≤ length numbers.now)) candidates.now }
+    requires partly { IsPartly (over denominator numbers.now) values.old }
+    ensures places { length values.new ≡ length values.old }
+    ensures partly { IsPartly (over denominator numbers.now) values.new }
+    ensures own { OnOk result
+        (All (λ k. value_at values.new k ≡ value_at (over denominator numbers.now) k)
+        candidates.now) }
+    ensures others { (k : ℕ) → value_at values.old k ≡ value_at (over denominator numbers.now) k →
+        value_at values.new k ≡ value_at (over denominator numbers.now) k }
+    ensures kept { OnOk result (kept.new.items ≡ kept.old.items ++ filter
+        (λ k. not (eq_ℚ (value_at (over denominator numbers.now) k) zero_ℚ)) candidates.now) }
 {
     for candidate in candidates {
-        if is_nonzero(values, *candidate) {
+        let place = *candidate as usize - 1;
+        let number = numbers[place];
+        if number != 0 {
+            values[place] = Ratio::new(number, denominator);
             kept.push(*candidate).map_err(|_| NoMemory)?;
         }
     }
     Ok(())
 }
 
-/// Adds those of two lists, and of one variable between them, whose numbers aren't 0.
-fn keep_around(
-    values: &[Ratio],
+/// The same of two lists, and of one variable between them.
+fn put_around(
+    numbers: &[i128],
+    denominator: i128,
     before: &[u32],
     k: u32,
     after: &[u32],
+    values: &mut [Ratio],
     kept: &mut Vec<u32>,
 ) -> Result<(), NoMemory>
-    requires { All (λ k. (1 ≤ k) × (k ≤ length values.now)) (before.now ++ k ∷ after.now) }
-    ensures { OnOk result (kept.new.items ≡ kept.old.items ++ filter
-        (λ k. not (eq_ℚ (value_at values.now k) zero_ℚ)) (before.now ++ k ∷ after.now)) }
+    requires at_least_one { pos 1 ≤ℤ denominator }
+    requires fit { All Fits numbers.now }
+    requires places { length values.old ≡ length numbers.now }
+    requires covered { CoverNonzero (over denominator numbers.now) (before.now ++ k ∷ after.now) }
+    requires zero { (n : ℕ) → 1 ≤ n → value_at values.old n ≡ zero_ℚ }
+    ensures values { OnOk result (values.new ≡ over denominator numbers.now) }
+    ensures kept { OnOk result (kept.new.items ≡ kept.old.items ++ filter
+        (λ k. not (eq_ℚ (value_at (over denominator numbers.now) k) zero_ℚ))
+        (before.now ++ k ∷ after.now)) }
 {
-    keep_nonzero(values, before, kept)?;
-    keep_nonzero(values, &[k], kept)?;
-    keep_nonzero(values, after, kept)
+    put_listed(numbers, denominator, before, values, kept)?;
+    put_listed(numbers, denominator, &[k], values, kept)?;
+    put_listed(numbers, denominator, after, values, kept)
 }
 
 /// Adds all variables whose numbers aren't 0.
@@ -128,7 +157,7 @@ impl SparseVector {
     }
 
     /// Takes the numbers out, all of them made 0; none is left.
-    pub fn take(&mut self) -> Vec<Ratio>
+    fn take(&mut self) -> Vec<Ratio>
         ensures zero { (k : ℕ) → 1 ≤ k → value_at result.items k ≡ zero_ℚ }
         ensures places { length result.items ≡ length self.old }
         ensures none { self.new ≡ [] }
@@ -138,41 +167,27 @@ impl SparseVector {
         replace(&mut self.values, Vec::new(self.alloc))
     }
 
-    /// Puts numbers in where there are none. The candidates ascend, and none whose number isn't 0 is missing among them.
-    pub fn put(&mut self, values: Vec<Ratio>, candidates: &[u32]) -> Result<(), NoMemory>
-        requires none { self.old ≡ [] }
-        requires covered { CoverNonzero values.items candidates.now }
-        ensures values { OnOk result (self.new ≡ values.items) }
-        ensures none { OnErr result (self.new ≡ []) }
-    {
-        self.nonzero.clear();
-        match keep_nonzero(&values, candidates, &mut self.nonzero) {
-            Ok(()) => {
-                self.values = values;
-                Ok(())
-            }
-            Err(refused) => {
-                self.nonzero.clear();
-                Err(refused)
-            }
-        }
-    }
-
-    /// The same, where the candidates are two lists and one variable between them.
-    pub fn put_around(
+    /// Makes the numbers whole numbers over a denominator. The candidates are two lists and one variable between them; they ascend, and none
+    /// whose number isn't 0 is missing among them.
+    pub fn put_over(
         &mut self,
-        values: Vec<Ratio>,
+        numbers: &[i128],
+        denominator: i128,
         before: &[u32],
         k: u32,
         after: &[u32],
     ) -> Result<(), NoMemory>
-        requires none { self.old ≡ [] }
-        requires covered { CoverNonzero values.items (before.now ++ k ∷ after.now) }
-        ensures values { OnOk result (self.new ≡ values.items) }
+        requires at_least_one { pos 1 ≤ℤ denominator }
+        requires fit { All Fits numbers.now }
+        requires places { length self.old ≡ length numbers.now }
+        requires covered { CoverNonzero (over denominator numbers.now)
+            (before.now ++ k ∷ after.now) }
+        ensures values { OnOk result (self.new ≡ over denominator numbers.now) }
         ensures none { OnErr result (self.new ≡ []) }
     {
-        self.nonzero.clear();
-        match keep_around(&values, before, k, after, &mut self.nonzero) {
+        let mut values = self.take();
+        let nonzero = &mut self.nonzero;
+        match put_around(numbers, denominator, before, k, after, &mut values, nonzero) {
             Ok(()) => {
                 self.values = values;
                 Ok(())
@@ -184,7 +199,7 @@ impl SparseVector {
         }
     }
 
-    /// Zeros in lowest terms, one for each variable.
+    /// As many zeros as there are numbers, in lowest terms.
     pub fn zero_fractions(&self) -> Result<Vec<Frac>, NoMemory>
         ensures { IfOk result (λ made. made.items ≡ replicate (length self.now) zero_ℚ) }
     {
@@ -192,7 +207,7 @@ impl SparseVector {
         Ok(made)
     }
 
-    /// Puts fractions in.
+    /// Makes the numbers these fractions.
     pub fn put_all(&mut self, values: &[Frac]) -> Result<(), NoMemory>
         requires small { length values.now < 2 ^ 32 }
         ensures values { OnOk result (self.new ≡ values.now) }
@@ -209,43 +224,5 @@ impl SparseVector {
                 Err(refused)
             }
         }
-    }
-}
-
-/// Puts the listed numbers over a denominator, and lists those that aren't 0.
-fn put_listed(
-    numbers: &[i128],
-    denominator: i128,
-    candidates: &[u32],
-    values: &mut [Ratio],
-    kept: &mut Vec<u32>,
-) -> Result<(), NoMemory>
-{
-    for candidate in candidates {
-        let place = *candidate as usize - 1;
-        let number = numbers[place];
-        if number != 0 {
-            values[place] = Ratio::new(number, denominator);
-            kept.push(*candidate).map_err(|_| NoMemory)?;
-        }
-    }
-    Ok(())
-}
-
-impl SparseVector {
-    /// Makes the numbers those of two lists and of one variable between them, over one denominator.
-    pub fn put_over(
-        &mut self,
-        numbers: &[i128],
-        denominator: i128,
-        before: &[u32],
-        k: u32,
-        after: &[u32],
-    ) -> Result<(), NoMemory> {
-        clear(&mut self.values, &self.nonzero);
-        self.nonzero.clear();
-        put_listed(numbers, denominator, before, &mut self.values, &mut self.nonzero)?;
-        put_listed(numbers, denominator, &[k], &mut self.values, &mut self.nonzero)?;
-        put_listed(numbers, denominator, after, &mut self.values, &mut self.nonzero)
     }
 }

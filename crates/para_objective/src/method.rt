@@ -8,7 +8,9 @@ use bounded_primal::{PrimalStop, copied, primal};
 use dual_step::read_row;
 use frac128::Frac;
 use lp_model::{Basis, Change, Lp, Outcome, ParaPart, Point, Rates, Stop};
-use parametric_run::{FaceStep, Parametric, Span, Workspace, prices_with, reduced_point, still_point};
+use parametric_run::{
+    FaceStep, Parametric, Span, Workspace, prices_with, reduced_point, still_point,
+};
 use std::alloc::Global;
 
 /// A linear program, and a row without limits: theta times the row is added to the objective.

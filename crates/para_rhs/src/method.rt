@@ -10,7 +10,8 @@ use bounded_primal::{PrimalStop, primal};
 use frac128::Frac;
 use lp_model::{Basis, Lp, Outcome, ParaPart, Point, Rates, Stop};
 use parametric_run::{
-    FaceStep, Parametric, Span, Workspace, point_with, prices_with, reduced_point, still_prices, zeros,
+    FaceStep, Parametric, Span, Workspace, point_with, prices_with, reduced_point, still_prices,
+    zeros,
 };
 use std::alloc::Global;
 

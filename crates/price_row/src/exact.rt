@@ -39,7 +39,12 @@ fn long_sum_over(
     let mut sum = Sum::new(alloc, first)?;
     for entry in entries {
         if entry.i != p {
-            sum = exactly_added(alloc, sum, values[entry.i as usize - 1], entry.rate.reduced())?;
+            sum = exactly_added(
+                alloc,
+                sum,
+                values[entry.i as usize - 1],
+                entry.rate.reduced(),
+            )?;
         }
     }
     Ok(sum)
