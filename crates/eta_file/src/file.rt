@@ -40,6 +40,9 @@ const MOST_ETAS: usize = 4_294_967_294;
 /// A denominator of this size or more is reduced, where numbers that fit one machine word mostly stay words.
 const VERY_LARGE: u128 = 1 << 58;
 
+/// An eta of fewer entries keeps them in lowest terms, since its fractions may be asked for often.
+const FEW: usize = 40;
+
 /// The least denominator that may have a common divisor with numbers.
 const LEAST: u128 = 2;
 
@@ -114,6 +117,18 @@ fn entries_at(
     entries_of(alloc, direction, basics.listed())
 }
 
+/// A rate as an eta keeps it: in lowest terms where the eta has few entries.
+#[inline(always)]
+fn kept_rate(rate: &Ratio, few: bool) -> Ratio
+    ensures { result ≡ rate.now }
+{
+    if few {
+        Ratio::of(rate.reduced())
+    } else {
+        rate.copy()
+    }
+}
+
 /// The numbers of a direction at the listed variables but `q`.
 fn entries_but(
     alloc: Global,
@@ -128,7 +143,7 @@ fn entries_but(
     let mut entries = Vec::with_capacity(alloc, listed.len())?;
     for k in listed {
         if *k != q {
-            let rate = direction[*k as usize - 1].copy();
+            let rate = kept_rate(&direction[*k as usize - 1], listed.len() < FEW);
             entries
                 .push(EtaEntry { i: *k, rate })
                 .map_err(|_| NoMemory)?;

@@ -10,53 +10,65 @@ use frac128::{Frac, product};
 use std::alloc::Global;
 use std::marker::Model;
 
+/// How a fraction is kept: in lowest terms, or by terms that may have a common divisor.
+#[derive(Clone, Copy)]
+enum Form {
+    Lowest(Frac),
+    Terms { num: i128, den: i128 },
+}
+
 /// A fraction whose terms may have a common divisor: the denominator is at least 1, and neither term is larger than 2^127 - 1.
 #[derive(Drop)]
 pub struct Ratio {
-    num: i128,
-    den: i128,
+    form: Form,
 }
 
 impl Model for Ratio {
-    ghost use Rattle.std.specs.Prelude.{unsigned_abs};
-    ghost use Rattle.exact_values.specs.Rational.{ℚ, fraction};
-    ghost use Rattle.lp_model.specs.Ratios.{AreTerms};
+    ghost use Rattle.exact_values.specs.Rational.{ℚ};
+    ghost use Rattle.lp_model.specs.Ratios.{number_of, IsForm};
 
     ghost Value = { ℚ };
 
-    ghost view = { λ a. fraction a.num (unsigned_abs a.den) };
+    ghost view = { λ a. number_of a.form };
 
-    ghost invariant = { λ a. AreTerms a.num a.den };
+    ghost invariant = { λ a. IsForm a.form };
 }
 
 impl Ratio {
     /// n/d, where d is at least 1 and n is not the least of all `i128`.
+    #[inline(always)]
     pub fn new(n: i128, d: i128) -> Ratio
         requires at_least_one { pos 1 ≤ℤ d }
         requires n_fits { Fits n }
         ensures { result ≡ fraction n (unsigned_abs d) }
     {
-        Ratio { num: n, den: d }
+        Ratio {
+            form: Form::Terms { num: n, den: d },
+        }
     }
 
     /// The same number.
+    #[inline(always)]
     pub fn of(x: Frac) -> Ratio
         ensures { result ≡ x }
     {
         Ratio {
-            num: x.num(),
-            den: x.den(),
+            form: Form::Lowest(x),
         }
     }
 
     /// A numerator and a denominator.
+    #[inline(always)]
     pub fn terms(&self) -> (i128, i128)
         ensures value { fraction result.0 (unsigned_abs result.1) ≡ self.now }
         ensures at_least_one { pos 1 ≤ℤ result.1 }
         ensures num_fits { Fits result.0 }
         ensures den_fits { Fits result.1 }
     {
-        (self.num, self.den)
+        match self.form {
+            Form::Lowest(x) => (x.num(), x.den()),
+            Form::Terms { num, den } => (num, den),
+        }
     }
 
     /// Whether the number is 0.
@@ -64,7 +76,8 @@ impl Ratio {
     pub fn is_zero(&self) -> bool
         ensures { IsTrue result ↔ (self.now ≡ zero_ℚ) }
     {
-        self.num == 0
+        let (num, _) = self.terms();
+        num == 0
     }
 
     /// -1, 0 or 1, as the number is below, at or above 0.
@@ -72,9 +85,10 @@ impl Ratio {
     pub fn sign(&self) -> i8
         ensures { result ≡ sign_ℚ self.now }
     {
-        if self.num > 0 {
+        let (num, _) = self.terms();
+        if num > 0 {
             1
-        } else if self.num < 0 {
+        } else if num < 0 {
             -1
         } else {
             0
@@ -86,8 +100,9 @@ impl Ratio {
     pub fn whole(&self) -> Option<Frac>
         ensures { IfSome result (λ x. x ≡ self.now) }
     {
-        if self.den == 1 {
-            Some(Frac::whole(self.num))
+        let (num, den) = self.terms();
+        if den == 1 {
+            Some(Frac::whole(num))
         } else {
             None
         }
@@ -98,40 +113,37 @@ impl Ratio {
     pub fn copy(&self) -> Ratio
         ensures { result ≡ self.now }
     {
-        Ratio {
-            num: self.num,
-            den: self.den,
-        }
+        Ratio { form: self.form }
     }
 
     /// The same number in lowest terms.
     pub fn reduced(&self) -> Frac
         ensures { result ≡ self.now }
     {
-        Frac::new(self.num, self.den)
+        match self.form {
+            Form::Lowest(x) => x,
+            Form::Terms { num, den } => Frac::new(num, den),
+        }
     }
 
     /// The opposite.
+    #[inline(always)]
     pub fn neg(&self) -> Ratio
         ensures { result ≡ neg_ℚ self.now }
     {
-        Ratio {
-            num: -self.num,
-            den: self.den,
-        }
+        let (num, den) = self.terms();
+        Ratio::new(-num, den)
     }
 
     /// Whether the number is below a limit.
     pub fn is_below(&self, limit: Frac) -> bool
         ensures { result ≡ lt_ℚ self.now limit }
     {
+        let (num, den) = self.terms();
         if limit.is_zero() {
-            return self.num < 0;
+            return num < 0;
         }
-        match (
-            product(self.num, limit.den()),
-            product(limit.num(), self.den),
-        ) {
+        match (product(num, limit.den()), product(limit.num(), den)) {
             (Some(left), Some(right)) => left < right,
             _ => self.reduced().is_less(limit),
         }
@@ -141,13 +153,11 @@ impl Ratio {
     pub fn is_above(&self, limit: Frac) -> bool
         ensures { result ≡ lt_ℚ limit self.now }
     {
+        let (num, den) = self.terms();
         if limit.is_zero() {
-            return self.num > 0;
+            return num > 0;
         }
-        match (
-            product(self.num, limit.den()),
-            product(limit.num(), self.den),
-        ) {
+        match (product(num, limit.den()), product(limit.num(), den)) {
             (Some(left), Some(right)) => right < left,
             _ => limit.is_less(self.reduced()),
         }
