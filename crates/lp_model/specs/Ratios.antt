@@ -1,7 +1,7 @@
 -- Fractions that need not be in lowest terms.
 --     number_of f                  the number that is kept so
 --     IsForm f                     the terms are those of a fraction
-use Rattle.std.specs.Prelude.{ℤ, pos, ◌≤ℤ◌, unsigned_abs, Unit}
+use Rattle.std.specs.Prelude.{ℤ, pos, ◌≤ℤ◌, unsigned_abs}
 use Rattle.exact_values.specs.Rational.{ℚ, fraction}
 use Rattle.frac128.specs.Terms.{Fits}
 use Rattle.lp_model.specs.declared.ratio.Form.{Form}
