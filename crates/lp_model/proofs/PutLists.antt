@@ -3,8 +3,11 @@ use Rattle.std.proofs.Common.{◌≡◌, ◌≢◌, ◌∙◌, sym, ap, subst, �
 use Rattle.std.specs.Prelude.{◌≤ℤ◌, unsigned_abs}
 use Rattle.std.proofs.lemmas.Bool.{cases_lt, cases_eq}
 use Rattle.std.proofs.lemmas.List.{get_or-set_other, get_or-set_same, length-set, append_assoc, append-nil, get_or-map, length-map, ext_get_or}
-use Rattle.std.proofs.lemmas.List.Elements.{filter_more, All-more, All-weaker}
+use Rattle.std.proofs.lemmas.List.Elements.{filter_more, filter-append, All-more, All-weaker, All-append, All-cons}
+use Rattle.lp_model.proofs.NonzeroLists.{candidates_within}
 use Rattle.std.proofs.Math.Nat.{eq-or-lt_of_le}
+use Rattle.std.proofs.Math.Seq.{take-append_seam}
+use Rattle.std.specs.Prelude.{Result, Ok, Err, OnOk}
 use Rattle.exact_values.specs.Rational.{ℚ, zero_ℚ, fraction}
 use Rattle.exact_values.specs.Tests.{eq_ℚ}
 use Rattle.exact_values.proofs.TestsLaws.{test_from_same, eq_fails_from_apart}
@@ -142,7 +145,12 @@ all_right xs now n (k ∷ ks) (next_listed h rest) own partly i above =
 pub all_put : (xs now : List ℚ) (ks : List ℕ) → length now ≡ length xs → CoverNonzeroFrom xs 1 ks → All (λ k. value_at now k ≡ value_at xs k) ks →
     IsPartly xs now → now ≡ xs
 all_put xs now ks places cover own partly =
-    ext_get_or zero_ℚ now xs places (λ i below. all_right xs now 1 ks cover own partly (suc i) (omega arith))
+    ext_get_or zero_ℚ now xs places (λ i below. at_place i (all_right xs now 1 ks cover own partly (i + 1) (omega arith)))
+  where
+    at_place : (i : ℕ) → value_at now (i + 1) ≡ value_at xs (i + 1) → get_or now i zero_ℚ ≡ get_or xs i zero_ℚ
+    at_place i e =
+        let place : i + 1 - 1 ≡ i = omega arith in
+        ap (λ j. get_or now j zero_ℚ) (sym place) ∙ e ∙ ap (λ j. get_or xs j zero_ℚ) place
 
 -- zeros are part of any numbers
 pub zeros_partly : (xs old : List ℚ) → ((n : ℕ) → 1 ≤ n → value_at old n ≡ zero_ℚ) → IsPartly xs old
@@ -153,3 +161,43 @@ zeros_partly xs old zeros (suc k) = inr (zeros (suc k) (omega arith))
 pub none_of_nothing : (ks : List ℕ) → AreNonzeroFrom [] 1 ks → ks ≡ []
 none_of_nothing [] h = refl
 none_of_nothing (k ∷ ks) (next_nonzero g rest) = absurd (omega (arith, g.from, g.within))
+
+-- ---- two lists and a number between them
+
+pub each_within : (d : ℤ) (ns : List ℤ) (ks : List ℕ) → CoverNonzeroFrom (over d ns) 1 ks → All (λ k. (1 ≤ k) × (k ≤ length ns)) ks
+each_within d ns ks cover i e below =
+    let within = candidates_within (over d ns) 1 ks (omega arith) cover i e below in
+    (within.0, subst (λ n. slice_index_or ks i e ≤ n) (length-map (λ n. fraction n (unsigned_abs d)) ns) within.1)
+
+pub all_before : (P : ℕ → Type 0) (before rest : List ℕ) → All P (before ++ rest) → All P before
+all_before P [] rest h i d below = absurd (omega (arith, below))
+all_before P (b ∷ bs) rest h zero d below = h zero d (omega arith)
+all_before P (b ∷ bs) rest h (suc i) d below = all_before P bs rest (λ j e under. h (suc j) e (omega (arith, under))) i d (omega (arith, below))
+
+-- what holds where a call succeeds
+pub on_ok : {A E : Type 0} (r : Result A E) {P Q : Type 0} → (P → Q) → OnOk r P → OnOk r Q
+on_ok (Ok a) step h = step h
+on_ok (Err e) step h = tt
+
+pub joined_lists : (p : ℕ → Bool) (front before after first second third : List ℕ) (k : ℕ) → first ≡ front ++ filter p before →
+    second ≡ first ++ filter p (k ∷ []) → third ≡ second ++ filter p after → third ≡ front ++ filter p (before ++ k ∷ after)
+joined_lists p front before after first second third k is_first is_second is_third =
+    is_third ∙ ap (λ ls. ls ++ filter p after) (is_second ∙ ap (λ ls. ls ++ filter p (k ∷ [])) is_first)
+    ∙ append_assoc (front ++ filter p before) (filter p (k ∷ [])) (filter p after)
+    ∙ append_assoc front (filter p before) (filter p (k ∷ []) ++ filter p after)
+    ∙ ap (λ ls. front ++ (filter p before ++ ls)) (sym (filter-append p (k ∷ []) after))
+    ∙ ap (λ ls. front ++ ls) (sym (filter-append p before (k ∷ after)))
+
+-- what stays right holds at all three
+pub all_three : (xs first second third : List ℚ) (before after : List ℕ) (k : ℕ) → All (λ k. value_at first k ≡ value_at xs k) before →
+    All (λ k. value_at second k ≡ value_at xs k) (k ∷ []) → All (λ k. value_at third k ≡ value_at xs k) after →
+    ((k : ℕ) → value_at first k ≡ value_at xs k → value_at second k ≡ value_at xs k) →
+    ((k : ℕ) → value_at second k ≡ value_at xs k → value_at third k ≡ value_at xs k) → All (λ k. value_at third k ≡ value_at xs k) (before ++ k ∷ after)
+all_three xs first second third before after k all one rest stays remains =
+    All-append (λ k. value_at third k ≡ value_at xs k) before (k ∷ after)
+    (All-weaker (λ k. value_at first k ≡ value_at xs k) (λ k. value_at third k ≡ value_at xs k) (λ i e. remains i (stays i e)) before all)
+    (All-cons (λ k. value_at third k ≡ value_at xs k) k after (remains k (one zero k (omega arith))) rest)
+
+-- a vector whose places were all written
+pub front_taken : (xs rest : List ℚ) (n : ℕ) → n ≡ length xs → take n (xs ++ rest) ≡ xs
+front_taken xs rest n e = ap (λ m. take m (xs ++ rest)) e ∙ take-append_seam xs rest

@@ -25,6 +25,9 @@ pub read_terms : (n d : ℤ) → AreTerms n d → fraction (read n) (unsigned_ab
 read_terms n d h =
     ap (λ m. fraction m (unsigned_abs (read d))) (read_fitting n h.num_fits) ∙ ap (λ m. fraction n (unsigned_abs m)) (read_fitting d h.den_fits)
 
+pub read_is : (z y : ℤ) → Fits y → z ≡ y → read z ≡ y
+read_is z y fits is = ap read is ∙ read_fitting y fits
+
 -- ---- 0
 
 pub zero_numerator : (n : ℤ) (d : ℕ) → 0 < d → n ≡ pos 0 → fraction n d ≡ zero_ℚ
