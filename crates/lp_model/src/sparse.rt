@@ -221,6 +221,7 @@ impl SparseVector {
             }
             Err(refused) => {
                 self.nonzero.clear();
+                self.values.clear();
                 Err(refused)
             }
         }

@@ -1,0 +1,20 @@
+use Rattle.std.proofs.Common.{rules, ◌∙◌, ap, ap₂, sym, refl, pos}
+use Rattle.std.specs.Prelude.{int_lt, ◌*ℤ◌}
+use Rattle.exact_values.specs.Tests.{lt_ℚ}
+use Rattle.frac128.proofs.Parts.{read_fitting}
+use Rattle.lp_model.proofs.RatioTerms.{above_zero_test, above_limit, read_is}
+use Rattle.lp_model.proofs.ratio.Ratio.is_above.Goals as goal
+
+pub returns-then-is_zero : goal.returns-then-is_zero
+returns-then-is_zero c =
+    ap (int_lt (pos 0)) (read_fitting c.self.inside.num c.self.invariant.num_fits)
+    ∙ above_zero_test c.self.inside.num c.self.inside.den c.args.self.now c.self.invariant c.self.view_is
+    ∙ ap (λ x. lt_ℚ x c.args.self.now) (sym (c.is_zero.ensures.0 c.if-is_zero.true))
+
+pub returns-in-Some-Some : goal.returns-in-Some-Some
+returns-in-Some-Some c =
+    let left = c.in-Some-Some.ensures in
+    let right = c.in-Some-Some.ensures' in
+    above_limit c.self.inside.num c.self.inside.den c.args.self.now c.self.invariant c.self.view_is c.args.limit _ _
+    (read_is c.in-Some-Some.left _ left.0 (left.1 ∙ ap₂ ◌*ℤ◌ (read_fitting c.self.inside.num c.self.invariant.num_fits) c.den.ensures.value))
+    (read_is c.in-Some-Some.right _ right.0 (right.1 ∙ ap₂ ◌*ℤ◌ c.num.ensures.value (read_fitting c.self.inside.den c.self.invariant.den_fits)))
