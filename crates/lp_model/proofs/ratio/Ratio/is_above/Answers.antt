@@ -16,5 +16,5 @@ returns-in-Some-Some c =
     let left = c.in-Some-Some.ensures in
     let right = c.in-Some-Some.ensures' in
     above_limit c.self.inside.num c.self.inside.den c.args.self.now c.self.invariant c.self.view_is c.args.limit _ _
-    (read_is c.in-Some-Some.left _ left.0 (left.1 ∙ ap₂ ◌*ℤ◌ (read_fitting c.self.inside.num c.self.invariant.num_fits) c.den.ensures.value))
-    (read_is c.in-Some-Some.right _ right.0 (right.1 ∙ ap₂ ◌*ℤ◌ c.num.ensures.value (read_fitting c.self.inside.den c.self.invariant.den_fits)))
+    (read_is c.in-Some-Some.left _ left.0 (left.1 ∙ ap₂ ◌*ℤ◌ (read_fitting c.self.inside.num c.self.invariant.num_fits) (read_fitting c.den.result c.den.ensures.fits ∙ c.den.ensures.value)))
+    (read_is c.in-Some-Some.right _ right.0 (right.1 ∙ ap₂ ◌*ℤ◌ (read_fitting c.num.result c.num.ensures.fits ∙ c.num.ensures.value) (read_fitting c.self.inside.den c.self.invariant.den_fits)))
