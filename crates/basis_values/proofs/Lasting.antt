@@ -1,13 +1,14 @@
 -- How long a motion lasts at least, by the product of a length and a speed in words; and what is no nearer than what is nearest so far.
 use Rattle.std.proofs.Common.{◌≡◌, ◌≢◌, ℕ, ◌+◌, ◌*◌, ◌/◌, ◌%◌, ◌≤◌, ℤ, Bool, true, false, refl, sym, ◌∙◌, ap, ap₂, subst, arith}
-use Rattle.std.specs.Prelude.{Option, Some, None, option_map, IfSome, IsTrue}
+use Rattle.std.specs.Prelude.{Option, Some, None, option_map, IfSome, IsTrue, int_eq, nat_eq, pos, ◌≤ℤ◌, unsigned_abs}
+use Rattle.std.proofs.lemmas.Int.{ints}
 use Rattle.std.specs.Option.{unwrap_or}
 use borrow.Author.Differences.{up, down}
 use Rattle.std.proofs.lemmas.Nat.{div-add-mod'}
-use Rattle.exact_values.specs.Rational.{ℚ, whole, zero_ℚ, neg_ℚ, inverse_ℚ, ◌≤ℚ◌, ◌-ℚ◌, ◌*ℚ◌, ◌/ℚ◌}
-use Rattle.exact_values.proofs.Fractions.{IsRatio, is_ratio, mul_ratio}
+use Rattle.exact_values.specs.Rational.{ℚ, whole, fraction, zero_ℚ, neg_ℚ, inverse_ℚ, ◌≤ℚ◌, ◌-ℚ◌, ◌*ℚ◌, ◌/ℚ◌}
+use Rattle.exact_values.proofs.Fractions.{IsRatio, is_ratio, mul_ratio, fraction_ratio}
 use Rattle.exact_values.proofs.Inverse.{inverse-neg}
-use Rattle.exact_values.proofs.Ring.{by_ring2, ◌⊗◌, ◌≐◌, opposite}
+use Rattle.exact_values.proofs.Ring.{by_ring1, by_ring2, ◌⊗◌, ◌≐◌, opposite}
 use Rattle.exact_values.proofs.TestsLaws.{test_from_le}
 use Rattle.lp_definitions.specs.LinearProgram.{LinearProgram, Vector}
 use Rattle.simplex_definitions.specs.Moves.{step_length, signed}
@@ -18,7 +19,7 @@ use Rattle.basis_values.specs.declared.reach.Ahead.{Ahead}
 use Rattle.basis_values.proofs.Lengths.{ahead_at, no_length}
 use Rattle.exact_values.proofs.Order.{le_from_ratios, lt_from_ratios, le-div}
 use Rattle.basis_values.specs.declared.word_terms.Words.{Words}
-use Rattle.basis_values.specs.WordTerms.{AreTermsOf}
+use Rattle.basis_values.specs.WordTerms.{AreTermsOf, MakeUp}
 
 -- the product of three words, by its words
 pub three_words : (base pair z : ℕ) →
@@ -36,11 +37,23 @@ nothing_ratio : IsRatio zero_ℚ 0 0 1
 unfolding whole
 nothing_ratio = is_ratio zero_ℚ
 
-pub lasts_as_long : (d s l : ℚ) (dw sw lw : Words) → AreTermsOf d dw → AreTermsOf s sw → AreTermsOf l lw → sw.top ≢ 0 →
+quotient_ratio : (x : ℚ) (w : Words) → MakeUp x w → IsRatio x w.top 0 w.bottom
+quotient_ratio x w h = subst (λ (y : ℚ). IsRatio y w.top 0 w.bottom) h.is (fraction_ratio (pos w.top) w.bottom h.some)
+
+pub lasts_as_long : (d s l : ℚ) (dw sw lw : Words) → MakeUp d dw → MakeUp s sw → AreTermsOf l lw → sw.top ≢ 0 →
     lw.top * sw.top * dw.bottom ≤ dw.top * lw.bottom * sw.bottom → l ≤ℚ d /ℚ s
 lasts_as_long d s l dw sw lw d_is s_is l_is some most =
-    le-div {x = l} {a = d} {b = s} (lt_from_ratios nothing_ratio (ratio_of s sw s_is) (omega (arith, some)))
-    (le_from_ratios (mul_ratio (ratio_of l lw l_is) (ratio_of s sw s_is)) (ratio_of d dw d_is) (omega (arith, most)))
+    le-div {x = l} {a = d} {b = s} (lt_from_ratios nothing_ratio (quotient_ratio s sw s_is) (omega (arith, some)))
+    (le_from_ratios (mul_ratio (ratio_of l lw l_is) (quotient_ratio s sw s_is)) (quotient_ratio d dw d_is) (omega (arith, most)))
+
+-- the words that the terms of a fraction are
+pub words_make_up : (x : ℚ) (n d : ℤ) (w : Words) → fraction n (unsigned_abs d) ≡ x → pos 1 ≤ℤ d → pos w.top ≡ n → pos w.bottom ≡ d → MakeUp x w
+words_make_up x n d w is some top bottom =
+    let under : unsigned_abs d ≡ w.bottom = ap unsigned_abs (sym bottom) in
+    record {
+      some = (let apart : 0 < unsigned_abs d = omega (arith, ints, some) in omega (arith, apart, under));
+      is = ap₂ fraction top (sym under) ∙ is;
+    }
 
 -- ---- what is nearest so far stays so
 
@@ -62,17 +75,24 @@ rests p z d up k speed rate nearest none speed_is rate_is =
 later : (r : Reach) (x : ℚ) (o : Option ℚ) (k : ℕ) → o ≡ Some x → r.length ≤ℚ x → sooner (Some r) o k ≡ Some r
 later r x o k is most = subst (λ (o : Option ℚ). sooner (Some r) o k ≡ Some r) (sym is) (rw (test_from_le r.length x most) refl)
 
-pub no_nearer : (p : LinearProgram) (z d : Vector) (up : Bool) (k : ℕ) (a : Ahead) (speed rate value distance : ℚ) (rises : Bool) (r : Reach) →
-    IsAhead p (λ _. speed) k (Some a) → speed ≡ signed up rate → rate ≡ d k → value ≡ z k → distance ≡ a.limit -ℚ value →
-    r.length ≤ℚ signed rises distance /ℚ signed rises speed → sooner (Some r) (step_length p z (motion d up) k) k ≡ Some r
-no_nearer p z d up k a speed rate value distance rises r ahead speed_is rate_is value_is distance_is most =
-    let whole_speed : speed ≡ motion d up k = speed_is ∙ ap (signed up) rate_is in
-    let there : IsAhead p (motion d up) k (Some a) = ahead_at p (motion d up) k speed (Some a) whole_speed ahead in
+turned_twice : (rises up same : Bool) (x : ℚ) → IsSame rises up same → signed same x ≡ signed rises (signed up x)
+turned_twice true true same x h = ap (λ b. signed b x) h
+turned_twice true false same x h = ap (λ b. signed b x) h
+turned_twice false true same x h = ap (λ b. signed b x) h
+turned_twice false false same x h = ap (λ b. signed b x) h ∙ by_ring1 x (λ x. x ≐ opposite (opposite x)) refl
+
+pub no_nearer : (p : LinearProgram) (z d : Vector) (up : Bool) (k : ℕ) (a : Ahead) (rate value distance : ℚ) (rises same : Bool) (r : Reach) →
+    IsAhead p (λ _. signed up rate) k (Some a) → rate ≡ d k → value ≡ z k → distance ≡ a.limit -ℚ value → IsSame rises up same →
+    r.length ≤ℚ signed rises distance /ℚ signed same rate → sooner (Some r) (step_length p z (motion d up) k) k ≡ Some r
+no_nearer p z d up k a rate value distance rises same r ahead rate_is value_is distance_is is_same most =
+    let speed_is : signed up rate ≡ motion d up k = ap (signed up) rate_is in
+    let there : IsAhead p (motion d up) k (Some a) = ahead_at p (motion d up) k (signed up rate) (Some a) speed_is ahead in
     let gap : distance ≡ a.limit -ℚ z k = distance_is ∙ ap (λ v. a.limit -ℚ v) value_is in
-    let same : signed rises distance /ℚ signed rises speed ≡ (a.limit -ℚ z k) /ℚ motion d up k =
-    signed_ratio rises distance speed ahead.3 ∙ ap₂ (λ x y. x /ℚ y) gap whole_speed in
+    let turned : signed rises distance /ℚ signed same rate ≡ (a.limit -ℚ z k) /ℚ motion d up k =
+    ap (λ x. signed rises distance /ℚ x) (turned_twice rises up same rate is_same) ∙ signed_ratio rises distance (signed up rate) ahead.3
+    ∙ ap₂ (λ x y. x /ℚ y) gap speed_is in
     later r ((a.limit -ℚ z k) /ℚ motion d up k) (step_length p z (motion d up) k) k
-    (ap (option_map (λ l. (l -ℚ z k) /ℚ motion d up k)) there.0) (subst (λ (x : ℚ). r.length ≤ℚ x) same most)
+    (ap (option_map (λ l. (l -ℚ z k) /ℚ motion d up k)) there.0) (subst (λ (x : ℚ). r.length ≤ℚ x) turned most)
 
 -- what a test that may fail tells where it is passed
 pub when_passed : (o : Option Bool) (b : Bool) (P : Type 0) → b ≡ unwrap_or o false → IfSome o (λ x. IsTrue x → P) → IsTrue b → P

@@ -1,13 +1,19 @@
 -- How long a motion lasts until a variable reaches the limit ahead of it.
-use Rattle.std.proofs.Common.{◌≡◌, ◌≢◌, ℕ, ◌+◌, Bool, true, false, refl, sym, ◌∙◌, ap, ap₂, subst, arith, add-one, ℤ, pos, ◌<ℤ◌}
-use Rattle.std.specs.Prelude.{Option, Some, None, option_map, int_lt}
+use Rattle.std.proofs.Common.{◌≡◌, ◌≢◌, ℕ, ◌+◌, ◌≤◌, Bool, true, false, refl, sym, ◌∙◌, ap, ap₂, subst, arith, add-one, ℤ, pos, ◌<◌, ◌*◌, ◌+ℤ◌, ◌*ℤ◌, ◌<ℤ◌, ◌≤ℤ◌}
+use Rattle.std.specs.Prelude.{Option, Some, None, option_map, int_lt, neg_ℤ, unsigned_abs}
+use Rattle.std.specs.declared.cmp.Ordering.{Ordering}
+use Rattle.std.specs.declared.cmp.Ordering.TheVariants.{Less, Equal, Greater}
 use Rattle.std.proofs.lemmas.Int.{ints}
-use Rattle.exact_values.specs.Rational.{ℚ, zero_ℚ, one_ℚ, neg_ℚ, inverse_ℚ, ◌-ℚ◌, ◌*ℚ◌, ◌/ℚ◌, ◌<ℚ◌, sign_ℚ}
+use Rattle.exact_values.specs.Rational.{ℚ, zero_ℚ, one_ℚ, neg_ℚ, inverse_ℚ, fraction, ◌+ℚ◌, ◌-ℚ◌, ◌*ℚ◌, ◌/ℚ◌, ◌<ℚ◌, compare_ℚ, sign_of, sign_ℚ}
 use Rattle.exact_values.specs.Tests.{lt_ℚ}
+use Rattle.exact_values.proofs.Fractions.{add_fractions, neg_fraction, parts_make}
+use Rattle.exact_values.proofs.RingLaws.{zero-add}
 use Rattle.exact_values.proofs.Inverse.{inverse-neg}
 use Rattle.exact_values.proofs.Order.{lt_irrefl, le_of_lt}
 use Rattle.exact_values.proofs.Ring.{by_ring1, by_ring2, number, ◌⊗◌, ◌≐◌, opposite}
-use Rattle.exact_values.proofs.TestsLaws.{lt_from_test, test_from_lt, lt_fails_from_le, above_from_positive, below_from_negative}
+use Rattle.exact_values.proofs.TestsLaws.{lt_from_test, test_from_lt, lt_fails_from_le, above_from_positive, below_from_negative, sign_from_above, sign_from_below, sign_from_zero}
+use Rattle.exact_values.proofs.Compare.{lt_from_compare, same_from_compare, gt_from_compare}
+use Rattle.exact_values.proofs.Signs.{neg_above, neg_below}
 use Rattle.lp_definitions.specs.LinearProgram.{LinearProgram, Vector, lower_of, upper_of}
 use Rattle.simplex_definitions.specs.Moves.{limit_ahead, step_length, signed}
 use Rattle.basis_values.specs.Motions.{motion}
@@ -31,11 +37,11 @@ none_ahead p k v e = subst (λ (x : ℚ). limit_ahead p (λ _. x) k ≡ None) (s
     at_rest : lt_ℚ zero_ℚ zero_ℚ ≡ false
     at_rest = by_test (lt_ℚ zero_ℚ zero_ℚ) refl
 
-pub ahead_up : (p : LinearProgram) (k : ℕ) (v l : ℚ) → lt_ℚ zero_ℚ v ≡ true → upper_of p k ≡ Some l →
+ahead_up : (p : LinearProgram) (k : ℕ) (v l : ℚ) → lt_ℚ zero_ℚ v ≡ true → upper_of p k ≡ Some l →
     IsAhead p (λ _. v) k (Some (record { term = 2; limit = l }))
 ahead_up p k v l up is = (rw up is, is, omega arith, λ e. lt_irrefl (lt_from_test zero_ℚ zero_ℚ (subst (λ (x : ℚ). lt_ℚ zero_ℚ x ≡ true) e up)))
 
-pub ahead_down : (p : LinearProgram) (k : ℕ) (v l : ℚ) → lt_ℚ zero_ℚ v ≡ false → lt_ℚ v zero_ℚ ≡ true → lower_of p k ≡ Some l →
+ahead_down : (p : LinearProgram) (k : ℕ) (v l : ℚ) → lt_ℚ zero_ℚ v ≡ false → lt_ℚ v zero_ℚ ≡ true → lower_of p k ≡ Some l →
     IsAhead p (λ _. v) k (Some (record { term = 1; limit = l }))
 ahead_down p k v l not_up down is =
     (rw (not_up, down) is, is, omega arith, λ e. lt_irrefl (lt_from_test zero_ℚ zero_ℚ (subst (λ (x : ℚ). lt_ℚ x zero_ℚ ≡ true) e down)))
@@ -71,12 +77,29 @@ ahead_at p v k speed (Some a) e h = (subst (λ (x : ℚ). limit_ahead p (λ _. x
 over_opposite : (x d : ℚ) → d ≢ zero_ℚ → neg_ℚ (x /ℚ d) ≡ x /ℚ neg_ℚ d
 over_opposite x d some = by_ring2 x (inverse_ℚ d) (λ x i. opposite (x ⊗ i) ≐ x ⊗ opposite i) refl ∙ ap (λ i. x *ℚ i) (sym (inverse-neg d some))
 
+neg_nothing : neg_ℚ zero_ℚ ≡ zero_ℚ
+neg_nothing = by_ring1 zero_ℚ (λ x. opposite (number (pos 0)) ≐ number (pos 0)) refl
+
 pub signed_apart : (up : Bool) (d : ℚ) → signed up d ≢ zero_ℚ → d ≢ zero_ℚ
 signed_apart true d some = some
 signed_apart false d some = λ vanishes. some (ap neg_ℚ vanishes ∙ neg_nothing)
+
+-- the sign of the opposite
+pub sign_turned : (x : ℚ) → neg_ℤ (sign_ℚ x) ≡ sign_ℚ (neg_ℚ x)
+sign_turned x = by_order (compare_ℚ x zero_ℚ) refl
   where
-    neg_nothing : neg_ℚ zero_ℚ ≡ zero_ℚ
-    neg_nothing = by_ring1 zero_ℚ (λ x. opposite (number (pos 0)) ≐ number (pos 0)) refl
+    by_order : (o : Ordering) → compare_ℚ x zero_ℚ ≡ o → neg_ℤ (sign_of o) ≡ sign_ℚ (neg_ℚ x)
+    by_order Less e = sym (sign_from_above (neg_ℚ x) (neg_above x (lt_from_compare e)))
+    by_order Equal e = sym (sign_from_zero (neg_ℚ x) (ap neg_ℚ (same_from_compare e) ∙ neg_nothing))
+    by_order Greater e = sym (sign_from_below (neg_ℚ x) (neg_below x (gt_from_compare e)))
+
+pub sign_is_small : (x : ℚ) → unsigned_abs (sign_ℚ x) ≤ 1
+sign_is_small x = by_order (compare_ℚ x zero_ℚ)
+  where
+    by_order : (o : Ordering) → unsigned_abs (sign_of o) ≤ 1
+    by_order Less = omega arith
+    by_order Equal = omega arith
+    by_order Greater = omega arith
 
 pub signed_over : (up : Bool) (x d : ℚ) → d ≢ zero_ℚ → signed up (x /ℚ d) ≡ x /ℚ signed up d
 signed_over true x d some = refl
@@ -90,15 +113,40 @@ length_found p z d up k l change ahead moves is =
 pub no_length : (p : LinearProgram) (z v : Vector) (k : ℕ) → limit_ahead p v k ≡ None → None ≡ step_length p z v k
 no_length p z v k e = sym (ap (option_map (λ l. (l -ℚ z k) /ℚ v k)) e)
 
+-- ---- a limit less a value
+
+-- a whole limit, and a value by its terms
+pub whole_less : (limit value : ℚ) (n d left : ℤ) → limit.denominator ≡ 1 → pos 1 ≤ℤ d → fraction n (unsigned_abs d) ≡ value →
+    left ≡ limit.numerator *ℤ d +ℤ neg_ℤ n → fraction left (unsigned_abs d) ≡ limit -ℚ value
+whole_less limit value n d left one some is left_is =
+    let e : ℕ = unsigned_abs d in
+    let below : 0 < e = omega (arith, ints, some) in
+    let under : pos e ≡ d = omega (arith, ints, some) in
+    let first : fraction limit.numerator 1 ≡ limit = ap (fraction limit.numerator) (sym one) ∙ parts_make limit in
+    let whole_sum : fraction limit.numerator 1 +ℚ fraction (neg_ℤ n) e ≡ fraction (limit.numerator *ℤ pos e +ℤ neg_ℤ n *ℤ pos 1) (1 * e) =
+    add_fractions limit.numerator (neg_ℤ n) 1 e (omega arith) below in
+    let top : left ≡ limit.numerator *ℤ pos e +ℤ neg_ℤ n *ℤ pos 1 =
+    left_is ∙ ap₂ (λ x y. limit.numerator *ℤ x +ℤ y) (sym under) (times_one (neg_ℤ n)) in
+    ap₂ fraction top (times_one_left e) ∙ sym whole_sum ∙ ap₂ (λ x y. x +ℚ y) first (sym (neg_fraction n e below) ∙ ap neg_ℚ is)
+  where
+    times_one : (z : ℤ) → z ≡ z *ℤ pos 1
+    times_one z = omega (arith, ints)
+
+    times_one_left : (m : ℕ) → m ≡ 1 * m
+    times_one_left m = omega arith
+
+pub nothing_less : (limit value distance : ℚ) → limit ≡ zero_ℚ → distance ≡ neg_ℚ value → distance ≡ limit -ℚ value
+nothing_less limit value distance none is = is ∙ sym (zero-add (neg_ℚ value)) ∙ ap (λ x. x +ℚ neg_ℚ value) (sym none)
+
 -- ---- what is refused
 
-module _ (p : LinearProgram) (z d : Vector) (up : Bool) (q k : ℕ) (a : Ahead) (speed rate value : ℚ) (rate_is : rate ≡ d k) (speed_is : speed ≡ signed up rate)
-    (ahead : IsAhead p (λ _. speed) k (Some a)) (value_is : value ≡ z k) where
+module _ (p : LinearProgram) (z d : Vector) (up : Bool) (q k : ℕ) (a : Ahead) (rate value : ℚ) (rate_is : rate ≡ d k)
+    (ahead : IsAhead p (λ _. signed up rate) k (Some a)) (value_is : value ≡ z k) where
   there : IsAhead p (motion d up) k (Some a)
-  there = ahead_at p (motion d up) k speed (Some a) (speed_is ∙ ap (signed up) rate_is) ahead
+  there = ahead_at p (motion d up) k (signed up rate) (Some a) (ap (signed up) rate_is) ahead
 
   pub moves : rate ≢ zero_ℚ
-  moves = signed_apart up rate (λ e. ahead.3 (speed_is ∙ e))
+  moves = signed_apart up rate ahead.3
 
   pub distance_refused : (f : Formula) (e : Evidence) → f ≡ reach_formula 6 0 k a.term → IsRefusal f Sub a.limit value e → StepLengthRefused p z d up q k e
   distance_refused f e is h =

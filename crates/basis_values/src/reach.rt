@@ -1,9 +1,9 @@
 //! How long a motion lasts until a variable reaches a limit.
 
 ghost use Rattle.std.specs.Prelude.{◌≡◌, length, IfOk, IfErr, IfSome, IsTrue};
-ghost use Rattle.exact_values.specs.Rational.{◌-ℚ◌};
+ghost use Rattle.exact_values.specs.Rational.{◌-ℚ◌, sign_ℚ};
 ghost use Rattle.lp_definitions.specs.LinearProgram.{size, value_at, IsVariable};
-ghost use Rattle.simplex_definitions.specs.Moves.{step_length};
+ghost use Rattle.simplex_definitions.specs.Moves.{step_length, signed};
 ghost use Rattle.basis_values.specs.Motions.{motion};
 ghost use Rattle.basis_values.specs.Reach.{StepLengthRefused, IsAhead, Yields, sooner, reach_formula};
 
@@ -56,13 +56,21 @@ pub fn length_formula(q: u32, k: u32, term: u32) -> Formula
     formula(7, q, k, term)
 }
 
-/// The limit ahead of `k`, which moves at this speed.
+/// -1, 0 or 1, as the number, counted upward or downward, is below, at or above 0.
+#[inline(always)]
+fn counted_sign(value: &Ratio, up: bool) -> i8
+    ensures { result ≡ sign_ℚ (signed up value.now) }
+{
+    if up { value.sign() } else { -value.sign() }
+}
+
+/// The limit ahead of `k`, which moves at this rate, counted upward or downward.
 #[inline(always)]
 fn limit_before(lp: &Lp, rate: &Ratio, up: bool, k: u32) -> Option<Ahead>
     requires { IsVariable lp.now.matrix k }
     ensures { IsAhead lp.now (λ _. signed up rate.now) k result }
 {
-    let sign = if up { rate.sign() } else { -rate.sign() };
+    let sign = counted_sign(rate, up);
     if sign > 0 {
         let upper = lp.upper_limit(k)?;
         Some(Ahead {

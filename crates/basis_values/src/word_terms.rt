@@ -2,7 +2,7 @@
 
 ghost use Rattle.std.specs.Prelude.{◌≡◌, ◌*◌, ◌+◌, ◌^◌, ◌<◌, ◌≤◌, IfSome, IsTrue};
 ghost use Rattle.exact_values.specs.Rational.{◌≤ℚ◌, ◌/ℚ◌};
-ghost use Rattle.basis_values.specs.WordTerms.{AreTermsOf};
+ghost use Rattle.basis_values.specs.WordTerms.{AreTermsOf, MakeUp};
 
 use frac128::Frac;
 use lp_model::Ratio;
@@ -30,7 +30,7 @@ fn words_of(x: Frac) -> Option<Words>
 /// The same of a fraction that isn't brought to lowest terms.
 #[inline(always)]
 fn words_of_ratio(x: &Ratio) -> Option<Words>
-    ensures { IfSome result (AreTermsOf x.now) }
+    ensures { IfSome result (MakeUp x.now) }
 {
     let (num, den) = x.terms();
     let top = u64::try_from(num).ok()?;

@@ -1,8 +1,9 @@
 -- Numbers that are put at the places of a list, and the list of those that aren't 0.
-use Rattle.std.proofs.Common.{◌≡◌, ◌≢◌, ◌∙◌, sym, ap, subst, ℕ, zero, suc, ◌+◌, ◌-◌, ◌<◌, ◌≤◌, Bool, true, false, not, List, [], ◌∷◌, ◌++◌, length, take, filter, map, get_or, slice_index_or, slice_set, ◌⊎◌, inl, inr, refl, cond, arith, All, ℤ, pos}
+use Rattle.std.proofs.Common.{◌≡◌, ◌≢◌, ◌∙◌, sym, ap, subst, ℕ, zero, suc, ◌+◌, ◌-◌, ◌<◌, ◌≤◌, Bool, true, false, not, List, [], ◌∷◌, ◌++◌, length, take, filter, map, get_or, slice_index_or, slice_set, ◌⊎◌, inl, inr, refl, cond, arith, All, ℤ, pos, to_z, of_z}
+use Rattle.std.specs.Int.{w128}
 use Rattle.std.specs.Prelude.{◌≤ℤ◌, unsigned_abs}
 use Rattle.std.proofs.lemmas.Bool.{cases_lt, cases_eq}
-use Rattle.std.proofs.lemmas.List.{get_or-set_other, get_or-set_same, length-set, append_assoc, append-nil, get_or-map, length-map, ext_get_or}
+use Rattle.std.proofs.lemmas.List.{get_or-set_other, get_or-set_same, length-set, append_assoc, append-nil, get_or-map, length-map, take_all, ext_get_or}
 use Rattle.std.proofs.lemmas.List.Elements.{filter_more, filter-append, All-more, All-weaker, All-append, All-cons}
 use Rattle.lp_model.proofs.NonzeroLists.{candidates_within}
 use Rattle.std.proofs.Math.Nat.{eq-or-lt_of_le}
@@ -13,6 +14,8 @@ use Rattle.exact_values.specs.Tests.{eq_ℚ}
 use Rattle.exact_values.proofs.TestsLaws.{test_from_same, eq_fails_from_apart}
 use Rattle.lp_definitions.specs.LinearProgram.{value_at}
 use Rattle.lp_model.specs.Sparse.{AreNonzeroFrom, no_more, next_nonzero, CoverNonzeroFrom, no_more_listed, next_listed, IsPartly, over}
+use Rattle.frac128.specs.Terms.{Fits}
+use Rattle.frac128.proofs.Parts.{read, read_fitting}
 use Rattle.lp_model.proofs.RatioTerms.{positive_terms, zero_numerator, numerator_zero}
 
 abbrev pub is_some : List ℚ → ℕ → Bool
@@ -105,17 +108,51 @@ module _ (xs old now : List ℚ) (ks : List ℕ) (n : ℕ) (front kept : List �
 
 -- ---- numbers over a denominator
 
-module _ (d : ℤ) (ns : List ℤ) (k : ℕ) (low : 1 ≤ k) (high : k ≤ length ns) (n : ℤ) (is : n ≡ get_or ns (k - 1) n) (some : pos 1 ≤ℤ d) where
-  pub over_at : fraction n (unsigned_abs d) ≡ value_at (over d ns) k
-  over_at =
-      ap (λ m. fraction m (unsigned_abs d)) is
-      ∙ sym (get_or-map (λ m. fraction m (unsigned_abs d)) ns (k - 1) n zero_ℚ (omega (arith, low, high)))
+module _ (d : ℤ) (ns : List ℤ) (some : pos 1 ≤ℤ d) (k : ℕ) (low : 1 ≤ k) (high : k ≤ length ns) where
+  over_at : fraction (slice_index_or ns (k - 1) (pos 0)) (unsigned_abs d) ≡ value_at (over d ns) k
+  over_at = sym (get_or-map (λ n. fraction n (unsigned_abs d)) ns (k - 1) (pos 0) zero_ℚ (omega (arith, low, high)))
 
-  pub over_zero : n ≡ pos 0 → value_at (over d ns) k ≡ zero_ℚ
-  over_zero e = sym over_at ∙ zero_numerator n (unsigned_abs d) (positive_terms d some) e
+  over_zero : slice_index_or ns (k - 1) (pos 0) ≡ pos 0 → value_at (over d ns) k ≡ zero_ℚ
+  over_zero e = sym over_at ∙ zero_numerator (slice_index_or ns (k - 1) (pos 0)) (unsigned_abs d) (positive_terms d some) e
 
-  pub over_apart : n ≢ pos 0 → value_at (over d ns) k ≢ zero_ℚ
-  over_apart apart e = apart (numerator_zero n (unsigned_abs d) (positive_terms d some) (over_at ∙ e))
+  over_apart : slice_index_or ns (k - 1) (pos 0) ≢ pos 0 → value_at (over d ns) k ≢ zero_ℚ
+  over_apart apart e = apart (numerator_zero (slice_index_or ns (k - 1) (pos 0)) (unsigned_abs d) (positive_terms d some) (over_at ∙ e))
+
+module _ (d : ℤ) (ns : List ℤ) (some : pos 1 ≤ℤ d) (old now : List ℚ) (ks : List ℕ) (i : ℕ) (front kept : List ℕ)
+    (h : IsPut (over d ns) old now ks i front kept) (below : i < length ks) (places : length old ≡ length ns) (fit : All Fits ns)
+    (each : All (λ k. (1 ≤ k) × (k ≤ length ns)) ks) where
+  abbrev candidate : ℕ
+  candidate = slice_index_or ks i 0
+
+  abbrev number : ℤ
+  number = slice_index_or ns (candidate - 1) (pos 0)
+
+  within : (1 ≤ candidate) × (candidate ≤ length ns)
+  within = each i 0 below
+
+  number_read : read number ≡ number
+  number_read = read_fitting number (fit (candidate - 1) (pos 0) (omega (arith, within.0, within.1)))
+
+  -- the next candidate's number is 0
+  pub next_zero : of_z w128 number ≡ 0 → IsPut (over d ns) old now ks (i + 1) front kept
+  next_zero none =
+      zero_put (over d ns) old now ks i front kept h below candidate refl
+      (over_zero d ns some candidate within.0 within.1 (sym number_read ∙ ap (to_z w128) none))
+
+  -- the next candidate's number is put in
+  pub next_put : (v : ℚ) → v ≡ fraction (read number) (unsigned_abs d) → (of_z w128 number ≡ 0 → ⊥) →
+      IsPut (over d ns) old (slice_set now (candidate - 1) v) ks (i + 1) front (kept ++ candidate ∷ [])
+  next_put v is apart =
+      one_put (over d ns) old now ks i front kept h below candidate refl v
+      (is ∙ ap (λ n. fraction n (unsigned_abs d)) number_read ∙ over_at d ns some candidate within.0 within.1)
+      (over_apart d ns some candidate within.0 within.1 (λ e. apart (ap (of_z w128) e))) (omega (arith, within.0, within.1, places))
+
+-- the whole list is gone through
+pub all_own : (xs old now : List ℚ) (ks : List ℕ) (n : ℕ) (front kept : List ℕ) → IsPut xs old now ks n front kept → length ks ≤ n →
+    All (λ k. value_at now k ≡ value_at xs k) ks × (kept ≡ front ++ filter (is_some xs) ks)
+all_own xs old now ks n front kept h past =
+    let whole : take n ks ≡ ks = take_all n ks past in
+    (subst (All (λ k. value_at now k ≡ value_at xs k)) whole h.own, h.listed ∙ ap (λ ls. front ++ filter (is_some xs) ls) whole)
 
 -- ---- all numbers
 
@@ -167,7 +204,8 @@ none_of_nothing (k ∷ ks) (next_nonzero g rest) = absurd (omega (arith, g.from,
 pub each_within : (d : ℤ) (ns : List ℤ) (ks : List ℕ) → CoverNonzeroFrom (over d ns) 1 ks → All (λ k. (1 ≤ k) × (k ≤ length ns)) ks
 each_within d ns ks cover i e below =
     let within = candidates_within (over d ns) 1 ks (omega arith) cover i e below in
-    (within.0, subst (λ n. slice_index_or ks i e ≤ n) (length-map (λ n. fraction n (unsigned_abs d)) ns) within.1)
+    let long : length (over d ns) ≡ length ns = length-map ns (λ n. fraction n (unsigned_abs d)) in
+    (within.0, subst (λ n. slice_index_or ks i e ≤ n) long within.1)
 
 pub all_before : (P : ℕ → Type 0) (before rest : List ℕ) → All P (before ++ rest) → All P before
 all_before P [] rest h i d below = absurd (omega (arith, below))

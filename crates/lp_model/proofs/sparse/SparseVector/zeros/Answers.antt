@@ -5,5 +5,5 @@ use Rattle.lp_model.proofs.sparse.SparseVector.zeros.Goals as goal
 
 pub invariant_of-result : goal.invariant_of-result
 invariant_of-result c =
-    let items : c.in_ok-vec.field-0.items ≡ replicate c.args.size zero_ℚ = search rules in
+    let items : c.in_ok-zero_ratios.field-0.items ≡ replicate c.args.size zero_ℚ = search rules in
     rw (items, c.new.ensures.items) (zeros_none c.args.size)
