@@ -22,4 +22,5 @@ returns g c =
     let old = c.args.cursor.now in
     found_second (IsStated sheet) (infeasible_in of sheet old) (unbounded_in of sheet old) c.unbounded.new.cursor
     (rw c.in_default.is at c.in_ok-stated.ensures) c.unbounded.result
-    (subst (λ (at : List ℕ). IfOk c.unbounded.result (Found (IsStated sheet) (unbounded_in of sheet at) c.unbounded.new.cursor)) c.again-start.ensures c.unbounded.ensures)
+    (subst (λ (at : List ℕ). IfOk c.unbounded.result (Found (IsStated sheet) (unbounded_in of sheet at) c.unbounded.new.cursor)) c.again-start.ensures
+    c.unbounded.ensures)

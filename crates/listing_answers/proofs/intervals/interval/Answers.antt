@@ -21,5 +21,6 @@ returns g c =
     (sym c.has_limit.ensures ∙ c.if-not-has_limit.false)
     (subst (λ (at : List ℕ). Found (IsPart sheet c.args.from.now)
     (interval_in
-    (form_in g.T.Checks.checker) sheet c.args.number c.args.from.now at) c.read_interval-2.new.cursor c.in_ok-form.form) c.again-start.ensures c.in_ok-form.ensures)
+    (form_in g.T.Checks.checker) sheet c.args.number c.args.from.now at) c.read_interval-2.new.cursor c.in_ok-form.form) c.again-start.ensures
+    c.in_ok-form.ensures)
     c.is_some.ensures c.stop_unread.ensures
