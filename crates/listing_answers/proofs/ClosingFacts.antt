@@ -1,5 +1,5 @@
 -- How a parametric run closes, as it is read and tested.
-use Rattle.std.proofs.Common.{◌≡◌, ℕ, List, [], ◌∷◌, length, Option, Some, refl, ap}
+use Rattle.std.proofs.Common.{◌≡◌, ℕ, List, [], ◌∷◌, length, Option, Some, refl, ap, ◌∙◌}
 use Rattle.std.specs.Prelude.{option_and_then}
 use Rattle.exact_values.specs.Rational.{ℚ}
 use Rattle.exact_values.specs.Tests.{eq_ℚ}
