@@ -1,5 +1,5 @@
 -- One thing or another, which are looked for at the same place; and the claims that a verb may make.
-use Rattle.std.proofs.Common.{◌≡◌, ℕ, List, Option, Some, None, Result, Ok, Err, refl, sym, ap, subst, ◌∙◌}
+use Rattle.std.proofs.Common.{◌≡◌, ℕ, List, Option, None, Result, Ok, Err, refl, sym, ap, subst}
 use Rattle.std.specs.Prelude.{IfOk}
 use Rattle.std.specs.Option.{option_or}
 use Rattle.exact_values.specs.Rational.{ℚ}
