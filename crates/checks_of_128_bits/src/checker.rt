@@ -1,11 +1,11 @@
 // The checker in fractions of 128 bits.
 ghost use Rattle.std.specs.Prelude.{◌≡◌, IfOk};
 
-use crate::claim_tests::{check_claim, check_opening};
-use crate::closing_tests::check_closing;
-use crate::fractions::fraction;
-use crate::interval_tests::check_part;
-use crate::solution_tests::check_printed;
+use crate::claim_tests::{check_claim, check_claim_at};
+use crate::closing_tests::{close_at, close_infeasible, close_unbounded};
+use crate::fractions::{fraction, fractions};
+use crate::interval_tests::{check_interval, interval_of};
+use crate::solution_tests::check_values;
 use frac128::Frac;
 use listing_claims::{AskedRun, Checks, Claim, Closing, Part, Printed, Stop};
 use listing_definitions::Mark;
@@ -61,7 +61,8 @@ impl Checks for Of128Bits {
         claim: &Claim<'_>,
         _allowance: &mut Allowance,
     ) -> Result<(), Stop> {
-        check_opening(alloc, sheet, request, claim)
+        let from = fraction(&request.from)?;
+        check_claim_at(alloc, sheet, request, from, claim)
     }
 
     fn test_solution(
@@ -71,7 +72,10 @@ impl Checks for Of128Bits {
         printed: &Printed<'_>,
         _allowance: &mut Allowance,
     ) -> Result<(), Stop> {
-        check_printed(alloc, sheet, mark, printed)
+        let point = fractions(alloc, &printed.point)?;
+        let prices = fractions(alloc, &printed.prices)?;
+        let slacks = fractions(alloc, &printed.slacks)?;
+        check_values(sheet, mark, &point, &prices, &slacks)
     }
 
     fn test_interval(
@@ -83,7 +87,8 @@ impl Checks for Of128Bits {
         part: &Part<'_>,
         _allowance: &mut Allowance,
     ) -> Result<(), Stop> {
-        check_part(alloc, sheet, request, is_first, from, part)
+        let interval = interval_of(alloc, from, part)?;
+        check_interval(alloc, sheet, request, is_first, &interval)
     }
 
     fn test_close(
@@ -94,6 +99,15 @@ impl Checks for Of128Bits {
         closing: &Closing<'_>,
         _allowance: &mut Allowance,
     ) -> Result<(), Stop> {
-        check_closing(alloc, sheet, request, last, closing)
+        let last = fraction(last)?;
+        match closing {
+            Closing::At(value) => close_at(value, last, request.to),
+            Closing::Unbounded(value, pair) => {
+                close_unbounded(alloc, sheet, request, last, value, pair)
+            }
+            Closing::Infeasible(value, ray) => {
+                close_infeasible(alloc, sheet, request, last, value, ray)
+            }
+        }
     }
 }

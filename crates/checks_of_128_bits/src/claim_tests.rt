@@ -65,8 +65,8 @@ pub fn check_claim(alloc: Global, lp: &Lp, claim: &Claim<'_>) -> Result<(), Stop
     }
 }
 
-// A claim of the linear program at a value, which is made for it.
-fn check_claim_at(
+/// A claim of the linear program at a value, which is made for it.
+pub fn check_claim_at(
     alloc: Global,
     sheet: Sheet<'_>,
     request: &AskedRun<'_>,
@@ -82,22 +82,4 @@ fn check_claim_at(
 {
     let program = program_at(alloc, sheet, request, theta)?;
     check_claim(alloc, &program, claim)
-}
-
-/// A claim of the linear program at the first value.
-pub fn check_opening(
-    alloc: Global,
-    sheet: Sheet<'_>,
-    request: &AskedRun<'_>,
-    claim: &Claim<'_>,
-) -> Result<(), Stop>
-    requires asked { IsAskedOf sheet request.now }
-    requires fits { Fits sheet.lp.now claim.now }
-    ensures { Judges
-        (opening_test checker_of_128_bits (sheet_view sheet.entry)
-        (changing_of request.now.name request.now.change)
-        request.now.from claim.now) result }
-{
-    let from = fraction(&request.from)?;
-    check_claim_at(alloc, sheet, request, from, claim)
 }

@@ -14,7 +14,7 @@ ghost use Rattle.listing_claims.specs.Asked.{IsAskedOf};
 ghost use Rattle.listing_claims.specs.Passing.{Judges};
 ghost use Rattle.checks_of_128_bits.specs.Making.{Makes};
 ghost use Rattle.listing_claims.specs.Claims.{IsPairOf};
-ghost use Rattle.listing_claims.specs.Closings.{ClosingFits, unbounded_test, infeasible_test, closing_test};
+ghost use Rattle.listing_claims.specs.Closings.{unbounded_test, infeasible_test};
 ghost use Rattle.checks_of_128_bits.specs.Closings.{improving_test};
 ghost use Rattle.checks_of_128_bits.specs.Fractions.{HasPair};
 
@@ -26,7 +26,7 @@ use certificate_check::{
     limit_met,
 };
 use frac128::Frac;
-use listing_claims::{AskedRun, Closing, Pair, Stop};
+use listing_claims::{AskedRun, Pair, Stop};
 use listing_tables::{Sheet, objective_of};
 use listing_words::Number;
 use lp_model::Lp;
@@ -260,8 +260,8 @@ fn check_infeasible(
     }
 }
 
-// A run of the objective closes so, in the numbers of the listing.
-fn close_unbounded(
+/// A run of the objective closes so, in the numbers of the listing.
+pub fn close_unbounded(
     alloc: Global,
     sheet: Sheet<'_>,
     request: &AskedRun<'_>,
@@ -279,8 +279,8 @@ fn close_unbounded(
     check_unbounded(sheet, request, last, value, &made)
 }
 
-// A run of the right-hand side closes so, in the numbers of the listing.
-fn close_infeasible(
+/// A run of the right-hand side closes so, in the numbers of the listing.
+pub fn close_infeasible(
     alloc: Global,
     sheet: Sheet<'_>,
     request: &AskedRun<'_>,
@@ -298,38 +298,11 @@ fn close_infeasible(
     check_infeasible(alloc, sheet, request, last, value, &made)
 }
 
-// It ends at its last value, in the numbers of the listing.
-fn close_at(value: &Number<'_>, last: Frac, max: Frac) -> Result<(), Stop>
+/// It ends at its last value, in the numbers of the listing.
+pub fn close_at(value: &Number<'_>, last: Frac, max: Frac) -> Result<(), Stop>
     ensures { Judges
         (in_turn (asked (eq_ℚ value.now last) ∷ asked (eq_ℚ value.now max) ∷ [])) result }
 {
     let value = fraction(value)?;
     check_end_at(value, last, max)
-}
-
-/// How a run closes whose last interval ends at a value.
-pub fn check_closing(
-    alloc: Global,
-    sheet: Sheet<'_>,
-    request: &AskedRun<'_>,
-    last: &Number<'_>,
-    closing: &Closing<'_>,
-) -> Result<(), Stop>
-    requires asked { IsAskedOf sheet request.now }
-    requires fits { ClosingFits sheet.lp.now closing.now }
-    ensures { Judges
-        (closing_test checker_of_128_bits (sheet_view sheet.entry)
-        (changing_of request.now.name request.now.change)
-        request.now.to last.now closing.now) result }
-{
-    let last = fraction(last)?;
-    match closing {
-        Closing::At(value) => close_at(value, last, request.to),
-        Closing::Unbounded(value, pair) => {
-            close_unbounded(alloc, sheet, request, last, value, pair)
-        }
-        Closing::Infeasible(value, ray) => {
-            close_infeasible(alloc, sheet, request, last, value, ray)
-        }
-    }
 }

@@ -10,7 +10,6 @@ ghost use Rattle.walk_definitions.specs.Checkers.{checker_of_128_bits};
 ghost use Rattle.walk_definitions.specs.Tests.{keeps_limit};
 ghost use Rattle.listing_words.specs.Read.{sheet_view};
 ghost use Rattle.listing_claims.specs.Asked.{IsAskedOf};
-ghost use Rattle.listing_claims.specs.Intervals.{AreCounted, part_verdict};
 ghost use Rattle.listing_claims.specs.Passing.{Judges};
 ghost use Rattle.checks_of_128_bits.specs.Making.{Makes};
 ghost use Rattle.checks_of_128_bits.specs.Fractions.{HasColumns};
@@ -142,8 +141,8 @@ fn goes_on(from: Frac, to: Frac, is_first: bool) -> bool
     from.is_less(to) || (is_first && is_equal(from, to))
 }
 
-// An interval, and whether it is the first.
-fn check_interval(
+/// An interval, and whether it is the first.
+pub fn check_interval(
     alloc: Global,
     sheet: Sheet<'_>,
     request: &AskedRun<'_>,
@@ -166,32 +165,12 @@ fn check_interval(
     check_kept(&start, &end)
 }
 
-// An interval in fractions.
-fn interval_of(alloc: Global, from: &Number<'_>, part: &Part<'_>) -> Result<Interval, NoMemory>
+/// An interval in fractions.
+pub fn interval_of(alloc: Global, from: &Number<'_>, part: &Part<'_>) -> Result<Interval, NoMemory>
     ensures { IfOk result (IsInterval from.now part.now) }
 {
     let from = fraction(from)?;
     let to = fraction(&part.to)?;
     let columns = columns_of(alloc, &part.columns)?;
     Ok(Interval { from, to, columns })
-}
-
-/// An interval that begins at a value, as the listing has it.
-pub fn check_part(
-    alloc: Global,
-    sheet: Sheet<'_>,
-    request: &AskedRun<'_>,
-    is_first: bool,
-    from: &Number<'_>,
-    part: &Part<'_>,
-) -> Result<(), Stop>
-    requires asked { IsAskedOf sheet request.now }
-    requires counted { AreCounted sheet.lp.now part.now.columns }
-    ensures { Judges
-        (part_verdict checker_of_128_bits (sheet_view sheet.entry)
-        (changing_of request.now.name request.now.change) from.now
-        part.now.to part.now.columns is_first request.now.to) result }
-{
-    let interval = interval_of(alloc, from, part)?;
-    check_interval(alloc, sheet, request, is_first, &interval)
 }

@@ -8,16 +8,14 @@ ghost use Rattle.walk_definitions.specs.Checkers.{checker_of_128_bits};
 ghost use Rattle.walk_definitions.specs.Tests.{slack_steps, best_test};
 ghost use Rattle.listing_words.specs.Read.{sheet_view};
 ghost use Rattle.listing_claims.specs.Passing.{Judges};
-ghost use Rattle.listing_claims.specs.Solutions.{Counted, printed_test};
+ghost use Rattle.listing_claims.specs.Solutions.{printed_test};
 
-use crate::fractions::fractions;
 use crate::judging::{judge, judge_at};
 use certificate_check::{Verdict, check_equations, check_optimal, check_prices, is_equal};
 use frac128::Frac;
-use listing_claims::{Printed, Stop};
+use listing_claims::Stop;
 use listing_definitions::Mark;
 use listing_tables::Sheet;
-use std::alloc::Global;
 
 // The slack of row `i` is its right-hand side less its activity.
 fn check_slack(sheet: Sheet<'_>, point: &[Frac], slacks: &[Frac], i: u32) -> Result<(), Stop>
@@ -66,8 +64,8 @@ fn check_best(sheet: Sheet<'_>, mark: Mark, point: &[Frac], prices: &[Frac]) -> 
     }
 }
 
-// What SOLUTION prints under a mark: its activities, its prices and its slacks.
-fn check_values(
+/// What SOLUTION prints under a mark: its activities, its prices and its slacks.
+pub fn check_values(
     sheet: Sheet<'_>,
     mark: Mark,
     point: &[Frac],
@@ -86,24 +84,4 @@ fn check_values(
     judge(check_prices(sheet.lp, prices))?;
     check_slacks(sheet, point, slacks)?;
     judge(check_best(sheet, mark, point, prices))
-}
-
-/// What SOLUTION prints under a mark, as the listing has it.
-pub fn check_printed(
-    alloc: Global,
-    sheet: Sheet<'_>,
-    mark: Mark,
-    printed: &Printed<'_>,
-) -> Result<(), Stop>
-    requires lawful { IsLinearProgram sheet.lp.now }
-    requires counted { Counted sheet.lp.now printed.now }
-    ensures { Judges
-        (printed_test checker_of_128_bits (sheet_view sheet.entry) mark
-        (value_at printed.now.point.items)
-        (value_at printed.now.prices.items) (value_at printed.now.slacks.items)) result }
-{
-    let point = fractions(alloc, &printed.point)?;
-    let prices = fractions(alloc, &printed.prices)?;
-    let slacks = fractions(alloc, &printed.slacks)?;
-    check_values(sheet, mark, &point, &prices, &slacks)
 }

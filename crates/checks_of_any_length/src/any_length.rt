@@ -1,8 +1,8 @@
 // Numbers of any length, read and tested.
 ghost use Rattle.std.specs.Prelude.{◌≡◌};
 
-use crate::claim_tests::{test_claim, test_opening};
-use crate::closing_tests::test_close;
+use crate::claim_tests::{opening_holds, own_claim_holds};
+use crate::closing_tests::closing_holds;
 use crate::long_words::is_longer;
 use frac128::Frac;
 use listing_claims::{AskedRun, Checks, Claim, Closing, Part, Printed, Stop};
@@ -10,7 +10,7 @@ use listing_definitions::Mark;
 use listing_tables::Sheet;
 use listing_words::{Allowance, Number};
 use long_numbers::is_number;
-use long_solutions::{exceeds, test_interval, test_solution};
+use long_solutions::{exceeds, interval_holds, judged, printed_holds};
 use lp_model::{Lp, NoMemory};
 use std::alloc::Global;
 
@@ -57,7 +57,8 @@ impl Checks for OfAnyLength {
         claim: &Claim<'_>,
         allowance: &mut Allowance,
     ) -> Result<(), Stop> {
-        test_claim(alloc, lp, claim, allowance)
+        let holds = own_claim_holds(alloc, lp, claim, allowance)?;
+        judged(holds)
     }
 
     fn test_opening(
@@ -67,7 +68,8 @@ impl Checks for OfAnyLength {
         claim: &Claim<'_>,
         allowance: &mut Allowance,
     ) -> Result<(), Stop> {
-        test_opening(alloc, sheet, request, claim, allowance)
+        let holds = opening_holds(alloc, sheet, request, claim, allowance)?;
+        judged(holds)
     }
 
     fn test_solution(
@@ -77,7 +79,8 @@ impl Checks for OfAnyLength {
         printed: &Printed<'_>,
         allowance: &mut Allowance,
     ) -> Result<(), Stop> {
-        test_solution(alloc, sheet, mark, printed, allowance)
+        let holds = printed_holds(alloc, sheet.lp, mark, printed, allowance)?;
+        judged(holds)
     }
 
     fn test_interval(
@@ -89,7 +92,8 @@ impl Checks for OfAnyLength {
         part: &Part<'_>,
         allowance: &mut Allowance,
     ) -> Result<(), Stop> {
-        test_interval(alloc, sheet, request, is_first, from, part, allowance)
+        let holds = interval_holds(alloc, sheet, request, is_first, from, part, allowance)?;
+        judged(holds)
     }
 
     fn test_close(
@@ -100,6 +104,7 @@ impl Checks for OfAnyLength {
         closing: &Closing<'_>,
         allowance: &mut Allowance,
     ) -> Result<(), Stop> {
-        test_close(alloc, sheet, request, last, closing, allowance)
+        let holds = closing_holds(alloc, sheet, request, last, closing, allowance)?;
+        judged(holds)
     }
 }

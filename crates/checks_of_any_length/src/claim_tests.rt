@@ -7,7 +7,6 @@ ghost use Rattle.walk_definitions.specs.Checkers.{checker_of_any_length};
 ghost use Rattle.listing_words.specs.Read.{sheet_view};
 ghost use Rattle.listing_claims.specs.Asked.{IsAskedOf};
 ghost use Rattle.listing_claims.specs.Claims.{Fits, claim_test, opening_test};
-ghost use Rattle.listing_claims.specs.Passing.{Judges};
 ghost use Rattle.long_vectors.specs.Vectors.{IsValue};
 ghost use Rattle.long_programs.specs.Programs.{program_of, IsChangeIn, IsPlain};
 ghost use Rattle.long_solutions.specs.Answers.{Answers};
@@ -15,12 +14,11 @@ ghost use Rattle.long_solutions.specs.Lines.{IsNumber};
 
 use crate::directions::pair_holds;
 use crate::rays::ray_holds;
-use listing_claims::{AskedRun, Claim, Stop};
+use listing_claims::{AskedRun, Claim};
 use listing_tables::Sheet;
 use listing_words::Allowance;
 use long_programs::{ProgramAt, as_it_is, change_at, own_theta};
 use long_rays::limits_cross;
-use long_solutions::judged;
 use long_vectors::{Value, value_of};
 use lp_model::Lp;
 use std::alloc::{AllocError, Global};
@@ -59,8 +57,8 @@ fn claim_holds(
     }
 }
 
-// Whether a claim of a linear program passes.
-fn own_claim_holds(
+/// Whether a claim of a linear program passes.
+pub fn own_claim_holds(
     alloc: Global,
     lp: &Lp,
     claim: &Claim<'_>,
@@ -76,24 +74,8 @@ fn own_claim_holds(
     Ok(holds)
 }
 
-/// Tests a claim of a linear program.
-pub fn test_claim(
-    alloc: Global,
-    lp: &Lp,
-    claim: &Claim<'_>,
-    allowance: &mut Allowance,
-) -> Result<(), Stop>
-    requires { Fits lp.now claim.now }
-    ensures { Judges (claim_test checker_of_any_length lp.now claim.now) result }
-{
-    match own_claim_holds(alloc, lp, claim, allowance) {
-        Ok(holds) => judged(holds),
-        Err(_) => Err(Stop::NoMemory),
-    }
-}
-
-// Whether a claim of the linear program at the first value of a parametric run passes.
-fn opening_holds(
+/// Whether a claim of the linear program at the first value of a parametric run passes.
+pub fn opening_holds(
     alloc: Global,
     sheet: Sheet<'_>,
     request: &AskedRun<'_>,
@@ -115,25 +97,4 @@ fn opening_holds(
     let theta = value_of(alloc, &request.from)?;
     let holds = claim_holds(alloc, &at, &theta, claim, allowance)?;
     Ok(holds)
-}
-
-/// Tests the claim of a parametric run's opening.
-pub fn test_opening(
-    alloc: Global,
-    sheet: Sheet<'_>,
-    request: &AskedRun<'_>,
-    claim: &Claim<'_>,
-    allowance: &mut Allowance,
-) -> Result<(), Stop>
-    requires asked { IsAskedOf sheet request.now }
-    requires fits { Fits sheet.lp.now claim.now }
-    ensures { Judges
-        (opening_test checker_of_any_length (sheet_view sheet.entry)
-        (changing_of request.now.name request.now.change)
-        request.now.from claim.now) result }
-{
-    match opening_holds(alloc, sheet, request, claim, allowance) {
-        Ok(holds) => judged(holds),
-        Err(_) => Err(Stop::NoMemory),
-    }
 }

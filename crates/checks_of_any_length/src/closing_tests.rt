@@ -9,20 +9,18 @@ ghost use Rattle.parametric_request.specs.Asking.{ServesChange, changing_of};
 ghost use Rattle.walk_definitions.specs.Checkers.{checker_of_any_length};
 ghost use Rattle.walk_definitions.specs.Tests.{asked};
 ghost use Rattle.listing_words.specs.Read.{sheet_view};
-ghost use Rattle.listing_claims.specs.Asked.{IsAskedOf};
 ghost use Rattle.listing_claims.specs.Closings.{ClosingFits, unbounded_test, infeasible_test, closing_test};
-ghost use Rattle.listing_claims.specs.Passing.{Judges};
 ghost use Rattle.long_vectors.specs.Vectors.{IsValue};
 ghost use Rattle.long_solutions.specs.Answers.{Answers};
 
 use crate::directions::past_pair_holds;
 use crate::rays::past_ray_holds;
 use frac128::Frac;
-use listing_claims::{AskedRun, Closing, Pair, Stop};
+use listing_claims::{AskedRun, Closing, Pair};
 use listing_tables::Sheet;
 use listing_words::{Allowance, Number};
 use long_points::both;
-use long_solutions::{compare_values, compare_with_fraction, judged};
+use long_solutions::{compare_values, compare_with_fraction};
 use long_vectors::{Value, value_of};
 use parametric_request::Change;
 use std::alloc::{AllocError, Global};
@@ -125,8 +123,8 @@ fn infeasible_holds(
     }
 }
 
-// Whether a run closes so whose last interval ends at a value.
-fn closing_holds(
+/// Whether a run closes so whose last interval ends at a value.
+pub fn closing_holds(
     alloc: Global,
     sheet: Sheet<'_>,
     request: &AskedRun<'_>,
@@ -156,27 +154,5 @@ fn closing_holds(
             let shown = infeasible_holds(alloc, sheet, request, &end, value, ray, allowance)?;
             Ok(shown)
         }
-    }
-}
-
-/// Tests how a parametric run closes whose last interval ends at a value.
-pub fn test_close(
-    alloc: Global,
-    sheet: Sheet<'_>,
-    request: &AskedRun<'_>,
-    last: &Number<'_>,
-    closing: &Closing<'_>,
-    allowance: &mut Allowance,
-) -> Result<(), Stop>
-    requires asked { IsAskedOf sheet request.now }
-    requires fits { ClosingFits sheet.lp.now closing.now }
-    ensures { Judges
-        (closing_test checker_of_any_length (sheet_view sheet.entry)
-        (changing_of request.now.name request.now.change)
-        request.now.to last.now closing.now) result }
-{
-    match closing_holds(alloc, sheet, request, last, closing, allowance) {
-        Ok(holds) => judged(holds),
-        Err(_) => Err(Stop::NoMemory),
     }
 }

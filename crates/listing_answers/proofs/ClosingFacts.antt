@@ -1,50 +1,26 @@
 -- How a parametric run closes, as it is read and tested.
-use Rattle.std.proofs.Common.{◌≡◌, ℕ, List, [], ◌∷◌, length, Option, Some, None, Result, Ok, Err, refl, sym, ap, ◌∙◌}
-use Rattle.std.specs.Prelude.{IfOk, option_and_then}
-use Rattle.std.specs.Option.{option_or}
+use Rattle.std.proofs.Common.{◌≡◌, ℕ, List, [], ◌∷◌, length, Option, Some, refl, ap, ◌∙◌}
+use Rattle.std.specs.Prelude.{option_and_then}
 use Rattle.exact_values.specs.Rational.{ℚ}
 use Rattle.exact_values.specs.Tests.{eq_ℚ}
 use Rattle.lp_definitions.specs.LinearProgram.{value_at}
 use Rattle.check_definitions.specs.Steps.{in_turn}
 use Rattle.listing_definitions.specs.Report.{ChainEnd, EndsAt, UnboundedPast, InfeasiblePast}
 use Rattle.listing_definitions.specs.Text.{solver_text}
-use Rattle.std.specs.declared.alloc.AllocError.{AllocError as NoMemory}
 use Rattle.question_definitions.specs.Answers.{Sheet, Changing, Row, Set, parametric_solver}
 use Rattle.answer_definitions.specs.ParametricRuns.{row_of, shifts_of}
 use Rattle.run_definitions.specs.Verbs.{last_value}
 use Rattle.walk_definitions.specs.Checkers.{Checker}
-use Rattle.walk_definitions.specs.Words.{Parsed, left_after}
+use Rattle.walk_definitions.specs.Words.{left_after}
 use Rattle.walk_definitions.specs.Tests.{asked, past_test, unbounded_past, infeasible_past, close_test}
 use Rattle.walk_definitions.specs.Reading.{close_in}
 use Rattle.listing_claims.specs.declared.claims.Closing as declared
 use Rattle.listing_claims.specs.declared.claims.Closing.TheVariants as closings
 use Rattle.listing_claims.specs.Closings.{ClosingFits, closing_test}
-use Rattle.listing_answers.specs.Words.{Found}
-use Rattle.listing_answers.specs.Closings.{end_in, close_after_in, Closes, value_of}
+use Rattle.listing_answers.specs.Closings.{close_after_in, Closes, value_of}
 use Rattle.listing_answers.proofs.Tables.{multipliers_counted}
 
 -- ---- what is read
-
-module _ (of : List ℕ → Option ℚ) (sheet : Sheet) (second : List ℕ → Parsed ChainEnd) (old new : List ℕ) where
-  pub end_first : (t : ℚ) → end_in of old ≡ Some (EndsAt t, new) → Found (Closes sheet) (option_or (end_in of old) (second old)) new (Some (closings.At t))
-  end_first t e = record { answer = EndsAt t; is_found = ap (λ o. option_or o (second old)) e; shows = refl }
-
-  module _ (last : List ℕ) (missing : (end_in of old ≡ None) × (new ≡ old)) where
-    end_second : (found : Option declared.Closing) → Found (Closes sheet) (second new) last found →
-        Found (Closes sheet) (option_or (end_in of old) (second old)) last found
-    end_second None none = ap (λ o. option_or o (second old)) missing.0 ∙ ap second (sym missing.1) ∙ none
-    end_second (Some closing) found =
-        record {
-          answer = found.answer;
-          is_found = ap (λ o. option_or o (second old)) missing.0 ∙ ap second (sym missing.1)
-              ∙ found.is_found;
-          shows = found.shows;
-        }
-
-    pub end_then : (result : Result (Option declared.Closing) NoMemory) → IfOk result (Found (Closes sheet) (second new) last) →
-        IfOk result (Found (Closes sheet) (option_or (end_in of old) (second old)) last)
-    end_then (Ok found) h = end_second found h
-    end_then (Err none) h = h
 
 pub close_taken : (of : List ℕ → Option ℚ) (sheet : Sheet) (changing : Changing) (old left : List ℕ) →
     left_after (solver_text (parametric_solver changing)) old ≡ Some left →

@@ -7,3 +7,4 @@ mod Runs
 mod ClosingFacts
 mod ParametricRunFacts
 mod Choices
+mod Texts

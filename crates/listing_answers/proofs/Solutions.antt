@@ -13,7 +13,9 @@ use Rattle.walk_definitions.specs.Words.{Parsed, left_after, with_text}
 use Rattle.walk_definitions.specs.Tables.{table_in, number_at}
 use Rattle.walk_definitions.specs.Tests.{solution_test}
 use Rattle.walk_definitions.specs.Reading.{row_slots, column_slots, solution_in}
+use Rattle.listing_readers.specs.declared.tables.Place.TheVariants.{First, Second, Third}
 use Rattle.listing_readers.specs.declared.tables.Shape.TheVariants.{Row, Column}
+use Rattle.listing_readers.specs.Tables.{at_place}
 use Rattle.listing_claims.specs.declared.claims.Printed.{Printed}
 use Rattle.listing_claims.specs.Solutions.{Counted, printed_test}
 use Rattle.listing_answers.specs.declared.solution.Lines.{Lines}
@@ -39,14 +41,14 @@ module _ (sheet : Sheet) (read : Lines) (lines : SolutionLines) (printed : Print
   pub printed_shows : Shows printed lines
   printed_shows = record {
     point =
-        is.point ∙ ap₂ (λ a b. a ++ b) (column_is Row (λ n. n.first) read.rows.items lines.rows _ are.rows refl)
-        (column_is Column (λ n. n.first) read.columns.items lines.columns _ are.columns refl)
+        is.point ∙ ap₂ (λ a b. a ++ b) (column_is Row (at_place First) read.rows.items lines.rows _ are.rows refl)
+        (column_is Column (at_place First) read.columns.items lines.columns _ are.columns refl)
         ∙ sym (map-append (number_at 1) lines.rows lines.columns);
     prices =
-        is.prices ∙ ap₂ (λ a b. a ++ b) (column_is Row (λ n. n.second) read.rows.items lines.rows _ are.rows refl)
-        (column_is Column (λ n. n.second) read.columns.items lines.columns _ are.columns refl)
+        is.prices ∙ ap₂ (λ a b. a ++ b) (column_is Row (at_place Second) read.rows.items lines.rows _ are.rows refl)
+        (column_is Column (at_place Second) read.columns.items lines.columns _ are.columns refl)
         ∙ sym (map-append (number_at 5) lines.rows lines.columns);
-    slacks = is.slacks ∙ column_is Row (λ n. n.third) read.rows.items lines.rows _ are.rows refl;
+    slacks = is.slacks ∙ column_is Row (at_place Third) read.rows.items lines.rows _ are.rows refl;
   }
 
   all_counted : length (lines.rows ++ lines.columns) ≡ size sheet.lp.matrix

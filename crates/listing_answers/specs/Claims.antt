@@ -2,7 +2,6 @@
 --     IsPair, IsPairRead of        a point and a direction, from the lines of a table
 --     Says                         a claim says what a verdict says
 --     IsStated                     a claim, and whether the listing says that it was checked
---     Tried                        what is stated was read, or the cursor stays where it is
 --     optimum_in, shown_in         the claims that a verb may make before and after that of crossed limits
 --     word_holds, word_test        whether a claim may be printed with the word of its check
 --     conclusion_by, mark_by       what it comes to
@@ -29,7 +28,6 @@ use Rattle.listing_claims.specs.Claims.{IsPairOf, Fits}
 use Rattle.listing_answers.specs.declared.claims.Stated.{Stated}
 use Rattle.listing_answers.specs.declared.answer.Conclusion.{Conclusion}
 use Rattle.listing_answers.specs.declared.answer.Conclusion.TheVariants.{Optimal, Infeasible, Unbounded}
-use Rattle.listing_answers.specs.Words.{IsFound}
 
 -- ---- claims
 
@@ -55,10 +53,6 @@ pub record IsStated (sheet : Sheet) (stated : Stated) (claim : Claim) : Type 0 w
   pub says : Says sheet stated.claim claim.0
   pub says_check : stated.is_checked ≡ says_checked claim.1
   pub fits : Fits sheet.lp stated.claim
-
-abbrev pub Tried : (sheet : Sheet) → (Sheet → List ℕ → Parsed Claim) → List ℕ → List ℕ → Option Stated → Type 0
-Tried sheet claims_in old new None = (claims_in sheet old ≡ None) × (new ≡ old)
-Tried sheet claims_in old new (Some stated) = IsFound (IsStated sheet) (claims_in sheet old) new stated
 
 module _ (of : List ℕ → Option ℚ) (sheet : Sheet) where
   -- that there is a best point, where the verb may find one

@@ -1,5 +1,5 @@
 -- What is read of how a parametric run closes.
---     IsValueRead, IsEndRead       a value after a text was read; the run ends at a value, or the cursor stays where it is
+--     IsValueRead                  a value after a text was read
 --     past_in, close_after_in      what ends a run of this kind before its last value; how it closes
 --     Closes                       what closes the run says what the report says
 --     value_of                     the value at which the run ends
@@ -28,10 +28,6 @@ module _ (of : List ℕ → Option ℚ) where
 
   abbrev pub end_in : List ℕ → Parsed ChainEnd
   end_in = value_line_in (codes " ENDS AT ") (λ t after. Some (EndsAt t, after))
-
-  abbrev pub IsEndRead : List ℕ → List ℕ → Option ℚ → Type 0
-  IsEndRead old new None = (end_in old ≡ None) × (new ≡ old)
-  IsEndRead old new (Some t) = end_in old ≡ Some (EndsAt t, new)
 
   module _ (sheet : Sheet) where
     abbrev pub unbounded_in : List ℕ → Parsed ChainEnd

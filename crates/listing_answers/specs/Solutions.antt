@@ -9,9 +9,10 @@ use Rattle.listing_definitions.specs.Text.{mark_text}
 use Rattle.question_definitions.specs.Answers.{Sheet}
 use Rattle.walk_definitions.specs.Tables.{column_of}
 use Rattle.listing_readers.specs.declared.tables.Numbers.{Numbers}
+use Rattle.listing_readers.specs.declared.tables.Place.TheVariants.{First, Second, Third}
 use Rattle.listing_readers.specs.declared.tables.Shape.{Shape}
 use Rattle.listing_readers.specs.declared.tables.Shape.TheVariants.{Row, Column}
-use Rattle.listing_readers.specs.Tables.{numbers_of}
+use Rattle.listing_readers.specs.Tables.{numbers_of, at_place}
 use Rattle.listing_answers.specs.declared.solution.Lines.{Lines}
 use Rattle.listing_claims.specs.declared.claims.Printed.{Printed}
 
@@ -32,9 +33,9 @@ pub record AreLines (sheet : Sheet) (read : Lines) (lines : SolutionLines) : Typ
   pub columns_counted : length lines.columns ≡ sheet.lp.matrix.cols
 
 pub record IsPrinted (rows columns : List Numbers) (printed : Printed) : Type 0 where
-  pub point : printed.point.items ≡ map (λ numbers. numbers.first) rows ++ map (λ numbers. numbers.first) columns
-  pub prices : printed.prices.items ≡ map (λ numbers. numbers.second) rows ++ map (λ numbers. numbers.second) columns
-  pub slacks : printed.slacks.items ≡ map (λ numbers. numbers.third) rows
+  pub point : printed.point.items ≡ map (at_place First) rows ++ map (at_place First) columns
+  pub prices : printed.prices.items ≡ map (at_place Second) rows ++ map (at_place Second) columns
+  pub slacks : printed.slacks.items ≡ map (at_place Third) rows
 
 pub record Shows (printed : Printed) (lines : SolutionLines) : Type 0 where
   pub point : printed.point.items ≡ column_of 1 (lines.rows ++ lines.columns)

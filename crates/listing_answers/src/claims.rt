@@ -11,14 +11,14 @@ ghost use Rattle.listing_words.specs.Read.{taken, sheet_view};
 ghost use Rattle.listing_claims.specs.Numbers.{number_in};
 ghost use Rattle.listing_claims.specs.Passing.{Judges};
 ghost use Rattle.listing_answers.specs.Words.{Found, IsRayHeadRead};
-ghost use Rattle.listing_answers.specs.Claims.{IsPairRead, IsStated, Tried, optimum_in, shown_in, word_holds, word_test};
+ghost use Rattle.listing_answers.specs.Claims.{IsPairRead, IsStated, optimum_in, shown_in, word_holds, word_test};
 ghost use Rattle.listing_answers.specs.Taken.{IsReadBy};
 
 use crate::unread::stop_unread;
 use crate::words::{check_after, count_after, read_head};
 use listing_claims::{By, Checks, Claim, Pair, Stop};
 use listing_definitions::Solver;
-use listing_readers::{MAX_COUNT, Shape, firsts, ray, seconds, table};
+use listing_readers::{MAX_COUNT, Place, Shape, numbers_at, ray, table};
 use listing_tables::{Sheet, solver_word};
 use listing_words::Cursor;
 use lp_model::NoMemory;
@@ -48,8 +48,8 @@ pub fn read_pair<'a, T: Checks>(
     let Some(numbers) = table::<T>(alloc, cursor, by, sheet, Shape::Pair, 0, count)? else {
         return Ok(None);
     };
-    let point = firsts(alloc, &numbers)?;
-    let direction = seconds(alloc, &numbers)?;
+    let point = numbers_at(alloc, &numbers, Place::First)?;
+    let direction = numbers_at(alloc, &numbers, Place::Second)?;
     Ok(Some(Pair { point, direction }))
 }
 
@@ -146,59 +146,10 @@ fn unbounded<'a, T: Checks>(
     }))
 }
 
-// ---- one claim or another: a claim that isn't there leaves the cursor where it is
+// ---- one claim or another: each is looked for at the same place
 
-// That there is a best point, if it stands here.
-fn try_optimal<'a, T: Checks>(
-    alloc: Global,
-    cursor: &mut Cursor<'a>,
-    by: By,
-    sheet: Sheet<'_>,
-) -> Result<Option<Stated<'a>>, NoMemory>
-    ensures { IfOk result
-        (Tried (sheet_view sheet.entry)
-        (optimal_in (number_in T.checker by)) cursor.old cursor.new) }
-{
-    let mut ahead = cursor.again();
-    let Some(stated) = optimal::<T>(alloc, &mut ahead, by, sheet)? else {
-        return Ok(None);
-    };
-    *cursor = ahead;
-    Ok(Some(stated))
-}
-
-// That limits are crossed, if it stands here.
-fn try_crossed<'a>(cursor: &mut Cursor<'a>, sheet: Sheet<'_>) -> Option<Stated<'a>>
-    ensures { Tried (sheet_view sheet.entry) crossed_in cursor.old cursor.new result }
-{
-    let mut ahead = cursor.again();
-    let stated = crossed(&mut ahead, sheet)?;
-    *cursor = ahead;
-    Some(stated)
-}
-
-// That a ray shows that no point is feasible, if it stands here.
-fn try_infeasible<'a, T: Checks>(
-    alloc: Global,
-    cursor: &mut Cursor<'a>,
-    by: By,
-    sheet: Sheet<'_>,
-) -> Result<Option<Stated<'a>>, NoMemory>
-    requires { IsSheet sheet }
-    ensures { IfOk result
-        (Tried (sheet_view sheet.entry)
-        (infeasible_in (number_in T.checker by)) cursor.old cursor.new) }
-{
-    let mut ahead = cursor.again();
-    let Some(stated) = infeasible::<T>(alloc, &mut ahead, by, sheet)? else {
-        return Ok(None);
-    };
-    *cursor = ahead;
-    Ok(Some(stated))
-}
-
-// That there is a best point, if it stands here and the verb may find one.
-fn try_optimum<'a, T: Checks>(
+// That there is a best point, if the verb may find one.
+fn optimum<'a, T: Checks>(
     alloc: Global,
     cursor: &mut Cursor<'a>,
     by: By,
@@ -206,11 +157,12 @@ fn try_optimum<'a, T: Checks>(
     solver: Solver,
 ) -> Result<Option<Stated<'a>>, NoMemory>
     ensures { IfOk result
-        (Tried (sheet_view sheet.entry)
-        (λ sheet. optimum_in (number_in T.checker by) sheet solver) cursor.old cursor.new) }
+        (Found (IsStated (sheet_view sheet.entry))
+        (optimum_in (number_in T.checker by)
+        (sheet_view sheet.entry) solver cursor.old) cursor.new) }
 {
     match solver {
-        Solver::Primal | Solver::Dual => try_optimal::<T>(alloc, cursor, by, sheet),
+        Solver::Primal | Solver::Dual => optimal::<T>(alloc, cursor, by, sheet),
         Solver::Paraobj | Solver::Pararhs => Ok(None),
     }
 }
@@ -228,9 +180,11 @@ fn infeasible_or_unbounded<'a, T: Checks>(
         (option_or (infeasible_in (number_in T.checker by) (sheet_view sheet.entry) cursor.old)
         (unbounded_in (number_in T.checker by) (sheet_view sheet.entry) cursor.old)) cursor.new) }
 {
-    if let Some(stated) = try_infeasible::<T>(alloc, cursor, by, sheet)? {
+    let start = cursor.again();
+    if let Some(stated) = infeasible::<T>(alloc, cursor, by, sheet)? {
         return Ok(Some(stated));
     }
+    *cursor = start;
     unbounded::<T>(alloc, cursor, by, sheet)
 }
 
@@ -268,12 +222,15 @@ fn read_claim<'a, T: Checks>(
         (Found (IsStated (sheet_view sheet.entry))
         (claim_in (number_in T.checker by) (sheet_view sheet.entry) solver cursor.old) cursor.new) }
 {
-    if let Some(stated) = try_optimum::<T>(alloc, cursor, by, sheet, solver)? {
+    let start = cursor.again();
+    if let Some(stated) = optimum::<T>(alloc, cursor, by, sheet, solver)? {
         return Ok(Some(stated));
     }
-    if let Some(stated) = try_crossed(cursor, sheet) {
+    *cursor = start.again();
+    if let Some(stated) = crossed(cursor, sheet) {
         return Ok(Some(stated));
     }
+    *cursor = start;
     shown::<T>(alloc, cursor, by, sheet, solver)
 }
 
@@ -316,15 +273,14 @@ pub fn verdict<'a, T: Checks>(
     ensures { IsReadBy (IsStated (sheet_view sheet.entry)) T.checker
         (λ of. verdict_in of (sheet_view sheet.entry) solver) cursor.old cursor.new result }
 {
-    let start = cursor.left();
+    let mut start = cursor.again();
     if let Some(stated) = read_verdict::<T>(alloc, cursor, By::Value, sheet, solver)? {
         return Ok(stated);
     }
     if !T::has_limit() {
         return Err(Stop::Wrong);
     }
-    let mut again = Cursor::new(start);
-    let form = read_verdict::<T>(alloc, &mut again, By::Form, sheet, solver)?;
+    let form = read_verdict::<T>(alloc, &mut start, By::Form, sheet, solver)?;
     Err(stop_unread(form.is_some()))
 }
 

@@ -10,7 +10,7 @@ ghost use Rattle.listing_words.specs.Read.{sheet_view};
 ghost use Rattle.listing_claims.specs.Asked.{IsAskedOf};
 ghost use Rattle.listing_claims.specs.Numbers.{number_in};
 ghost use Rattle.listing_answers.specs.Words.{Found};
-ghost use Rattle.listing_answers.specs.Closings.{IsValueRead, IsEndRead, Closes, unbounded_in, infeasible_in, past_in, close_after_in, value_of};
+ghost use Rattle.listing_answers.specs.Closings.{IsValueRead, Closes, unbounded_in, infeasible_in, past_in, close_after_in, value_of};
 ghost use Rattle.listing_answers.specs.Taken.{Taken, IsReadBy};
 
 use crate::claims::read_pair;
@@ -40,22 +40,6 @@ fn value_line<'a, T: Checks>(
     if !cursor.take(b"\n") {
         return Ok(None);
     }
-    Ok(Some(value))
-}
-
-// That the run ends at a value, if it stands here.
-fn try_end<'a, T: Checks>(
-    alloc: Global,
-    cursor: &mut Cursor<'a>,
-    by: By,
-) -> Result<Option<Number<'a>>, NoMemory>
-    ensures { IfOk result (IsEndRead (number_in T.checker by) cursor.old cursor.new) }
-{
-    let mut ahead = cursor.again();
-    let Some(value) = value_line::<T>(alloc, &mut ahead, by, b" ENDS AT ")? else {
-        return Ok(None);
-    };
-    *cursor = ahead;
     Ok(Some(value))
 }
 
@@ -135,9 +119,11 @@ fn close_after<'a, T: Checks>(
         (close_after_in (number_in T.checker by) (sheet_view sheet.entry)
         (changing_of request.now.name request.now.change) cursor.old) cursor.new) }
 {
-    if let Some(value) = try_end::<T>(alloc, cursor, by)? {
+    let start = cursor.again();
+    if let Some(value) = value_line::<T>(alloc, cursor, by, b" ENDS AT ")? {
         return Ok(Some(Closing::At(value)));
     }
+    *cursor = start;
     past::<T>(alloc, cursor, by, sheet, request)
 }
 
@@ -173,15 +159,14 @@ fn run_closing<'a, T: Checks>(
         IsReadBy (Closes (sheet_view sheet.entry)) T.checker
         (λ of. close_in of (sheet_view sheet.entry) solver) cursor.old cursor.new result }
 {
-    let start = cursor.left();
+    let mut start = cursor.again();
     if let Some(closing) = read_closing::<T>(alloc, cursor, By::Value, sheet, request)? {
         return Ok(closing);
     }
     if !T::has_limit() {
         return Err(Stop::Wrong);
     }
-    let mut again = Cursor::new(start);
-    let form = read_closing::<T>(alloc, &mut again, By::Form, sheet, request)?;
+    let form = read_closing::<T>(alloc, &mut start, By::Form, sheet, request)?;
     Err(stop_unread(form.is_some()))
 }
 

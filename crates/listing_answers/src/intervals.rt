@@ -1,5 +1,5 @@
 // The intervals of a parametric run.
-ghost use Rattle.std.specs.Prelude.{◌≡◌, ◌++◌, IfOk, nat_eq};
+ghost use Rattle.std.specs.Prelude.{◌≡◌, IfOk, nat_eq};
 ghost use Rattle.listing_definitions.specs.Numbers.{digits};
 ghost use Rattle.listing_tables.specs.Sheets.{IsSheet};
 ghost use Rattle.parametric_request.specs.Asking.{changing_of};
@@ -14,9 +14,10 @@ ghost use Rattle.listing_answers.specs.Intervals.{part_head, IsPartEnd, AreColum
 ghost use Rattle.listing_answers.specs.Taken.{Taken, IsReadBy};
 
 use crate::unread::stop_unread;
+use crate::words::take_each;
 use itoa::Buffer;
 use listing_claims::{AskedRun, By, Checks, Columns, Part, Stop, number_by};
-use listing_readers::{Shape, firsts, fourths, seconds, table, thirds};
+use listing_readers::{Place, Shape, numbers_at, table};
 use listing_tables::Sheet;
 use listing_words::{Cursor, Number};
 use lp_model::NoMemory;
@@ -30,68 +31,15 @@ fn decimal(buffer: &mut Buffer, number: usize) -> &str
     buffer.format(number)
 }
 
-// Takes a text after another.
-#[tactic(auto, using(walk_definitions::proofs::Texts::left_after_both))]
-fn take_both(cursor: &mut Cursor<'_>, first: &[u8], second: &[u8]) -> bool
-    ensures { left_after (first.now ++ second.now) cursor.old ≡ taken result cursor.new }
-{
-    cursor.take(first) && cursor.take(second)
-}
-
-// Takes three texts.
-#[tactic(auto, using(walk_definitions::proofs::Texts::left_after_both))]
-fn take_three(cursor: &mut Cursor<'_>, first: &[u8], second: &[u8], third: &[u8]) -> bool
-    ensures { left_after (first.now ++ (second.now ++ third.now)) cursor.old ≡
-        taken result cursor.new }
-{
-    cursor.take(first) && take_both(cursor, second, third)
-}
-
-// Takes four texts.
-#[tactic(auto, using(walk_definitions::proofs::Texts::left_after_both))]
-fn take_four(
-    cursor: &mut Cursor<'_>,
-    first: &[u8],
-    second: &[u8],
-    third: &[u8],
-    fourth: &[u8],
-) -> bool
-    ensures { left_after (first.now ++ (second.now ++ (third.now ++ fourth.now))) cursor.old ≡
-        taken result cursor.new }
-{
-    cursor.take(first) && take_three(cursor, second, third, fourth)
-}
-
-// Takes five texts.
-#[tactic(auto, using(walk_definitions::proofs::Texts::left_after_both))]
-fn take_five(
-    cursor: &mut Cursor<'_>,
-    word: &[u8],
-    number: &[u8],
-    from: &[u8],
-    value: &[u8],
-    to: &[u8],
-) -> bool
-    ensures { left_after
-        (word.now ++ (number.now ++ (from.now ++ (value.now ++ to.now)))) cursor.old ≡
-        taken result cursor.new }
-{
-    cursor.take(word) && take_four(cursor, number, from, value, to)
-}
-
 // Takes the number of an interval, and where it begins.
 fn take_part_head(cursor: &mut Cursor<'_>, number: usize, from: &Number<'_>) -> bool
     ensures { left_after (part_head number from.now) cursor.old ≡ taken result cursor.new }
 {
     let mut buffer = Buffer::new();
-    let value = from.word();
-    take_five(
+    let digits = decimal(&mut buffer, number).as_bytes();
+    take_each(
         cursor,
-        b"INTERVAL ",
-        decimal(&mut buffer, number).as_bytes(),
-        b" FROM ",
-        value,
-        b" TO ",
+        &[b"INTERVAL ", digits, b" FROM ", from.word(), b" TO "],
     )
 }
 
@@ -133,11 +81,15 @@ fn read_columns<'a, T: Checks>(
     let Some(numbers) = table::<T>(alloc, cursor, by, sheet, Shape::Part, 0, count)? else {
         return Ok(None);
     };
+    let value = numbers_at(alloc, &numbers, Place::First)?;
+    let value_rate = numbers_at(alloc, &numbers, Place::Second)?;
+    let price = numbers_at(alloc, &numbers, Place::Third)?;
+    let price_rate = numbers_at(alloc, &numbers, Place::Fourth)?;
     Ok(Some(Columns {
-        value: firsts(alloc, &numbers)?,
-        value_rate: seconds(alloc, &numbers)?,
-        price: thirds(alloc, &numbers)?,
-        price_rate: fourths(alloc, &numbers)?,
+        value,
+        value_rate,
+        price,
+        price_rate,
     }))
 }
 
@@ -177,15 +129,14 @@ fn interval<'a, T: Checks>(
         (λ of. interval_in of (sheet_view sheet.entry) number from.now)
         cursor.old cursor.new result }
 {
-    let start = cursor.left();
+    let mut start = cursor.again();
     if let Some(part) = read_interval::<T>(alloc, cursor, By::Value, sheet, number, from)? {
         return Ok(part);
     }
     if !T::has_limit() {
         return Err(Stop::Wrong);
     }
-    let mut again = Cursor::new(start);
-    let form = read_interval::<T>(alloc, &mut again, By::Form, sheet, number, from)?;
+    let form = read_interval::<T>(alloc, &mut start, By::Form, sheet, number, from)?;
     Err(stop_unread(form.is_some()))
 }
 

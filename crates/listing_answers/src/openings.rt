@@ -11,6 +11,7 @@ ghost use Rattle.listing_answers.specs.Claims.{mark_by};
 ghost use Rattle.listing_answers.specs.Taken.{Taken, IsOpened};
 
 use crate::claims::{take_word, verdict};
+use crate::words::take_each;
 use listing_claims::{AskedRun, Checks, Claim, Stop};
 use listing_definitions::{Mark, Solver};
 use listing_tables::{Sheet, solver_word};
@@ -28,56 +29,12 @@ pub fn solver_of(request: &AskedRun<'_>) -> Solver
     }
 }
 
-// Takes a text and the end of the line.
-#[tactic(auto, using(walk_definitions::proofs::Texts::left_after_both))]
-fn take_last(cursor: &mut Cursor<'_>, text: &[u8]) -> bool
-    ensures { left_after (text.now ++ codes "\n") cursor.old ≡ taken result cursor.new }
-{
-    cursor.take(text) && cursor.take(b"\n")
-}
-
-// Takes a text after a label, and the end of the line.
-#[tactic(auto, using(walk_definitions::proofs::Texts::left_after_both))]
-fn take_change(cursor: &mut Cursor<'_>, label: &[u8], name: &[u8]) -> bool
-    ensures { left_after (label.now ++ (name.now ++ codes "\n")) cursor.old ≡
-        taken result cursor.new }
-{
-    cursor.take(label) && take_last(cursor, name)
-}
-
-// Takes a value, and what changes from it on.
-#[tactic(auto, using(walk_definitions::proofs::Texts::left_after_both))]
-fn take_value(cursor: &mut Cursor<'_>, value: &[u8], label: &[u8], name: &[u8]) -> bool
-    ensures { left_after (value.now ++ (label.now ++ (name.now ++ codes "\n"))) cursor.old ≡
-        taken result cursor.new }
-{
-    cursor.take(value) && take_change(cursor, label, name)
-}
-
-// Takes the first value after a label, and what changes.
-#[tactic(auto, using(walk_definitions::proofs::Texts::left_after_both))]
-fn take_from(cursor: &mut Cursor<'_>, from: &[u8], value: &[u8], label: &[u8], name: &[u8]) -> bool
-    ensures { left_after
-        (from.now ++ (value.now ++ (label.now ++ (name.now ++ codes "\n")))) cursor.old ≡
-        taken result cursor.new }
-{
-    cursor.take(from) && take_value(cursor, value, label, name)
-}
-
-// Takes the verb, the first value after a label, and what changes.
-#[tactic(auto, using(walk_definitions::proofs::Texts::left_after_both))]
-fn take_head(
-    cursor: &mut Cursor<'_>,
-    verb: &[u8],
-    from: &[u8],
-    value: &[u8],
-    label: &[u8],
-    name: &[u8],
-) -> bool
-    ensures { left_after (verb.now ++ (from.now ++ (value.now ++ (label.now ++
+// Takes a verb, the first value, and what changes from it on.
+fn take_head<'b>(cursor: &mut Cursor<'_>, verb: &'b [u8], from: &'b [u8], name: &'b [u8]) -> bool
+    ensures { left_after (verb.now ++ (codes " FROM " ++ (from.now ++ (codes " CHANGE " ++
         (name.now ++ codes "\n"))))) cursor.old ≡ taken result cursor.new }
 {
-    cursor.take(verb) && take_from(cursor, from, value, label, name)
+    take_each(cursor, &[verb, b" FROM ", from, b" CHANGE ", name, b"\n"])
 }
 
 /// Takes what stands before the first interval.
@@ -89,9 +46,7 @@ pub fn take_parametric_run_head(cursor: &mut Cursor<'_>, request: &AskedRun<'_>)
     take_head(
         cursor,
         solver_word(solver_of(request)),
-        b" FROM ",
         request.from.word(),
-        b" CHANGE ",
         request.name.bytes(),
     )
 }

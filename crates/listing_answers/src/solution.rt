@@ -1,22 +1,22 @@
 // The lines of SOLUTION, as the listing has them.
-ghost use Rattle.std.specs.Prelude.{◌≡◌, ◌++◌, IfOk, None, codes, map, option_map};
+ghost use Rattle.std.specs.Prelude.{◌≡◌, ◌++◌, IfOk, None, map, option_map};
 ghost use Rattle.lp_definitions.specs.LinearProgram.{IsLinearProgram};
-ghost use Rattle.listing_definitions.specs.Text.{mark_text};
 ghost use Rattle.listing_tables.specs.Sheets.{IsSheet};
 ghost use Rattle.answer_definitions.specs.Lines.{row_numbers, column_numbers};
 ghost use Rattle.walk_definitions.specs.Words.{left_after};
 ghost use Rattle.walk_definitions.specs.Reading.{solution_in};
 ghost use Rattle.listing_words.specs.Read.{taken, sheet_view};
 ghost use Rattle.listing_claims.specs.Numbers.{number_in};
-ghost use Rattle.listing_readers.specs.Tables.{IsTableRead};
+ghost use Rattle.listing_readers.specs.Tables.{at_place, IsTableRead};
 ghost use Rattle.listing_answers.specs.Words.{Found};
 ghost use Rattle.listing_answers.specs.Solutions.{rows_head, columns_head, AreLines, IsPrinted};
 ghost use Rattle.listing_answers.specs.Taken.{IsReadBy};
 
 use crate::unread::stop_unread;
+use crate::words::take_each;
 use listing_claims::{By, Checks, Printed, Stop};
 use listing_definitions::Mark;
-use listing_readers::{Numbers, Shape, firsts, seconds, table, thirds};
+use listing_readers::{Numbers, Place, Shape, numbers_at, table};
 use listing_tables::{Sheet, mark_word};
 use listing_words::{Cursor, Number};
 use lp_model::NoMemory;
@@ -29,16 +29,6 @@ pub struct Lines<'a> {
     pub columns: Vec<Numbers<'a>>,
 }
 
-// Takes the heads of the rows.
-fn take_rows_heads(cursor: &mut Cursor<'_>) -> bool
-    ensures { left_after
-        (codes "\nSECTION 1 - ROWS\nNUMBER ROW AT ACTIVITY SLACK LOWER UPPER DUAL\n") cursor.old ≡
-        taken result
-        cursor.new }
-{
-    cursor.take(b"\nSECTION 1 - ROWS\nNUMBER ROW AT ACTIVITY SLACK LOWER UPPER DUAL\n")
-}
-
 // Takes the heads of the columns.
 fn take_columns_head(cursor: &mut Cursor<'_>) -> bool
     ensures { left_after columns_head cursor.old ≡ taken result cursor.new }
@@ -46,21 +36,12 @@ fn take_columns_head(cursor: &mut Cursor<'_>) -> bool
     cursor.take(b"SECTION 2 - COLUMNS\nNUMBER COLUMN AT ACTIVITY COST LOWER UPPER REDUCED\n")
 }
 
-// Takes a mark and the heads of the rows.
-#[tactic(auto, using(walk_definitions::proofs::Texts::left_after_both))]
-fn take_mark(cursor: &mut Cursor<'_>, mark: Mark) -> bool
-    ensures { left_after
-        (mark_text mark ++ codes "\nSECTION 1 - ROWS\nNUMBER ROW AT ACTIVITY SLACK LOWER UPPER DUAL\n") cursor.old ≡
-        taken result cursor.new }
-{
-    cursor.take(mark_word(mark)) && take_rows_heads(cursor)
-}
-
 // Takes what stands before the rows.
 fn take_rows_head(cursor: &mut Cursor<'_>, mark: Mark) -> bool
     ensures { left_after (rows_head mark) cursor.old ≡ taken result cursor.new }
 {
-    cursor.take(b"SOLUTION ") && take_mark(cursor, mark)
+    let heads = b"\nSECTION 1 - ROWS\nNUMBER ROW AT ACTIVITY SLACK LOWER UPPER DUAL\n";
+    take_each(cursor, &[b"SOLUTION ", mark_word(mark), heads])
 }
 
 // The lines of the rows.
@@ -144,45 +125,29 @@ pub fn solution_lines<'a, T: Checks>(
     ensures { IsReadBy (AreLines (sheet_view sheet.entry)) T.checker
         (λ of. solution_in of (sheet_view sheet.entry) mark) cursor.old cursor.new result }
 {
-    let start = cursor.left();
+    let mut start = cursor.again();
     if let Some(lines) = read_lines::<T>(alloc, cursor, By::Value, sheet, mark)? {
         return Ok(lines);
     }
     if !T::has_limit() {
         return Err(Stop::Wrong);
     }
-    let mut again = Cursor::new(start);
-    let form = read_lines::<T>(alloc, &mut again, By::Form, sheet, mark)?;
+    let form = read_lines::<T>(alloc, &mut start, By::Form, sheet, mark)?;
     Err(stop_unread(form.is_some()))
 }
 
-// The first numbers of two tables, one after the other.
-fn all_firsts<'a>(
+// The numbers at a place of the lines of the rows, and then of the columns.
+fn all_numbers_at<'a>(
     alloc: Global,
-    rows: &[Numbers<'a>],
-    columns: &[Numbers<'a>],
+    lines: &Lines<'a>,
+    place: Place,
 ) -> Result<Vec<Number<'a>>, NoMemory>
     ensures { IfOk result
         (λ values. values.items ≡
-        map (λ numbers. numbers.first) rows.now ++ map (λ numbers. numbers.first) columns.now) }
+        map (at_place place) lines.now.rows.items ++ map (at_place place) lines.now.columns.items) }
 {
-    let mut values = firsts(alloc, rows)?;
-    let mut more = firsts(alloc, columns)?;
-    values.append(&mut more)?;
-    Ok(values)
-}
-
-// The second numbers of two tables, one after the other.
-fn all_seconds<'a>(
-    alloc: Global,
-    rows: &[Numbers<'a>],
-    columns: &[Numbers<'a>],
-) -> Result<Vec<Number<'a>>, NoMemory>
-    ensures { IfOk result (λ values. values.items ≡ map (λ numbers. numbers.second) rows.now ++ map
-        (λ numbers. numbers.second) columns.now) }
-{
-    let mut values = seconds(alloc, rows)?;
-    let mut more = seconds(alloc, columns)?;
+    let mut values = numbers_at(alloc, &lines.rows, place)?;
+    let mut more = numbers_at(alloc, &lines.columns, place)?;
     values.append(&mut more)?;
     Ok(values)
 }
@@ -192,9 +157,9 @@ pub fn printed_of<'a>(alloc: Global, lines: &Lines<'a>) -> Result<Printed<'a>, N
     ensures { IfOk result
         (λ printed. IsPrinted lines.now.rows.items lines.now.columns.items printed) }
 {
-    let point = all_firsts(alloc, &lines.rows, &lines.columns)?;
-    let prices = all_seconds(alloc, &lines.rows, &lines.columns)?;
-    let slacks = thirds(alloc, &lines.rows)?;
+    let point = all_numbers_at(alloc, lines, Place::First)?;
+    let prices = all_numbers_at(alloc, lines, Place::Second)?;
+    let slacks = numbers_at(alloc, &lines.rows, Place::Third)?;
     Ok(Printed {
         point,
         prices,

@@ -1,7 +1,9 @@
 // The words of verdicts.
 ghost use Rattle.std.specs.Prelude.{◌≡◌, option_map, IfOk};
+ghost use Rattle.std.specs.List.{flat_map};
 ghost use Rattle.walk_definitions.specs.Checkers.{checker_of_128_bits};
-ghost use Rattle.walk_definitions.specs.Words.{fraction_in, count_in};
+ghost use Rattle.walk_definitions.specs.Words.{left_after, fraction_in, count_in};
+ghost use Rattle.listing_words.specs.Read.{taken};
 ghost use Rattle.listing_claims.specs.Numbers.{number_in};
 ghost use Rattle.listing_answers.specs.Words.{labelled, refusal_in, IsCheckRead, IsCheckAfter, IsHeadRead};
 
@@ -17,6 +19,19 @@ use std::alloc::Global;
 pub struct Head<'a> {
     pub objective: Number<'a>,
     pub is_checked: bool,
+}
+
+/// Takes some texts, one after another.
+pub fn take_each(cursor: &mut Cursor<'_>, texts: &[&[u8]]) -> bool
+    ensures { left_after (flat_map (λ text. text.now) texts.now) cursor.old ≡
+        taken result cursor.new }
+{
+    for text in texts {
+        if !cursor.take(text) {
+            return false;
+        }
+    }
+    true
 }
 
 /// A count after a text.

@@ -1,7 +1,7 @@
 -- What is read of tables.
 --     slots_of shape sheet k       what may stand in the line of variable k
 --     numbers_of shape values      the numbers of a line that aren't known before
---     with_number place x numbers  where one of them is another
+--     at_place, with_number        one of them, and where it is another
 --     slot_view slot               what may stand at a place, as it is looked for
 --     numbers_in slots values      the numbers that are kept of values that stand so
 --     AreRead, IsLineRead, IsTableRead     values, a line, and the lines of variables were read, and these are their numbers; or none are there
@@ -51,7 +51,13 @@ slot_view Code = AnyCode
 slot_view (Number place) = AnyNumber
 slot_view (Known limit) = tables.Known (limit_value limit)
 
--- another number at a place
+-- one of the numbers of a line
+abbrev pub at_place : Place → Numbers → ℚ
+at_place First numbers = numbers.first
+at_place Second numbers = numbers.second
+at_place Third numbers = numbers.third
+at_place Fourth numbers = numbers.fourth
+
 abbrev pub with_number : Place → ℚ → Numbers → Numbers
 with_number First x numbers = record numbers { first = x }
 with_number Second x numbers = record numbers { second = x }

@@ -11,5 +11,5 @@ mod unread;
 pub use lines::{code, known_limit, number, operation_of, take_head, take_name};
 pub use rays::{begins_table_line, ray};
 pub use stops::{MAX_COUNT, is_inserted, is_open_stop, is_punched, is_ranges};
-pub use tables::{Numbers, Shape, firsts, fourths, line, seconds, table, thirds};
+pub use tables::{Numbers, Place, Shape, line, numbers_at, table};
 pub use unread::Unread;

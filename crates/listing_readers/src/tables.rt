@@ -7,7 +7,7 @@ ghost use Rattle.walk_definitions.specs.Tables.{AnyCode, AnyNumber, Known};
 ghost use Rattle.listing_words.specs.Read.{sheet_view};
 ghost use Rattle.listing_claims.specs.Numbers.{number_in};
 ghost use Rattle.listing_readers.specs.Results.{IfRead};
-ghost use Rattle.listing_readers.specs.Tables.{slots_of, numbers_of, with_number, no_numbers, slot_view, numbers_in, MayRead, AreRead, IsSlotTaken, IsLineRead, IsTableRead};
+ghost use Rattle.listing_readers.specs.Tables.{slots_of, numbers_of, at_place, with_number, no_numbers, slot_view, numbers_in, MayRead, AreRead, IsSlotTaken, IsLineRead, IsTableRead};
 
 use crate::lines::{code, known_limit, number, take_head};
 use crate::unread::Unread;
@@ -62,6 +62,18 @@ impl<'a> Numbers<'a> {
             second: Number::zero(),
             third: Number::zero(),
             fourth: Number::zero(),
+        }
+    }
+
+    // The number at a place.
+    fn at(&self, place: Place) -> Number<'a>
+        ensures { result ≡ at_place place self.now }
+    {
+        match place {
+            Place::First => self.first.again(),
+            Place::Second => self.second.again(),
+            Place::Third => self.third.again(),
+            Place::Fourth => self.fourth.again(),
         }
     }
 
@@ -284,50 +296,18 @@ pub fn table<'a, T: Checks>(
     Ok(Some(table))
 }
 
-/// The first numbers of a table's lines.
-pub fn firsts<'a>(alloc: Global, table: &[Numbers<'a>]) -> Result<Vec<Number<'a>>, NoMemory>
-    ensures { IfOk result (λ values. values.items ≡ map (λ numbers. numbers.first) table.now) }
+/// The numbers at a place of a table's lines.
+pub fn numbers_at<'a>(
+    alloc: Global,
+    table: &[Numbers<'a>],
+    place: Place,
+) -> Result<Vec<Number<'a>>, NoMemory>
+    ensures { IfOk result (λ values. values.items ≡ map (at_place place) table.now) }
 {
     Ok(
         table
             .iter()
-            .map(|numbers| numbers.first.again())
-            .collect(alloc)?,
-    )
-}
-
-/// The second numbers of a table's lines.
-pub fn seconds<'a>(alloc: Global, table: &[Numbers<'a>]) -> Result<Vec<Number<'a>>, NoMemory>
-    ensures { IfOk result (λ values. values.items ≡ map (λ numbers. numbers.second) table.now) }
-{
-    Ok(
-        table
-            .iter()
-            .map(|numbers| numbers.second.again())
-            .collect(alloc)?,
-    )
-}
-
-/// The third numbers of a table's lines.
-pub fn thirds<'a>(alloc: Global, table: &[Numbers<'a>]) -> Result<Vec<Number<'a>>, NoMemory>
-    ensures { IfOk result (λ values. values.items ≡ map (λ numbers. numbers.third) table.now) }
-{
-    Ok(
-        table
-            .iter()
-            .map(|numbers| numbers.third.again())
-            .collect(alloc)?,
-    )
-}
-
-/// The fourth numbers of a table's lines.
-pub fn fourths<'a>(alloc: Global, table: &[Numbers<'a>]) -> Result<Vec<Number<'a>>, NoMemory>
-    ensures { IfOk result (λ values. values.items ≡ map (λ numbers. numbers.fourth) table.now) }
-{
-    Ok(
-        table
-            .iter()
-            .map(|numbers| numbers.fourth.again())
+            .map(|numbers| numbers.at(place))
             .collect(alloc)?,
     )
 }

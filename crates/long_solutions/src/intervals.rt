@@ -10,7 +10,6 @@ ghost use Rattle.listing_words.specs.Read.{sheet_view};
 ghost use Rattle.listing_claims.specs.declared.claims.Columns.{Columns as ColumnsView};
 ghost use Rattle.listing_claims.specs.Asked.{IsAskedOf};
 ghost use Rattle.listing_claims.specs.Intervals.{AreCounted, part_verdict};
-ghost use Rattle.listing_claims.specs.Passing.{Judges};
 ghost use Rattle.long_vectors.specs.Vectors.{IsValue, IsOver, list_along};
 ghost use Rattle.long_programs.specs.Programs.{IsChangeIn, IsPlain};
 ghost use Rattle.long_programs.specs.Places.{IsSpread};
@@ -19,8 +18,7 @@ ghost use Rattle.long_solutions.specs.Answers.{Answers};
 ghost use Rattle.long_solutions.specs.Lines.{AreOver, AreLinesOf, IsNumber, IsFamily, points_at, ends_verdict};
 
 use crate::values::{compare_values, compare_with_fraction, is_at_most};
-use crate::verdicts::judged;
-use listing_claims::{AskedRun, Columns, Part, Stop};
+use listing_claims::{AskedRun, Columns, Part};
 use listing_tables::Sheet;
 use listing_words::{Allowance, Number};
 use long_points::{End, all_prices_keep, both, check_sums, optimal, take_spread};
@@ -198,8 +196,8 @@ fn goes_on(order: Ordering, is_first: bool) -> bool
     order.is_lt() || (is_first && order.is_eq())
 }
 
-// Whether an interval passes that begins at a value.
-fn interval_holds(
+/// Whether an interval of a parametric run passes that begins at a value.
+pub fn interval_holds(
     alloc: Global,
     sheet: Sheet<'_>,
     request: &AskedRun<'_>,
@@ -230,27 +228,4 @@ fn interval_holds(
     let ends = ends_hold(alloc, &at, &first, &last, lines, allowance)?;
     let rest = both(within, ends);
     Ok(both(goes, rest))
-}
-
-/// Tests an interval of a parametric run that begins at a value.
-pub fn test_interval(
-    alloc: Global,
-    sheet: Sheet<'_>,
-    request: &AskedRun<'_>,
-    is_first: bool,
-    from: &Number<'_>,
-    part: &Part<'_>,
-    allowance: &mut Allowance,
-) -> Result<(), Stop>
-    requires asked { IsAskedOf sheet request.now }
-    requires counted { AreCounted sheet.lp.now part.now.columns }
-    ensures { Judges
-        (part_verdict checker_of_any_length (sheet_view sheet.entry)
-        (changing_of request.now.name request.now.change) from.now
-        part.now.to part.now.columns is_first request.now.to) result }
-{
-    match interval_holds(alloc, sheet, request, is_first, from, part, allowance) {
-        Ok(holds) => judged(holds),
-        Err(_) => Err(Stop::NoMemory),
-    }
 }

@@ -7,7 +7,7 @@ mod solutions;
 mod values;
 mod verdicts;
 
-pub use intervals::test_interval;
-pub use solutions::test_solution;
+pub use intervals::interval_holds;
+pub use solutions::printed_holds;
 pub use values::{compare_values, compare_with_fraction, exceeds, is_at_most};
 pub use verdicts::judged;

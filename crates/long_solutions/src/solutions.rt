@@ -1,23 +1,19 @@
 // The test of what SOLUTION prints.
 ghost use Rattle.std.specs.Prelude.{◌≡◌, ◌↔◌, ℕ, List, IsTrue, IfOk, length};
 ghost use Rattle.exact_values.specs.Rational.{ℚ};
-ghost use Rattle.lp_definitions.specs.LinearProgram.{IsLinearProgram, size, value_at};
+ghost use Rattle.lp_definitions.specs.LinearProgram.{size, value_at};
 ghost use Rattle.problem_definitions.specs.Problem.{Problem};
 ghost use Rattle.check_definitions.specs.Steps.{AllHold};
 ghost use Rattle.check_definitions.specs.Checks.{equations, reduced_costs};
 ghost use Rattle.walk_definitions.specs.Checkers.{checker_of_any_length};
 ghost use Rattle.walk_definitions.specs.Tests.{best_test};
-ghost use Rattle.listing_words.specs.Read.{sheet_view};
-ghost use Rattle.listing_claims.specs.Passing.{Judges};
 ghost use Rattle.listing_claims.specs.Solutions.{Counted, printed_test};
 ghost use Rattle.long_programs.specs.Programs.{own_theta};
 ghost use Rattle.long_programs.specs.Places.{IsSpread};
 ghost use Rattle.long_solutions.specs.Answers.{Answers};
 
-use crate::verdicts::judged;
-use listing_claims::{Printed, Stop};
+use listing_claims::Printed;
 use listing_definitions::Mark;
-use listing_tables::Sheet;
 use listing_words::{Allowance, Number};
 use long_points::{
     both, equations_hold, limits_hold, prices_stand, reduced_costs_hold, slacks_hold, take_spread,
@@ -92,8 +88,8 @@ fn values_hold(
     Ok(both(keeps, rest))
 }
 
-// Whether what is printed passes.
-fn printed_holds(
+/// Whether what SOLUTION prints under a mark passes.
+pub fn printed_holds(
     alloc: Global,
     lp: &Lp,
     mark: Mark,
@@ -115,26 +111,4 @@ fn printed_holds(
     take_spread(allowance, lp, &prices)?;
     let holds = values_hold(alloc, lp, mark, &point, &prices, &printed.slacks)?;
     Ok(holds)
-}
-
-/// Tests what SOLUTION prints under a mark.
-pub fn test_solution(
-    alloc: Global,
-    sheet: Sheet<'_>,
-    mark: Mark,
-    printed: &Printed<'_>,
-    allowance: &mut Allowance,
-) -> Result<(), Stop>
-    requires lawful { IsLinearProgram sheet.lp.now }
-    requires counted { Counted sheet.lp.now printed.now }
-    ensures { Judges
-        (printed_test checker_of_any_length (sheet_view sheet.entry) mark
-        (value_at printed.now.point.items)
-        (value_at printed.now.prices.items) (value_at printed.now.slacks.items)) result }
-{
-    let lp = sheet.lp;
-    match printed_holds(alloc, lp, mark, printed, allowance) {
-        Ok(holds) => judged(holds),
-        Err(_) => Err(Stop::NoMemory),
-    }
 }

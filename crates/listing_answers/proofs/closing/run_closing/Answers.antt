@@ -20,9 +20,8 @@ pub returns : goal.returns
 returns g c =
     let sheet = sheet_view c.args.sheet in
     let solver = parametric_solver (changing_of c.args.request.now.name c.args.request.now.change) in
-    let start = c.new-again.ensures ∙ c.left-start.ensures in
     with_limit g.T.Checks.checker (λ of. close_in of sheet solver) c.args.cursor.now (rw c.in_default.is at c.in_ok-closing.ensures)
     (Closes sheet) c.read_closing-2.new.cursor c.in_ok-form.form c.is_some.result c.stop_unread.result (sym c.has_limit.ensures ∙ c.if-not-has_limit.false)
     (subst (λ (at : List ℕ). Found (Closes sheet)
-    (close_in (form_in g.T.Checks.checker) sheet solver at) c.read_closing-2.new.cursor c.in_ok-form.form) start c.in_ok-form.ensures)
+    (close_in (form_in g.T.Checks.checker) sheet solver at) c.read_closing-2.new.cursor c.in_ok-form.form) c.again-start.ensures c.in_ok-form.ensures)
     c.is_some.ensures c.stop_unread.ensures

@@ -1,8 +1,9 @@
 use Rattle.std.proofs.Common.{map, length, ap, sym, ◌∙◌}
 use Rattle.lp_definitions.specs.LinearProgram.{size, numbers_from}
 use Rattle.walk_definitions.specs.Tables.{part_slots, table_in}
-use Rattle.listing_readers.specs.declared.tables.Numbers.{Numbers}
+use Rattle.listing_readers.specs.declared.tables.Place.TheVariants.{First, Second, Third, Fourth}
 use Rattle.listing_readers.specs.declared.tables.Shape.TheVariants.{Part}
+use Rattle.listing_readers.specs.Tables.{at_place}
 use Rattle.listing_words.specs.Read.{sheet_view}
 use Rattle.listing_claims.specs.Numbers.{number_in}
 use Rattle.listing_answers.proofs.Tables.{column_is, column_length, lines_counted}
@@ -18,16 +19,16 @@ returns g c =
     let table = ap (λ n. table_in of sheet part_slots (numbers_from 1 n) c.args.cursor.now) (sym c.number_of_variables-count.ensures.size) ∙ read.1 in
     let places = lines_counted of sheet part_slots c.args.cursor.now read.0 c.table.new.cursor table in
     let value =
-    column_is Part (λ n. n.first) numbers read.0 c.in_ok-firsts.field-0.items read.2
-    (c.in_ok-firsts.ensures ∙ ap (map (λ (n : Numbers). n.first)) c.deref.ensures.value) in
+    column_is Part (at_place First) numbers read.0 c.in_ok-value.value.items read.2
+    (c.in_ok-value.ensures ∙ ap (map (at_place First)) c.deref.ensures.value) in
     let value_rate =
-    column_is Part (λ n. n.second) numbers read.0 c.in_ok-seconds.field-0.items read.2
-    (c.in_ok-seconds.ensures ∙ ap (map (λ (n : Numbers). n.second)) c.deref-2.ensures.value) in
+    column_is Part (at_place Second) numbers read.0 c.in_ok-value_rate.value_rate.items read.2
+    (c.in_ok-value_rate.ensures ∙ ap (map (at_place Second)) c.deref-2.ensures.value) in
     let price =
-    column_is Part (λ n. n.third) numbers read.0 c.in_ok-thirds.field-0.items read.2
-    (c.in_ok-thirds.ensures ∙ ap (map (λ (n : Numbers). n.third)) c.deref-3.ensures.value) in
-    let price_rate = column_is Part (λ n. n.fourth) numbers read.0 c.in_ok-fourths.field-0.items read.2
-    (c.in_ok-fourths.ensures ∙ ap (map (λ (n : Numbers). n.fourth)) c.deref-4.ensures.value) in (
+    column_is Part (at_place Third) numbers read.0 c.in_ok-price.price.items read.2
+    (c.in_ok-price.ensures ∙ ap (map (at_place Third)) c.deref-3.ensures.value) in
+    let price_rate = column_is Part (at_place Fourth) numbers read.0 c.in_ok-price_rate.price_rate.items read.2
+    (c.in_ok-price_rate.ensures ∙ ap (map (at_place Fourth)) c.deref-4.ensures.value) in (
       read.0,
       table,
       record {

@@ -5,4 +5,4 @@ use Rattle.listing_answers.proofs.intervals.take_part_head.Goals as goal
 pub returns : goal.returns
 returns c =
     ap₂ (λ (number value : List ℕ). left_after (codes "INTERVAL " ++ (number ++ (codes " FROM " ++ (value ++ codes " TO ")))) c.args.cursor.now)
-    (sym (c.as_bytes.ensures.value ∙ c.decimal.ensures)) (sym c.word-value.ensures) ∙ c.take_five.ensures
+    (sym (c.as_bytes-digits.ensures.value ∙ c.decimal.ensures)) (sym c.word.ensures) ∙ c.take_each.ensures

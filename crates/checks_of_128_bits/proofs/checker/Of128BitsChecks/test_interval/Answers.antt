@@ -5,7 +5,7 @@ use Rattle.listing_claims.specs.Intervals.{part_verdict}
 use Rattle.listing_claims.proofs.Passing.{judges_same}
 use Rattle.checks_of_128_bits.specs.Intervals.{interval_verdict}
 use Rattle.checks_of_128_bits.proofs.Ends.{part_is}
-use Rattle.checks_of_128_bits.proofs.interval_tests.check_part.Goals as goal
+use Rattle.checks_of_128_bits.proofs.checker.Of128BitsChecks.test_interval.Goals as goal
 
 pub returns : goal.returns
 returns c =

@@ -4,7 +4,7 @@ use Rattle.walk_definitions.specs.Checkers.{checker_of_128_bits}
 use Rattle.listing_words.specs.Read.{sheet_view}
 use Rattle.listing_claims.specs.Solutions.{printed_test}
 use Rattle.listing_claims.proofs.Passing.{judges_same}
-use Rattle.checks_of_128_bits.proofs.solution_tests.check_printed.Goals as goal
+use Rattle.checks_of_128_bits.proofs.checker.Of128BitsChecks.test_solution.Goals as goal
 
 pub returns : goal.returns
 returns c =

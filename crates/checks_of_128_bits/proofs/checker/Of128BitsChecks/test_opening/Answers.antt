@@ -5,7 +5,7 @@ use Rattle.walk_definitions.specs.Checkers.{checker_of_128_bits}
 use Rattle.listing_words.specs.Read.{sheet_view}
 use Rattle.listing_claims.specs.Claims.{opening_test}
 use Rattle.listing_claims.specs.Passing.{Judges}
-use Rattle.checks_of_128_bits.proofs.claim_tests.check_opening.Goals as goal
+use Rattle.checks_of_128_bits.proofs.checker.Of128BitsChecks.test_opening.Goals as goal
 
 pub returns : goal.returns
 returns c =

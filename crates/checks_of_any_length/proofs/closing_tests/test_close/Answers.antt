@@ -1,4 +1,0 @@
-use Rattle.checks_of_any_length.proofs.closing_tests.test_close.Goals as goal
-
-pub returns-in-Ok : goal.returns-in-Ok
-returns-in-Ok c = c.judged.ensures _ c.in-Ok.ensures
