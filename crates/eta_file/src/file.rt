@@ -510,12 +510,13 @@ impl EtaFile {
         let Some(least) = wholes.reduce_from(LEAST, denominator) else {
             return Ok(None);
         };
-        if least.den() != 1 || least.num() < 1 {
+        let number = least.num();
+        if least.den() != 1 || number < 1 {
             return Ok(None);
         }
         let listed = self.basics.listed();
         let (before, after) = listed.split_at(place_of(listed, j));
-        out.put_over(wholes.numbers(), least.num(), before, j, after)?;
+        out.put_over(wholes.numbers(), number, before, j, after)?;
         Ok(Some(()))
     }
 
