@@ -20,7 +20,7 @@ use crate::basic_set::{BasicSet, place_of};
 use crate::carry::{clear, fill_column, last_left, leave, transform};
 use crate::eta::{Eta, EtaEntry, ScaledEta, StoredEta};
 use crate::guess::{gathered, has_long_numbers, keeps_equations};
-use crate::modular::{ModularFile, Room};
+use crate::modular::{ModularFile, ModularState};
 use crate::steps::Steps;
 use crate::whole::{begin_whole, leave_whole, transform_whole, whole_eta};
 use crate::words::{WordEntry, words_of_columns};
@@ -53,7 +53,7 @@ pub struct EtaFile {
     words: Rc<Vec<Option<Vec<WordEntry>>>, Global>,
     basics: BasicSet,
     etas: Vec<StoredEta>,
-    modular: Room,
+    modular: ModularState,
     alloc: Global,
 }
 
@@ -154,7 +154,7 @@ impl EtaFile {
             words: Rc::new(alloc, words).map_err(|_| NoMemory)?,
             basics: BasicSet::new(alloc, row_marks(alloc, lp)?)?,
             etas: Vec::new(alloc),
-            modular: Room::Unmade,
+            modular: ModularState::Unmade,
             alloc,
         })
     }
@@ -198,7 +198,7 @@ impl EtaFile {
             words: self.words.clone()?,
             basics: BasicSet::new(self.alloc, marks)?,
             etas: Vec::new(self.alloc),
-            modular: Room::Unmade,
+            modular: ModularState::Unmade,
             alloc: self.alloc,
         })
     }
@@ -602,10 +602,10 @@ impl EtaFile {
             return None;
         }
         let size = self.size() as usize;
-        let mut work = match replace(&mut self.modular, Room::GivenUp) {
-            Room::Made(work) => work,
-            Room::Unmade => ModularFile::new(self.alloc, size)?,
-            Room::GivenUp => return None,
+        let mut work = match replace(&mut self.modular, ModularState::GivenUp) {
+            ModularState::Made(work) => work,
+            ModularState::Unmade => ModularFile::new(self.alloc, size)?,
+            ModularState::GivenUp => return None,
         };
         let found = self.guess(&mut work, j, wholes);
         self.modular = work.kept(found.is_some());
