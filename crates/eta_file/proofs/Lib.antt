@@ -12,3 +12,4 @@ pub mod WholeSteps
 pub mod ListedLaws
 pub mod GuessSteps
 pub mod ListedSums
+pub mod Denominators

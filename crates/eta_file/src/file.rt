@@ -20,7 +20,7 @@ use crate::basic_set::{BasicSet, place_of};
 use crate::carry::{clear, fill_column, last_left, leave, transform};
 use crate::eta::{Eta, EtaEntry, ScaledEta, StoredEta};
 use crate::guess::{gathered, has_long_numbers, keeps_equations};
-use crate::modular::{ModularFile, Room};
+use crate::modular::{ModularFile, ModularState};
 use crate::steps::Steps;
 use crate::whole::{begin_whole, leave_whole, transform_whole, whole_eta};
 use crate::words::{WordEntry, words_of_columns};
@@ -56,7 +56,7 @@ pub struct EtaFile {
     words: Rc<Vec<Option<Vec<WordEntry>>>, Global>,
     basics: BasicSet,
     etas: Vec<StoredEta>,
-    modular: Room,
+    modular: ModularState,
     alloc: Global,
 }
 
@@ -169,7 +169,7 @@ impl EtaFile {
             words: Rc::new(alloc, words).map_err(|_| NoMemory)?,
             basics: BasicSet::new(alloc, row_marks(alloc, lp)?)?,
             etas: Vec::new(alloc),
-            modular: Room::Unmade,
+            modular: ModularState::Unmade,
             alloc,
         })
     }
@@ -213,7 +213,7 @@ impl EtaFile {
             words: self.words.clone()?,
             basics: BasicSet::new(self.alloc, marks)?,
             etas: Vec::new(self.alloc),
-            modular: Room::Unmade,
+            modular: ModularState::Unmade,
             alloc: self.alloc,
         })
     }
@@ -525,12 +525,13 @@ impl EtaFile {
         let Some(least) = wholes.reduce_from(LEAST, denominator) else {
             return Ok(None);
         };
-        if least.den() != 1 || least.num() < 1 {
+        let number = least.num();
+        if least.den() != 1 || number < 1 {
             return Ok(None);
         }
         let listed = self.basics.listed();
         let (before, after) = listed.split_at(place_of(listed, j));
-        out.put_over(wholes.numbers(), least.num(), before, j, after)?;
+        out.put_over(wholes.numbers(), number, before, j, after)?;
         Ok(Some(()))
     }
 
@@ -616,10 +617,10 @@ impl EtaFile {
             return None;
         }
         let size = self.size() as usize;
-        let mut work = match replace(&mut self.modular, Room::GivenUp) {
-            Room::Made(work) => work,
-            Room::Unmade => ModularFile::new(self.alloc, size)?,
-            Room::GivenUp => return None,
+        let mut work = match replace(&mut self.modular, ModularState::GivenUp) {
+            ModularState::Made(work) => work,
+            ModularState::Unmade => ModularFile::new(self.alloc, size)?,
+            ModularState::GivenUp => return None,
         };
         let found = self.guess(&mut work, j, wholes);
         self.modular = work.kept(found.is_some());

@@ -235,12 +235,13 @@ pub struct ModularFile {
     pub sums: SparseWholes,
 }
 
-/// The room for directions modulo two primes. It is given up where two in a row weren't found, and none is looked for then until the file
-/// is made anew.
+/// Whether a file has what it takes to find directions modulo two primes.
 #[derive(Drop)]
-pub enum Room {
+pub enum ModularState {
+    /// It is made at the first direction that is looked for so.
     Unmade,
     Made(ModularFile),
+    /// Two directions in a row weren't found, or memory failed: none is looked for so until the file is made anew.
     GivenUp,
 }
 
@@ -321,13 +322,13 @@ impl ModularFile {
         })
     }
 
-    /// The room after a direction was found or not.
-    pub fn kept(mut self, is_found: bool) -> Room {
+    /// The state after a direction was found or not.
+    pub fn kept(mut self, is_found: bool) -> ModularState {
         if !is_found && self.was_in_vain {
-            return Room::GivenUp;
+            return ModularState::GivenUp;
         }
         self.was_in_vain = !is_found;
-        Room::Made(self)
+        ModularState::Made(self)
     }
 
     /// Takes the etas that it doesn't have yet, where all are whole.

@@ -1,8 +1,10 @@
 use Rattle.std.proofs.Common.{rules, ◌≡◌, ◌≢◌, ◌∙◌, sym, ap, Err, length, arith, subst}
 use Rattle.exact_values.specs.Rational.{◌*ℚ◌}
+use Rattle.frac128.specs.declared.Op.TheVariants.{Mul}
 use Rattle.exact_values.proofs.RingLaws.{mul-zero}
 use Rattle.eta_file.specs.declared.eta.EtaEntry.{EtaEntry}
 use Rattle.eta_file.specs.Entries.{IsEntryWithin}
+use Rattle.eta_file.specs.Refusals.{IsRefusal}
 use Rattle.eta_file.proofs.CarrySteps.{scaled_more, sum_next_other, others_next_same, others_next_other, others_room, entry_at}
 use Rattle.eta_file.proofs.carry.Transformation.scale.Goals as goal
 use Rattle.eta_file.proofs.carry.Transformation.scale.Goals.{then-entry-self+in_ok-out, else-entry-self}
@@ -25,7 +27,9 @@ returns-in_err-out-clause-refused g c =
       within = c.loop-entry-test.true;
       is_entry = entry_at c.args.entries.now c.loop-entry.entry-index c.entry-item.result c.loop-entry-test.true c.entry-item.is;
       stays = c.if-entry-self.true;
-      refused = c.in_err-out.ensures.refused;
+      refused =
+          subst (λ r. IsRefusal c.args.self.way 5 c.args.self.p c.args.self.q c.entry-item.result.i 0 Mul c.args.reciprocal r c.in_err-out.field-0.0)
+          c.reduced.ensures c.in_err-out.ensures.refused;
     })
 
 pub loop-entry-preserved : goal.loop-entry-preserved
@@ -38,7 +42,7 @@ loop-entry-preserved g c =
       | then-entry-self+in_ok-out w ↦ rw (w.out-is, w.steps-is) (record {
         each = λ k low high other.
             scaled_more c.args.entries.now c.loop-entry.entry-index c.entry-item.result c.loop-entry-test.true c.entry-item.is c.loop-entry.out inside
-            c.args.reciprocal w.in_ok-out.field-0 k low w.in_ok-out.ensures.value c.requires.apart
+            c.args.reciprocal w.in_ok-out.field-0 k low (w.in_ok-out.ensures.value ∙ ap (λ r. c.args.reciprocal *ℚ r) w.reduced.ensures) c.requires.apart
             (c.loop-entry.invariant.each k low high other);
         cost =
             let more =

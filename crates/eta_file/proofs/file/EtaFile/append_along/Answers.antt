@@ -27,7 +27,8 @@ append_entries-requires c =
       is_direction = direction;
       apart = c.requires.pivot;
       is_pivot =
-          value_at_place c.values-values.result.now c.args.p c.index-values-p.result leaves.0.0
+          c.reduced.ensures
+          ∙ value_at_place c.values-values.result.now c.args.p c.index-values-p.result leaves.0.0
           (omega (arith, leaves.0.1, places, ap length c.values-values.ensures)) c.index-values-p.is
           ∙ ap (λ xs. value_at xs c.args.p) c.values-values.ensures;
       are_entries =
