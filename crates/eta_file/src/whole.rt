@@ -49,10 +49,10 @@ fn scaled_rate(rate: &Ratio, scale: Frac) -> Option<Ratio>
     let (num, den) = rate.terms();
     if scale.den() == 1 {
         if den == scale.num() {
-            return Some(Ratio::of(Frac::whole(num)));
+            return Some(Ratio::new(num, 1));
         }
         if den == -scale.num() {
-            return Some(Ratio::of(Frac::whole(-num)));
+            return Some(Ratio::new(-num, 1));
         }
     }
     let made = product_by_scale(rate.reduced(), scale)?;
