@@ -69,6 +69,14 @@ module _ (p : ℕ) (xs : List ℚ) (es : List EtaEntry) (n : ℕ) (e : EtaEntry)
           ∙ ap (λ v. sum_from start (weighted p xs (take n es)) +ℚ v) (zero-mul e.rate) ∙ add-zero (sum_from start (weighted p xs (take n es))))
       at false away = let other : e.i ≢ p = grind (arith, away) in weighted_more other
 
+  -- where both have 0, it adds nothing either
+  pub weighted_idle : value_at xs p ≡ zero_ℚ → value_at xs e.i ≡ zero_ℚ →
+      sum_from start (weighted p xs (take (n + 1) es)) ≡ sum_from start (weighted p xs (take n es))
+  weighted_idle none idle =
+      weighted_next none
+      ∙ ap (λ v. sum_from start (weighted p xs (take n es)) +ℚ v *ℚ e.rate) idle
+      ∙ ap (λ v. sum_from start (weighted p xs (take n es)) +ℚ v) (zero-mul e.rate) ∙ add-zero (sum_from start (weighted p xs (take n es)))
+
 products-take : (xs : List ℚ) (c : List Entry) (n : ℕ) (d : Entry) (start : ℚ) → n < length c →
     sum_from start (products xs (take (suc n) c)) ≡ sum_from start (products xs (take n c)) +ℚ value_at xs (get_or c n d).row *ℚ (get_or c n d).value
 products-take xs [] n d start below = absurd (omega arith)

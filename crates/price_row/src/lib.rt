@@ -45,7 +45,7 @@ struct Sought<'a> {
 }
 
 /// Rows of an inverse that is kept as an eta file, with places for the multipliers of the rows, in words, in whole numbers and in
-/// fractions, and for a direction.
+/// fractions, and for a direction. So many searched rows, `without_words`, are still to come that aren't tried in words.
 #[derive(Drop)]
 pub struct PriceRow {
     words: SparseWords,
@@ -112,7 +112,8 @@ impl PriceRow {
 
     /// The least-numbered variable whose rate in the row of the basic `i`, or the opposite of it where `up` is false, is wanted there.
     /// `out`, which has a place for each variable, takes the rate of that variable, and where there is none the row: as long as
-    /// whole numbers fit, no rate but these is worked out. Else all is as in `row`.
+    /// whole numbers fit, no rate but these is worked out. After a row that was searched here and didn't fit words, the next eight that are
+    /// searched, `ROWS_WITHOUT_WORDS`, aren't tried in words, but in larger whole numbers at once. All else is as in `row`.
     pub fn first_wanted(
         &mut self,
         file: &EtaFile,

@@ -15,7 +15,7 @@ loop-entry-preserved c =
     (c.requires c.loop-entry.entry-index c.entry-item.result c.loop-entry-test.true) in
     elim c.if-entry-p.branch [
       | then-entry-p+in_ok-sum-2 w ↦
-          w.sum-is ∙ w.in_ok-sum-2.ensures
+          w.sum-is ∙ w.in_ok-sum-2.ensures ∙ ap (λ y. c.loop-entry.sum +ℚ w.index-values-entry.result *ℚ y) w.reduced.ensures
           ∙ ap (λ x. c.loop-entry.sum +ℚ x *ℚ c.entry-item.result.rate)
           (value_at_place c.args.values.now c.entry-item.result.i w.index-values-entry.result within.0 within.1 w.index-values-entry.is)
           ∙ ap (λ s. s +ℚ value_at c.args.values.now c.entry-item.result.i *ℚ c.entry-item.result.rate) c.loop-entry.invariant

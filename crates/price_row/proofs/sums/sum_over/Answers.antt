@@ -3,6 +3,7 @@ use Rattle.exact_values.specs.Rational.{◌+ℚ◌, ◌*ℚ◌}
 use Rattle.lp_definitions.specs.LinearProgram.{value_at}
 use Rattle.eta_file.specs.declared.eta.EtaEntry.{EtaEntry}
 use Rattle.eta_file.specs.Entries.{IsEntryWithin}
+use Rattle.price_row.specs.Sums.{IsStepRefused}
 use Rattle.price_row.proofs.SumSteps.{weighted_same, weighted_more, weighted_refused}
 use Rattle.price_row.proofs.sums.sum_over.Goals as goal
 use Rattle.price_row.proofs.sums.sum_over.Goals.{then-entry-p+in_ok-sum, else-entry-p}
@@ -15,7 +16,7 @@ loop-entry-preserved c =
     (c.requires c.loop-entry.entry-index c.entry-item.result c.loop-entry-test.true) in
     elim c.if-entry-p.branch [
       | then-entry-p+in_ok-sum w ↦
-          w.sum-is ∙ w.in_ok-sum.ensures.value
+          w.sum-is ∙ w.in_ok-sum.ensures.value ∙ ap (λ y. c.loop-entry.sum +ℚ w.index-values-entry.result *ℚ y) w.reduced.ensures
           ∙ ap (λ x. c.loop-entry.sum +ℚ x *ℚ c.entry-item.result.rate)
           (value_at_place c.args.values.now c.entry-item.result.i w.index-values-entry.result within.0 within.1 w.index-values-entry.is)
           ∙ ap (λ s. s +ℚ value_at c.args.values.now c.entry-item.result.i *ℚ c.entry-item.result.rate) c.loop-entry.invariant
@@ -34,4 +35,5 @@ returns-in_err-sum-clause-refused c =
     rw is_err
     (weighted_refused c.args.p c.args.first c.args.values.now c.args.entries.now c.loop-entry.entry-index c.entry-item.result c.loop-entry.sum c.index-values-entry.result c.in_err-sum.field-0.0
     c.loop-entry-test.true c.entry-item.is c.if-entry-p.true c.loop-entry.invariant
-    (value_at_place c.args.values.now c.entry-item.result.i c.index-values-entry.result within.0 within.1 c.index-values-entry.is) c.in_err-sum.ensures.refused)
+    (value_at_place c.args.values.now c.entry-item.result.i c.index-values-entry.result within.0 within.1 c.index-values-entry.is)
+    (subst (λ y. IsStepRefused c.loop-entry.sum c.index-values-entry.result y c.in_err-sum.field-0.0) c.reduced.ensures c.in_err-sum.ensures.refused))
