@@ -1,7 +1,6 @@
 -- How long a motion lasts at least, by the product of a length and a speed in words; and what is no nearer than what is nearest so far.
 use Rattle.std.proofs.Common.{◌≡◌, ◌≢◌, ℕ, ◌+◌, ◌*◌, ◌/◌, ◌%◌, ◌≤◌, ℤ, Bool, true, false, refl, sym, ◌∙◌, ap, ap₂, subst, arith}
-use Rattle.std.specs.Prelude.{Option, Some, None, option_map, IfSome, IsTrue, int_eq, nat_eq, pos, ◌≤ℤ◌, unsigned_abs}
-use Rattle.std.proofs.lemmas.Int.{ints}
+use Rattle.std.specs.Prelude.{Option, Some, None, option_map, IfSome, IsTrue, not, pos}
 use Rattle.std.specs.Option.{unwrap_or}
 use borrow.Author.Differences.{up, down}
 use Rattle.std.proofs.lemmas.Nat.{div-add-mod'}
@@ -46,15 +45,6 @@ lasts_as_long d s l dw sw lw d_is s_is l_is some most =
     le-div {x = l} {a = d} {b = s} (lt_from_ratios nothing_ratio (quotient_ratio s sw s_is) (omega (arith, some)))
     (le_from_ratios (mul_ratio (ratio_of l lw l_is) (quotient_ratio s sw s_is)) (quotient_ratio d dw d_is) (omega (arith, most)))
 
--- the words that the terms of a fraction are
-pub words_make_up : (x : ℚ) (n d : ℤ) (w : Words) → fraction n (unsigned_abs d) ≡ x → pos 1 ≤ℤ d → pos w.top ≡ n → pos w.bottom ≡ d → MakeUp x w
-words_make_up x n d w is some top bottom =
-    let under : unsigned_abs d ≡ w.bottom = ap unsigned_abs (sym bottom) in
-    record {
-      some = (let apart : 0 < unsigned_abs d = omega (arith, ints, some) in omega (arith, apart, under));
-      is = ap₂ fraction top (sym under) ∙ is;
-    }
-
 -- ---- what is nearest so far stays so
 
 signed_ratio : (rises : Bool) (x d : ℚ) → d ≢ zero_ℚ → signed rises x /ℚ signed rises d ≡ x /ℚ d
@@ -75,22 +65,20 @@ rests p z d up k speed rate nearest none speed_is rate_is =
 later : (r : Reach) (x : ℚ) (o : Option ℚ) (k : ℕ) → o ≡ Some x → r.length ≤ℚ x → sooner (Some r) o k ≡ Some r
 later r x o k is most = subst (λ (o : Option ℚ). sooner (Some r) o k ≡ Some r) (sym is) (rw (test_from_le r.length x most) refl)
 
-turned_twice : (rises up same : Bool) (x : ℚ) → IsSame rises up same → signed same x ≡ signed rises (signed up x)
-turned_twice true true same x h = ap (λ b. signed b x) h
-turned_twice true false same x h = ap (λ b. signed b x) h
-turned_twice false true same x h = ap (λ b. signed b x) h
-turned_twice false false same x h = ap (λ b. signed b x) h ∙ by_ring1 x (λ x. x ≐ opposite (opposite x)) refl
+-- a number counted the other way
+pub counted_back : (up : Bool) (x : ℚ) → signed (not up) x ≡ neg_ℚ (signed up x)
+counted_back true x = refl
+counted_back false x = by_ring1 x (λ x. x ≐ opposite (opposite x)) refl
 
-pub no_nearer : (p : LinearProgram) (z d : Vector) (up : Bool) (k : ℕ) (a : Ahead) (rate value distance : ℚ) (rises same : Bool) (r : Reach) →
-    IsAhead p (λ _. signed up rate) k (Some a) → rate ≡ d k → value ≡ z k → distance ≡ a.limit -ℚ value → IsSame rises up same →
-    r.length ≤ℚ signed rises distance /ℚ signed same rate → sooner (Some r) (step_length p z (motion d up) k) k ≡ Some r
-no_nearer p z d up k a rate value distance rises same r ahead rate_is value_is distance_is is_same most =
+pub no_nearer : (p : LinearProgram) (z d : Vector) (up : Bool) (k : ℕ) (a : Ahead) (rate value distance far fast : ℚ) (rises : Bool) (r : Reach) →
+    IsAhead p (λ _. signed up rate) k (Some a) → rate ≡ d k → value ≡ z k → distance ≡ a.limit -ℚ value → far ≡ signed rises distance →
+    fast ≡ signed rises (signed up rate) → r.length ≤ℚ far /ℚ fast → sooner (Some r) (step_length p z (motion d up) k) k ≡ Some r
+no_nearer p z d up k a rate value distance far fast rises r ahead rate_is value_is distance_is far_is fast_is most =
     let speed_is : signed up rate ≡ motion d up k = ap (signed up) rate_is in
     let there : IsAhead p (motion d up) k (Some a) = ahead_at p (motion d up) k (signed up rate) (Some a) speed_is ahead in
     let gap : distance ≡ a.limit -ℚ z k = distance_is ∙ ap (λ v. a.limit -ℚ v) value_is in
-    let turned : signed rises distance /ℚ signed same rate ≡ (a.limit -ℚ z k) /ℚ motion d up k =
-    ap (λ x. signed rises distance /ℚ x) (turned_twice rises up same rate is_same) ∙ signed_ratio rises distance (signed up rate) ahead.3
-    ∙ ap₂ (λ x y. x /ℚ y) gap speed_is in
+    let turned : far /ℚ fast ≡ (a.limit -ℚ z k) /ℚ motion d up k =
+    ap₂ (λ x y. x /ℚ y) far_is fast_is ∙ signed_ratio rises distance (signed up rate) ahead.3 ∙ ap₂ (λ x y. x /ℚ y) gap speed_is in
     later r ((a.limit -ℚ z k) /ℚ motion d up k) (step_length p z (motion d up) k) k
     (ap (option_map (λ l. (l -ℚ z k) /ℚ motion d up k)) there.0) (subst (λ (x : ℚ). r.length ≤ℚ x) turned most)
 

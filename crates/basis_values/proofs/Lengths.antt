@@ -1,9 +1,12 @@
 -- How long a motion lasts until a variable reaches the limit ahead of it.
-use Rattle.std.proofs.Common.{◌≡◌, ◌≢◌, ℕ, ◌+◌, ◌≤◌, Bool, true, false, refl, sym, ◌∙◌, ap, ap₂, subst, arith, add-one, ℤ, pos, ◌<◌, ◌*◌, ◌+ℤ◌, ◌*ℤ◌, ◌<ℤ◌, ◌≤ℤ◌}
-use Rattle.std.specs.Prelude.{Option, Some, None, option_map, int_lt, neg_ℤ, unsigned_abs}
+use Rattle.std.proofs.Common.{◌≡◌, ◌≢◌, ℕ, ◌+◌, ◌≤◌, Bool, true, false, refl, sym, ◌∙◌, ap, ap₂, subst, arith, add-one, ℤ, pos, ◌<◌, ◌*◌, ◌^◌, ◌+ℤ◌, ◌*ℤ◌, ◌<ℤ◌, ◌≤ℤ◌, to_z, of_z, FitsSigned}
+use Rattle.std.specs.Int.{w8}
+use Rattle.frac128.proofs.Parts.{zero-minus, read, read_fitting}
+use Rattle.frac128.specs.Terms.{Fits}
+use Rattle.std.specs.Prelude.{Option, Some, None, option_map, int_lt, neg_ℤ, ◌-ℤ◌, unsigned_abs}
 use Rattle.std.specs.declared.cmp.Ordering.{Ordering}
 use Rattle.std.specs.declared.cmp.Ordering.TheVariants.{Less, Equal, Greater}
-use Rattle.std.proofs.lemmas.Int.{ints}
+use Rattle.std.proofs.lemmas.Int.{ints, to_z-of_z}
 use Rattle.exact_values.specs.Rational.{ℚ, zero_ℚ, one_ℚ, neg_ℚ, inverse_ℚ, fraction, ◌+ℚ◌, ◌-ℚ◌, ◌*ℚ◌, ◌/ℚ◌, ◌<ℚ◌, compare_ℚ, sign_of, sign_ℚ}
 use Rattle.exact_values.specs.Tests.{lt_ℚ}
 use Rattle.exact_values.proofs.Fractions.{add_fractions, neg_fraction, parts_make}
@@ -11,7 +14,7 @@ use Rattle.exact_values.proofs.RingLaws.{zero-add}
 use Rattle.exact_values.proofs.Inverse.{inverse-neg}
 use Rattle.exact_values.proofs.Order.{lt_irrefl, le_of_lt}
 use Rattle.exact_values.proofs.Ring.{by_ring1, by_ring2, number, ◌⊗◌, ◌≐◌, opposite}
-use Rattle.exact_values.proofs.TestsLaws.{lt_from_test, test_from_lt, lt_fails_from_le, above_from_positive, below_from_negative, sign_from_above, sign_from_below, sign_from_zero}
+use Rattle.exact_values.proofs.TestsLaws.{lt_from_test, test_from_lt, lt_fails_from_le, above_from_positive, below_from_negative, sign_from_above, sign_from_below, sign_from_zero, zero_from_sign}
 use Rattle.exact_values.proofs.Compare.{lt_from_compare, same_from_compare, gt_from_compare}
 use Rattle.exact_values.proofs.Signs.{neg_above, neg_below}
 use Rattle.lp_definitions.specs.LinearProgram.{LinearProgram, Vector, lower_of, upper_of}
@@ -69,6 +72,9 @@ module _ (p : LinearProgram) (k : ℕ) (v : ℚ) (sign : ℤ) (is : sign ≡ sig
   pub none_ahead_of_falling : int_lt sign (pos 0) ≡ true → lower_of p k ≡ None → IsAhead p (λ _. v) k None
   none_ahead_of_falling down limit = none_below p k v (not_rising down) (test_from_lt v zero_ℚ (falls down)) limit
 
+  pub none_ahead_at_rest : int_lt (pos 0) sign ≡ false → int_lt sign (pos 0) ≡ false → IsAhead p (λ _. v) k None
+  none_ahead_at_rest not_up not_down = none_ahead p k v (zero_from_sign v (sym is ∙ omega (arith, ints, not_up, not_down)))
+
 pub ahead_at : (p : LinearProgram) (v : Vector) (k : ℕ) (speed : ℚ) (o : Option Ahead) → speed ≡ v k → IsAhead p (λ _. speed) k o → IsAhead p v k o
 ahead_at p v k speed None e h = subst (λ (x : ℚ). limit_ahead p (λ _. x) k ≡ None) e h
 ahead_at p v k speed (Some a) e h = (subst (λ (x : ℚ). limit_ahead p (λ _. x) k ≡ Some a.limit) e h.0, h.1, h.2, λ vanishes. h.3 (e ∙ vanishes))
@@ -105,6 +111,14 @@ pub signed_over : (up : Bool) (x d : ℚ) → d ≢ zero_ℚ → signed up (x /�
 signed_over true x d some = refl
 signed_over false x d some = over_opposite x d some
 
+-- the opposite of a sign, as the code makes it
+pub turned_sign : (x : ℚ) (s : ℤ) → s ≡ sign_ℚ x → to_z w8 (of_z w8 (pos 0 -ℤ to_z w8 (of_z w8 s))) ≡ sign_ℚ (neg_ℚ x)
+turned_sign x s is =
+    let small : unsigned_abs s ≤ 1 = subst (λ (t : ℤ). unsigned_abs t ≤ 1) (sym is) (sign_is_small x) in
+    let fits : FitsSigned w8 s = omega (arith, ints, small) in
+    let turned_fits : FitsSigned w8 (pos 0 -ℤ s) = omega (arith, ints, small) in
+    ap (λ t. to_z w8 (of_z w8 (pos 0 -ℤ t))) (to_z-of_z w8 s fits) ∙ to_z-of_z w8 (pos 0 -ℤ s) turned_fits ∙ zero-minus s ∙ ap neg_ℤ is ∙ sign_turned x
+
 pub length_found : (p : LinearProgram) (z d : Vector) (up : Bool) (k : ℕ) (l change : ℚ) → limit_ahead p (motion d up) k ≡ Some l → d k ≢ zero_ℚ →
     change ≡ (l -ℚ z k) /ℚ d k → Some (signed up change) ≡ step_length p z (motion d up) k
 length_found p z d up k l change ahead moves is =
@@ -134,6 +148,22 @@ whole_less limit value n d left one some is left_is =
 
     times_one_left : (m : ℕ) → m ≡ 1 * m
     times_one_left m = omega arith
+
+-- the same, as the code makes the terms
+pub whole_less_made : (limit value : ℚ) (n d top scaled left : ℤ) → limit.denominator ≡ 1 → pos 1 ≤ℤ d → fraction n (unsigned_abs d) ≡ value → Fits n →
+    Fits d → Fits top → top ≡ limit.numerator → Fits (read top *ℤ read d) × (scaled ≡ read top *ℤ read d) →
+    Fits (read scaled +ℤ read (pos 0 -ℤ read n)) × (left ≡ read scaled +ℤ read (pos 0 -ℤ read n)) →
+    fraction (read left) (unsigned_abs (read d)) ≡ limit -ℚ value
+whole_less_made limit value n d top scaled left one some is n_fits d_fits top_fits top_is scaled_made left_made =
+    let small : unsigned_abs n < 2 ^ 127 = n_fits in
+    let opposite_fits : Fits (pos 0 -ℤ n) = omega (arith, ints, small) in
+    let scaled_is : read scaled ≡ limit.numerator *ℤ d =
+    ap read scaled_made.1 ∙ read_fitting (read top *ℤ read d) scaled_made.0 ∙ ap₂ (λ x y. x *ℤ y) (read_fitting top top_fits ∙ top_is) (read_fitting d d_fits) in
+    let turned : read (pos 0 -ℤ read n) ≡ neg_ℤ n =
+    ap (λ m. read (pos 0 -ℤ m)) (read_fitting n n_fits) ∙ read_fitting (pos 0 -ℤ n) opposite_fits ∙ zero-minus n in
+    let left_is : read left ≡ limit.numerator *ℤ d +ℤ neg_ℤ n =
+    ap read left_made.1 ∙ read_fitting (read scaled +ℤ read (pos 0 -ℤ read n)) left_made.0 ∙ ap₂ (λ x y. x +ℤ y) scaled_is turned in
+    ap (λ m. fraction (read left) (unsigned_abs m)) (read_fitting d d_fits) ∙ whole_less limit value n d (read left) one some is left_is
 
 pub nothing_less : (limit value distance : ℚ) → limit ≡ zero_ℚ → distance ≡ neg_ℚ value → distance ≡ limit -ℚ value
 nothing_less limit value distance none is = is ∙ sym (zero-add (neg_ℚ value)) ∙ ap (λ x. x +ℚ neg_ℚ value) (sym none)

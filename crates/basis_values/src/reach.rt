@@ -153,6 +153,18 @@ fn counted_ratio(value: &Ratio, up: bool) -> Ratio
     if up { value.copy() } else { value.neg() }
 }
 
+/// The number as `up` counts it, counted upward or downward.
+#[inline(always)]
+fn counted_twice(value: &Ratio, up: bool, rises: bool) -> Ratio
+    ensures { result ≡ signed rises (signed up value.now) }
+{
+    if rises {
+        counted_ratio(value, up)
+    } else {
+        counted_ratio(value, !up)
+    }
+}
+
 /// Whether it is seen without a quotient that `k` is no nearer than what is nearest so far.
 pub fn is_no_nearer(
     lp: &Lp,
@@ -180,7 +192,7 @@ pub fn is_no_nearer(
     };
     let rises = ahead.term == 2;
     let distance = counted_ratio(&distance, rises);
-    let speed = counted_ratio(rate, rises == up);
+    let speed = counted_twice(rate, up, rises);
     lasts(&distance, &speed, nearest.length).unwrap_or(false)
 }
 

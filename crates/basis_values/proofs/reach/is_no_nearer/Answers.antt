@@ -1,4 +1,4 @@
-use Rattle.std.proofs.Common.{◌≡◌, arith, ap₂, sym, subst}
+use Rattle.std.proofs.Common.{◌≡◌, arith, sym, subst}
 use Rattle.std.specs.Prelude.{Option, Some}
 use Rattle.exact_values.specs.Rational.{ℚ, ◌≤ℚ◌, ◌/ℚ◌}
 use Rattle.lp_definitions.specs.LinearProgram.{value_at}
@@ -15,12 +15,11 @@ returns c passed =
     let z = value_at c.args.point.now in
     let d = value_at c.args.direction.now in
     let nearest : c.args.nearest.now ≡ Some c.in-Some-nearest.nearest = c.in-Some-nearest.is in
-    let gap = ap₂ (λ (x y : ℚ). x /ℚ y) c.counted-distance.ensures c.counted-speed-2.ensures in
-    let most : c.in-Some-nearest.nearest.length ≤ℚ c.counted-distance.result /ℚ c.counted-speed-2.result =
+    let most : c.in-Some-nearest.nearest.length ≤ℚ c.counted_ratio-distance.result /ℚ c.counted_twice-speed.result =
     when_passed c.lasts.result c.unwrap_or.result _ c.unwrap_or.ensures c.lasts.ensures passed in
     subst (λ (o : Option Reach). sooner o (step_length c.args.lp.now z (motion d c.args.up) c.args.k) c.args.k ≡ o) (sym nearest)
-    (no_nearer c.args.lp.now z d c.args.up c.args.k c.in-Some.ahead c.counted-speed.result c.index-direction-k.result c.index-point-k.result
-    c.in-Ok.distance c.is_less-rises.result c.in-Some-nearest.nearest c.in-Some.ensures c.counted-speed.ensures
+    (no_nearer c.args.lp.now z d c.args.up c.args.k c.in-Some.ahead c.index-direction-k.result c.index-point-k.result c.in-Some-distance_to.distance
+    c.counted_ratio-distance.result c.counted_twice-speed.result _ c.in-Some-nearest.nearest c.in-Some.ensures
     (value_read c.args.direction.now c.args.k c.index-direction-k.result (omega arith) c.index-direction-k.is)
-    (value_read c.args.point.now c.args.k c.index-point-k.result (omega arith) c.index-point-k.is) c.in-Ok.ensures.value
-    (subst (λ (x : ℚ). c.in-Some-nearest.nearest.length ≤ℚ x) gap most))
+    (value_read c.args.point.now c.args.k c.index-point-k.result (omega arith) c.index-point-k.is) c.in-Some-distance_to.ensures
+    c.counted_ratio-distance.ensures c.counted_twice-speed.ensures most)
