@@ -114,7 +114,7 @@ returns-then-is_needed-clause-refused c =
       refused =
           subst (λ (x : ℚ). MovedRefused c.args.step.now.by.now.step x
           (value_at c.args.point.now k) c.args.step.now.by.now.p c.args.step.now.q k c.in-Err.evidence) rate_is
-          (subst (λ (x : ℚ). MovedRefused c.args.step.now.by.now.step c.index-direction-place.result x c.args.step.now.by.now.p c.args.step.now.q k c.in-Err.evidence) value_is c.in-Err.ensures.refused);
+          (subst (λ (x : ℚ). MovedRefused c.args.step.now.by.now.step c.index-direction-place.result x c.args.step.now.by.now.p c.args.step.now.q k c.in-Err.evidence) (sym c.index-point-place.is ∙ value_is) c.in-Err.ensures.refused);
     })
 
 pub loop-k-preserved-in-Err : goal.loop-k-preserved-in-Err
