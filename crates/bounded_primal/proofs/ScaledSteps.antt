@@ -141,7 +141,15 @@ lessened s scaled more shared rest some back rest_is =
 pub scaled_by : (step of_one across : ℚ) (values rates : ℕ) (value_factor rate_factor rest : ℤ) → 0 < values → 0 < rates →
     of_one ≡ step *ℚ fraction (pos 1) rates → across ≡ fraction (pos of_one.denominator) values →
     value_factor ≡ across.numerator → rate_factor ≡ of_one.numerator *ℤ pos across.denominator → rest ≡ pos of_one.denominator *ℤ pos across.denominator →
-    IsScaled (record { step = step; value_denominator = values; rate_denominator = rates; value_factor = value_factor; rate_factor = rate_factor; shared = rest; rest = pos 1 })
+    IsScaled (record {
+      step = step;
+      value_denominator = values;
+      rate_denominator = rates;
+      value_factor = value_factor;
+      rate_factor = rate_factor;
+      shared = rest;
+      rest = pos 1;
+    })
 scaled_by step of_one across values rates value_factor rate_factor rest some_values some_rates one_is across_is value_is rate_is rest_is =
     let s : ℚ = whole (pos of_one.denominator) in
     let e : ℚ = whole (pos across.denominator) in
@@ -178,8 +186,17 @@ factor_fits a b c same some fits =
     at (negsuc a) (suc n) some is = omega (arith, ints, is, fits)
 
 -- the factors for whole numbers
-pub scaled_by_one : (step : ℚ) (value_factor rate_factor rest : ℤ) → value_factor ≡ pos step.denominator → rate_factor ≡ step.numerator → rest ≡ pos step.denominator →
-    IsScaled (record { step = step; value_denominator = 1; rate_denominator = 1; value_factor = value_factor; rate_factor = rate_factor; shared = rest; rest = pos 1 })
+pub scaled_by_one : (step : ℚ) (value_factor rate_factor rest : ℤ) → value_factor ≡ pos step.denominator → rate_factor ≡ step.numerator →
+    rest ≡ pos step.denominator →
+    IsScaled (record {
+      step = step;
+      value_denominator = 1;
+      rate_denominator = 1;
+      value_factor = value_factor;
+      rate_factor = rate_factor;
+      shared = rest;
+      rest = pos 1;
+    })
 scaled_by_one step value_factor rate_factor rest value_is rate_is rest_is = record {
   value_factor = ap (λ (z : ℤ). whole z *ℚ whole (pos 1)) (value_is ∙ sym rest_is);
   rate_factor =

@@ -105,7 +105,8 @@ returns-then-is_needed-clause-refused c =
     value_read c.loop-k.point k c.index-point-place.result
     (omega (arith, next.is_next, next.within, places, c.requires.direction_places, c.requires.point_places)) c.index-point-place.is
     ∙ next.done.rest k (omega (arith, next.is_next)) in
-    let rate_is = value_read c.values-direction.result.now k c.index-direction-place.result (omega (arith, next.is_next, next.within)) c.index-direction-place.is in
+    let rate_is =
+    value_read c.values-direction.result.now k c.index-direction-place.result (omega (arith, next.is_next, next.within)) c.index-direction-place.is in
     rw (← c.values-direction.ensures) (record {
       i = k;
       is = (omega (arith, next.is_next), omega (arith, next.within, places, c.requires.direction_places));
@@ -114,7 +115,8 @@ returns-then-is_needed-clause-refused c =
       refused =
           subst (λ (x : ℚ). MovedRefused c.args.step.now.by.now.step x
           (value_at c.args.point.now k) c.args.step.now.by.now.p c.args.step.now.q k c.in-Err.evidence) rate_is
-          (subst (λ (x : ℚ). MovedRefused c.args.step.now.by.now.step c.index-direction-place.result x c.args.step.now.by.now.p c.args.step.now.q k c.in-Err.evidence) (sym c.index-point-place.is ∙ value_is) c.in-Err.ensures.refused);
+          (subst (λ (x : ℚ). MovedRefused c.args.step.now.by.now.step c.index-direction-place.result x
+          c.args.step.now.by.now.p c.args.step.now.q k c.in-Err.evidence) (sym c.index-point-place.is ∙ value_is) c.in-Err.ensures.refused);
     })
 
 pub loop-k-preserved-in-Err : goal.loop-k-preserved-in-Err
@@ -144,12 +146,14 @@ loop-k-preserved c =
     let places : length c.values-direction.result.now ≡ length c.args.step.now.direction.now = ap length c.values-direction.ensures in
     let fits : k ≤ length c.loop-k.point = omega (arith, next.within, places, c.requires.direction_places, c.requires.point_places) in
     let value_is = value_read c.loop-k.point k c.index-point-place.result (omega (arith, next.is_next, fits)) c.index-point-place.is in
-    let rate_is = value_read c.values-direction.result.now k c.index-direction-place.result (omega (arith, next.is_next, next.within)) c.index-direction-place.is in
+    let rate_is =
+    value_read c.values-direction.result.now k c.index-direction-place.result (omega (arith, next.is_next, next.within)) c.index-direction-place.is in
     let value : c.in-Ok.next ≡ c.index-point-place.result +ℚ c.args.step.now.by.now.step *ℚ c.index-direction-place.result = search rules in
     record {
       done = one_more c.values-direction.result.now _ k _ next.within next.left
           (moved_by c.args.lp.now c.args.step.now.by.now.step (value_at c.values-direction.result.now) (value_at c.args.point.now) c.loop-k.point
-          (all_kept c.loop-k.still) next.before k c.in-Ok.next c.index-point-place.result c.index-direction-place.result next.is_next fits value_is rate_is value next.done);
+          (all_kept c.loop-k.still) next.before k c.in-Ok.next c.index-point-place.result c.index-direction-place.result
+          next.is_next fits value_is rate_is value next.done);
       kept = c.loop-k.invariant.kept;
       needed = c.loop-k.invariant.needed;
       scaled = search rules;
