@@ -1,7 +1,7 @@
 -- A loop over the variables that are looked at in a motion: what isn't among them stands still, so that a step leaves it where it is and
 -- it reaches no limit.
 use Rattle.std.proofs.Common.{◌≡◌, ℕ, zero, suc, ◌+◌, ◌-◌, ◌<◌, ◌≤◌, ◌⊎◌, inl, inr, Bool, true, false, List, [], ◌∷◌, length, get_or, drop, refl, sym, ap, ap₂, subst, ◌∙◌, arith}
-use Rattle.std.specs.Prelude.{Option, Some, None, IsSome, IsTrue, ◌||◌, slice_set}
+use Rattle.std.specs.Prelude.{Option, Some, None, IsTrue, ◌||◌, slice_set}
 use Rattle.std.proofs.lemmas.Bool.{cases_lt}
 use Rattle.std.proofs.lemmas.List.{drop_all, drop_more, get_or-set_other, get_or-set_same}
 use Rattle.exact_values.specs.Rational.{ℚ, zero_ℚ, ◌+ℚ◌, ◌*ℚ◌}
@@ -200,7 +200,3 @@ or_left false b h = cc
 pub or_right : (a b : Bool) → b ≡ true → (a || b) ≡ true
 or_right true b h = refl
 or_right false b h = h
-
-pub nothing_there : (o : Option ℚ) → o ≡ None → IsSome o → ⊥
-nothing_there None e h = absurd (let clash : false ≡ true = h in cc)
-nothing_there (Some x) e h = cc

@@ -67,10 +67,9 @@ pub fn begin<R: Rates>(
         (R.state rates.new) }
 {
     workspace.fill_point(lp, basis, rates)?;
-    let point = workspace.point.as_mut_slice();
     Ok(Standing {
         kept: Kept::AllSoFar,
-        broken: outside(lp, basis, point),
+        broken: outside(lp, basis, &workspace.point),
         steps: 0,
         left,
     })

@@ -43,11 +43,12 @@ fn numerator_over(x: &Ratio, common: u64) -> Option<i128>
     if den == common as i128 {
         return Some(num);
     }
-    let den = u64::try_from(den).ok()?;
-    if den == 0 || common % den != 0 {
+    let own = u64::try_from(den).ok()?;
+    if common % own != 0 {
         return None;
     }
-    product(num, (common / den) as i128)
+    let scaled = product(num, (common / own) as i128)?;
+    Some(scaled)
 }
 
 /// The quotient, where it leaves no remainder.
@@ -75,10 +76,9 @@ fn common_multiple(common: u64, x: &Ratio) -> Option<u64>
     if den == common as i128 {
         return Some(common);
     }
-    let factor = Frac::new(common as i128, den).num();
-    let factor = u64::try_from(factor).ok()?;
-    let den = u64::try_from(den).ok()?;
-    factor.checked_mul(den)
+    let factor = u64::try_from(Frac::new(den, common as i128).den()).ok()?;
+    let own = u64::try_from(den).ok()?;
+    factor.checked_mul(own)
 }
 
 /// The same number, in lowest terms where its denominator is another one than the one at hand, if there is one.
@@ -146,9 +146,23 @@ impl ScaledStep {
         let left = Frac::new(total, self.shared);
         let more = left.den();
         let shared = exact_quotient(self.shared, more)?;
-        self.rest = product(self.rest, more)?;
+        let rest = product(self.rest, more)?;
         self.shared = shared;
-        Some(Ratio::new(left.num(), self.rest))
+        self.rest = rest;
+        Some(Ratio::new(left.num(), rest))
+    }
+
+    /// Takes these denominators, where they are other ones than those at hand. None where a number doesn't fit.
+    fn take_denominators(&mut self, values: u64, rates: u64) -> Option<()>
+        requires some_values { 0 < values }
+        requires some_rates { 0 < rates }
+        ensures same { self.new ≡ self.old }
+    {
+        if values == self.value_denominator && rates == self.rate_denominator {
+            return Some(());
+        }
+        *self = ScaledStep::over(self.step, values, rates)?;
+        Some(())
     }
 
     /// A value with the step times a rate. None where the step is a whole number, or a number on the way doesn't fit.
@@ -166,9 +180,7 @@ impl ScaledStep {
         let rate = fitting(self.rate_denominator, rate);
         let values = common_multiple(self.value_denominator, &value)?;
         let rates = common_multiple(self.rate_denominator, &rate)?;
-        if values != self.value_denominator || rates != self.rate_denominator {
-            *self = ScaledStep::over(self.step, values, rates)?;
-        }
+        self.take_denominators(values, rates)?;
         self.moved_over(&value, &rate)
     }
 }

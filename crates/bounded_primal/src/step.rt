@@ -1,6 +1,6 @@
 //! One step: a basis goes over to the next one, and its point with it.
 
-ghost use Rattle.std.specs.Prelude.{◌≡◌, ◌≢◌, ◌||◌, length, OnOk, OnErr, IfOk, IfErr, IfSome, IsSome, IsTrue};
+ghost use Rattle.std.specs.Prelude.{◌≡◌, ◌≢◌, ◌||◌, false, length, OnOk, OnErr, IfOk, IfErr, IfSome, IsSome, IsTrue};
 ghost use Rattle.exact_values.specs.Rational.{zero_ℚ, ◌+ℚ◌, ◌*ℚ◌};
 ghost use Rattle.lp_definitions.specs.LinearProgram.{size, value_at, IsVariable};
 ghost use Rattle.lp_definitions.specs.Basis.{basics_of, IsNonbasic, IsPointOf, IsDirectionOf};
@@ -78,6 +78,16 @@ fn is_needed(lp: &Lp, kept: Kept, k: u32) -> bool
     kept.needs_all() || has_limit(lp, k)
 }
 
+/// Whether a step leaves `k` out, where so much is `still` kept: a value that it doesn't need, when another one is given up.
+#[inline(always)]
+fn is_left_out(lp: &Lp, kept: Kept, still: Kept, k: u32) -> bool
+    requires { IsVariable lp.now.matrix k }
+    ensures given_up { IsTrue result → all_kept still ≡ false }
+    ensures needless { IsTrue result → (all_needed kept || is_limited lp.now k) ≡ false }
+{
+    !still.has_all() && !is_needed(lp, kept, k)
+}
+
 /// The value of `i` after the step.
 #[inline(always)]
 fn moved(
@@ -135,19 +145,21 @@ fn move_point(lp: &Lp, step: &Move<'_>, point: &mut [Ratio], kept: Kept) -> Resu
     let direction = step.direction.values();
     let moving = step.direction.nonzero();
     for k in moving {
-        if !still.has_all() && !is_needed(lp, kept, *k) {
+        if is_left_out(lp, kept, still, *k) {
             continue;
         }
         let place = *k as usize - 1;
-        match moved(&point[place], &direction[place], step, &mut scaled, *k) {
-            Ok(next) => point[place] = next,
+        let next = match moved(&point[place], &direction[place], step, &mut scaled, *k) {
+            Ok(next) => next,
             Err(evidence) => {
                 if is_needed(lp, kept, *k) {
                     return Err(evidence);
                 }
                 still = Kept::Limited;
+                continue;
             }
-        }
+        };
+        point[place] = next;
     }
     Ok(still)
 }

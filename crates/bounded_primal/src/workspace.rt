@@ -37,8 +37,8 @@ pub fn copy_ratios(from: &[Frac], to: &mut [Ratio])
     requires { length from.now ≡ length to.old }
     ensures { to.new ≡ from.now }
 {
-    for (place, value) in from.iter().enumerate() {
-        to[place] = Ratio::of(*value);
+    for place in 0..from.len() {
+        to[place] = Ratio::of(from[place]);
     }
 }
 
@@ -68,6 +68,7 @@ impl Workspace {
         requires sized { AreSized (size lp.now.matrix) self.old }
         ensures sized { AreSized (size lp.now.matrix) self.new }
         ensures point { OnOk result (IsPointOf lp.now basis.now (value_at self.new.point.items)) }
+        ensures prices { self.new.prices ≡ self.old.prices }
         ensures rates { StaysAt (R.state rates.old) (R.state rates.new) lp.now basis.now }
         ensures overflow { PointOverflow result lp.now basis.now (R.state rates.old)
             (R.state rates.new) }

@@ -10,30 +10,31 @@ use Rattle.bounded_primal.proofs.PathWalk.{begins_at, ends_there, follows, follo
 use Rattle.bounded_dual.proofs.WalkSteps.{stops_there, point_stops_there, walk_more, walk_stops, carried_prices, stops_at_once}
 use Rattle.bounded_dual.proofs.path.walk.Goals as goal
 
-pub returns-in_err-point_of-clause-stops : goal.returns-in_err-point_of-clause-stops
-returns-in_err-point_of-clause-stops g c =
+pub returns-in_err-fill_point-clause-stops : goal.returns-in_err-fill_point-clause-stops
+returns-in_err-fill_point-clause-stops g c =
     let p = err_from_is_err_and c.from_residual.result c.from_residual.ensures.1 in
     rw (p.1, p.2)
     (stops_at_once c.args.lp.now c.requires.no_change c.args.basis.now c.args.limit (g.R.Rates.state c.args.rates.now).waypoints
-    (g.R.Rates.state c.point_of.new.rates).waypoints c.in_err-point_of.field-0.0 c.in_err-point_of.ensures.overflow)
+    (g.R.Rates.state c.fill_point.new.rates).waypoints c.in_err-fill_point.field-0.0 c.in_err-fill_point.ensures.overflow)
 
 pub loop-outcome-init : goal.loop-outcome-init
 loop-outcome-init g c = record {
-  places = c.requires.sized.direction;
-  point_places = omega (arith, ap length c.as_mut_slice-point.ensures.value, c.requires.sized.point);
-  price_places = ap length c.as_mut_slice-prices.ensures.value ∙ c.requires.sized.prices;
-  row_places = ap length c.as_mut_slice-row.ensures.value ∙ c.requires.sized.row;
-  rates = c.in_ok-point_of.ensures.rates.0;
+  places = c.in_ok-fill_point.ensures.sized.direction;
+  point_places = ap length c.as_mut_slice-point.ensures.value ∙ c.in_ok-fill_point.ensures.sized.point;
+  price_places = ap length c.as_mut_slice-prices.ensures.value ∙ c.in_ok-fill_point.ensures.sized.prices;
+  row_places = ap length c.as_mut_slice-row.ensures.value ∙ c.in_ok-fill_point.ensures.sized.row;
+  rates = c.in_ok-fill_point.ensures.rates.0;
   point =
-      point_agrees c.args.lp.now c.args.basis.now c.in_ok-point_of.ensures.rates.0.is_basis c.in_ok-point_of.ensures.rates.0.nonsingular
-      (value_at c.point_of.new.out) c.in_ok-point_of.ensures.point;
-  kept = λ _. c.in_ok-point_of.ensures.point;
-  prices = rw c.as_mut_slice-prices.ensures.value c.requires.prices;
+      rw c.as_mut_slice-point.ensures.value
+      (point_agrees c.args.lp.now c.args.basis.now c.in_ok-fill_point.ensures.rates.0.is_basis c.in_ok-fill_point.ensures.rates.0.nonsingular
+      (value_at c.fill_point.new.self.point.items) c.in_ok-fill_point.ensures.point);
+  kept = λ _. rw c.as_mut_slice-point.ensures.value c.in_ok-fill_point.ensures.point;
+  prices = rw (c.as_mut_slice-prices.ensures.value, c.in_ok-fill_point.ensures.prices) c.requires.prices;
   broken = c.outside-broken.ensures;
   within = omega arith;
   reached =
       begins_at dual_turn c.args.lp.now c.args.basis.now (g.R.Rates.state c.args.rates.now).waypoints
-      (g.R.Rates.state c.point_of.new.rates).waypoints c.in_ok-point_of.ensures.rates.1;
+      (g.R.Rates.state c.fill_point.new.rates).waypoints c.in_ok-fill_point.ensures.rates.1;
 }
 
 pub returns-in_err-outcome-clause-stops : goal.returns-in_err-outcome-clause-stops
@@ -67,12 +68,12 @@ returns-in_err-kept-in-Moves-clause-stops g c =
     (g.R.Rates.state c.next_turn.new.rates).waypoints
     (g.R.Rates.state c.step_over.new.rates).waypoints c.in_err-kept-in-Moves.field-0.0 c.args.limit c.loop-outcome.invariant.within refl c.in_ok-outcome.ensures.rates.1 c.in_err-kept-in-Moves.ensures.overflow)
 
-pub returns-in_err-point_of-clause-waypoints : goal.returns-in_err-point_of-clause-waypoints
-returns-in_err-point_of-clause-waypoints g c =
+pub returns-in_err-fill_point-clause-waypoints : goal.returns-in_err-fill_point-clause-waypoints
+returns-in_err-fill_point-clause-waypoints g c =
     follows dual_turn c.args.lp.now c.args.basis.now (g.R.Rates.state c.args.rates.now).waypoints c.args.basis.now
-    (g.R.Rates.state c.point_of.new.rates).waypoints 0
+    (g.R.Rates.state c.fill_point.new.rates).waypoints 0
     (begins_at dual_turn c.args.lp.now c.args.basis.now (g.R.Rates.state c.args.rates.now).waypoints
-    (g.R.Rates.state c.point_of.new.rates).waypoints c.in_err-point_of.ensures.rates.1)
+    (g.R.Rates.state c.fill_point.new.rates).waypoints c.in_err-fill_point.ensures.rates.1)
 
 pub returns-in_err-outcome-clause-waypoints : goal.returns-in_err-outcome-clause-waypoints
 returns-in_err-outcome-clause-waypoints g c =

@@ -1,11 +1,11 @@
-use Rattle.std.proofs.Common.{◌≡◌, ◌+◌, ◌≤◌, ◌<◌, ℕ, Bool, List, length, get_or, drop, Err, rules, true, false, refl, sym, ◌∙◌, subst, ap, arith}
+use Rattle.std.proofs.Common.{◌≡◌, ◌+◌, ◌≤◌, ◌<◌, ℕ, Bool, List, length, get_or, drop, rules, true, false, refl, sym, ◌∙◌, subst, ap, arith}
 use Rattle.exact_values.specs.Rational.{ℚ, ◌+ℚ◌, ◌*ℚ◌}
 use Rattle.lp_definitions.specs.LinearProgram.{LinearProgram, Vector, value_at}
 use Rattle.lp_laws.proofs.Places.{value_read}
 use Rattle.bounded_primal.specs.KeptPoints.{has_limit, all_kept, all_needed}
 use Rattle.bounded_primal.specs.Steps.{MovedRefused}
 use Rattle.bounded_primal.proofs.Agreement.{needed_kept}
-use Rattle.bounded_primal.proofs.LookedAt.{IsDoneUpTo, IsDoneBefore, IsMovedUpTo, listed_cover, begun, one_more, next_at, end_at, moved_over, moved_by, moved_but, or_left, or_right, nothing_there}
+use Rattle.bounded_primal.proofs.LookedAt.{IsDoneUpTo, IsDoneBefore, IsMovedUpTo, listed_cover, begun, one_more, next_at, end_at, moved_over, moved_by, moved_but, or_left, or_right}
 use Rattle.bounded_primal.proofs.Still.{no_step}
 use Rattle.bounded_primal.proofs.step.move_point.Goals as goal
 
@@ -39,48 +39,38 @@ loop-k-init c = record {
   scaled = c.new-scaled.ensures;
 }
 
-pub is_needed-needed-requires : goal.is_needed-needed-requires
-is_needed-needed-requires c =
+pub is_left_out-requires : goal.is_left_out-requires
+is_left_out-requires c =
     let next =
     before c.args.lp.now c.args.step.now.by.now.step c.values-direction.result.now (value_at c.args.point.now) (value_at c.loop-k.point)
     (all_kept c.loop-k.still) c.nonzero-moving.result.now c.loop-k.k-index c.loop-k-test.true c.loop-k.invariant.done in
     (omega (arith, next.is_next), omega (arith, next.within, ap length c.values-direction.ensures, c.requires.direction_places))
 
-pub overflow_sub-value : goal.overflow_sub-value
-overflow_sub-value c =
+pub overflow_sub-place : goal.overflow_sub-place
+overflow_sub-place c =
     let next = before c.args.lp.now c.args.step.now.by.now.step c.values-direction.result.now (value_at c.args.point.now) (value_at c.loop-k.point)
     (all_kept c.loop-k.still) c.nonzero-moving.result.now c.loop-k.k-index c.loop-k-test.true c.loop-k.invariant.done in omega (arith, next.is_next)
 
-pub bounds-point-k : goal.bounds-point-k
-bounds-point-k c =
+pub bounds-point-place : goal.bounds-point-place
+bounds-point-place c =
     let next = before c.args.lp.now c.args.step.now.by.now.step c.values-direction.result.now (value_at c.args.point.now) (value_at c.loop-k.point)
     (all_kept c.loop-k.still) c.nonzero-moving.result.now c.loop-k.k-index c.loop-k-test.true c.loop-k.invariant.done in omega
     (arith, next.is_next, next.within, ap length c.values-direction.ensures, c.requires.direction_places, c.requires.point_places)
 
-pub overflow_sub-rate : goal.overflow_sub-rate
-overflow_sub-rate c =
-    let next = before c.args.lp.now c.args.step.now.by.now.step c.values-direction.result.now (value_at c.args.point.now) (value_at c.loop-k.point)
-    (all_kept c.loop-k.still) c.nonzero-moving.result.now c.loop-k.k-index c.loop-k-test.true c.loop-k.invariant.done in omega (arith, next.is_next)
-
-pub bounds-direction-k : goal.bounds-direction-k
-bounds-direction-k c =
+pub bounds-direction-place : goal.bounds-direction-place
+bounds-direction-place c =
     let next = before c.args.lp.now c.args.step.now.by.now.step c.values-direction.result.now (value_at c.args.point.now) (value_at c.loop-k.point)
     (all_kept c.loop-k.still) c.nonzero-moving.result.now c.loop-k.k-index c.loop-k-test.true c.loop-k.invariant.done in omega
     (arith, next.is_next, next.within)
 
-pub overflow_sub-next : goal.overflow_sub-next
-overflow_sub-next c =
-    let next = before c.args.lp.now c.args.step.now.by.now.step c.values-direction.result.now (value_at c.args.point.now) (value_at c.loop-k.point)
-    (all_kept c.loop-k.still) c.nonzero-moving.result.now c.loop-k.k-index c.loop-k-test.true c.loop-k.invariant.done in omega (arith, next.is_next)
-
-pub bounds-point-k-in-loop-k : goal.bounds-point-k-in-loop-k
-bounds-point-k-in-loop-k c =
+pub bounds-point-place-in-loop-k : goal.bounds-point-place-in-loop-k
+bounds-point-place-in-loop-k c =
     let next = before c.args.lp.now c.args.step.now.by.now.step c.values-direction.result.now (value_at c.args.point.now) (value_at c.loop-k.point)
     (all_kept c.loop-k.still) c.nonzero-moving.result.now c.loop-k.k-index c.loop-k-test.true c.loop-k.invariant.done in omega
     (arith, next.is_next, next.within, ap length c.values-direction.ensures, c.requires.direction_places, c.requires.point_places)
 
-pub loop-k-preserved-then-not-has_all : goal.loop-k-preserved-then-not-has_all
-loop-k-preserved-then-not-has_all c =
+pub loop-k-preserved-then-is_left_out : goal.loop-k-preserved-then-is_left_out
+loop-k-preserved-then-is_left_out c =
     let k = get_or c.nonzero-moving.result.now c.loop-k.k-index 0 in
     let next =
     before c.args.lp.now c.args.step.now.by.now.step c.values-direction.result.now (value_at c.args.point.now) (value_at c.loop-k.point)
@@ -89,53 +79,61 @@ loop-k-preserved-then-not-has_all c =
       done = one_more c.values-direction.result.now _ k _ next.within next.left
           (moved_but c.args.lp.now c.args.step.now.by.now.step (value_at c.values-direction.result.now) (value_at c.args.point.now) (value_at c.loop-k.point)
           (all_kept c.loop-k.still) (all_kept c.loop-k.still) next.before k next.is_next
-          (λ h. let e = sym c.if-not-needed.true ∙ c.is_needed-needed.ensures
-          ∙ or_right (all_needed c.args.kept) (has_limit c.args.lp.now k) h in absurd (let clash : false ≡ true = e in cc))
-          (λ all. let e = sym c.if-not-has_all.true ∙ c.has_all.ensures ∙ all in absurd (let clash : false ≡ true = e in cc)) next.done);
+          (λ h. let e = sym (c.if-is_left_out.ensures.needless refl) ∙ or_right (all_needed c.args.kept) (has_limit c.args.lp.now k) h in
+          absurd (let clash : false ≡ true = e in cc))
+          (λ all. let e = sym (c.if-is_left_out.ensures.given_up refl) ∙ all in absurd (let clash : false ≡ true = e in cc)) next.done);
       kept = c.loop-k.invariant.kept;
       needed = c.loop-k.invariant.needed;
       scaled = c.loop-k.invariant.scaled;
     }
 
-pub returns-in_err-next-clause-refused : goal.returns-in_err-next-clause-refused
-returns-in_err-next-clause-refused c =
-    let is_err : c.from_residual.result ≡ Err c.in_err-next.field-0.0 = search rules in
+pub is_needed-requires : goal.is_needed-requires
+is_needed-requires c =
+    let next =
+    before c.args.lp.now c.args.step.now.by.now.step c.values-direction.result.now (value_at c.args.point.now) (value_at c.loop-k.point)
+    (all_kept c.loop-k.still) c.nonzero-moving.result.now c.loop-k.k-index c.loop-k-test.true c.loop-k.invariant.done in
+    (omega (arith, next.is_next), omega (arith, next.within, ap length c.values-direction.ensures, c.requires.direction_places))
+
+pub returns-then-is_needed-clause-refused : goal.returns-then-is_needed-clause-refused
+returns-then-is_needed-clause-refused c =
     let k = get_or c.nonzero-moving.result.now c.loop-k.k-index 0 in
     let next =
     before c.args.lp.now c.args.step.now.by.now.step c.values-direction.result.now (value_at c.args.point.now) (value_at c.loop-k.point)
     (all_kept c.loop-k.still) c.nonzero-moving.result.now c.loop-k.k-index c.loop-k-test.true c.loop-k.invariant.done in
     let places : length c.values-direction.result.now ≡ length c.args.step.now.direction.now = ap length c.values-direction.ensures in
     let value_is =
-    value_read c.loop-k.point k c.index-point-k.result
-    (omega (arith, next.is_next, next.within, places, c.requires.direction_places, c.requires.point_places)) c.index-point-k.is
+    value_read c.loop-k.point k c.index-point-place.result
+    (omega (arith, next.is_next, next.within, places, c.requires.direction_places, c.requires.point_places)) c.index-point-place.is
     ∙ next.done.rest k (omega (arith, next.is_next)) in
-    let rate_is = value_read c.values-direction.result.now k c.index-direction-k.result (omega (arith, next.is_next, next.within)) c.index-direction-k.is in
-    rw (is_err, ← c.values-direction.ensures) (record {
+    let rate_is =
+    value_read c.values-direction.result.now k c.index-direction-place.result (omega (arith, next.is_next, next.within)) c.index-direction-place.is in
+    rw (← c.values-direction.ensures) (record {
       i = k;
       is = (omega (arith, next.is_next), omega (arith, next.within, places, c.requires.direction_places));
-      needed = sym c.is_needed-needed.ensures ∙ c.in_err-next.ensures.needed;
-      moves = λ e. c.in_err-next.ensures.moves (rate_is ∙ e);
+      needed = sym c.is_needed.ensures ∙ c.if-is_needed.true;
+      moves = λ e. c.in-Err.ensures.moves (rate_is ∙ e);
       refused =
           subst (λ (x : ℚ). MovedRefused c.args.step.now.by.now.step x
-          (value_at c.args.point.now k) c.args.step.now.by.now.p c.args.step.now.q k c.in_err-next.field-0.0) rate_is
-          (subst (λ (x : ℚ). MovedRefused c.args.step.now.by.now.step c.index-direction-k.result x c.args.step.now.by.now.p c.args.step.now.q k c.in_err-next.field-0.0) value_is c.in_err-next.ensures.refused);
+          (value_at c.args.point.now k) c.args.step.now.by.now.p c.args.step.now.q k c.in-Err.evidence) rate_is
+          (subst (λ (x : ℚ). MovedRefused c.args.step.now.by.now.step c.index-direction-place.result x
+          c.args.step.now.by.now.p c.args.step.now.q k c.in-Err.evidence) (sym c.index-point-place.is ∙ value_is) c.in-Err.ensures.refused);
     })
 
-pub loop-k-preserved-in_default : goal.loop-k-preserved-in_default
-loop-k-preserved-in_default c =
+pub loop-k-preserved-in-Err : goal.loop-k-preserved-in-Err
+loop-k-preserved-in-Err c =
     let k = get_or c.nonzero-moving.result.now c.loop-k.k-index 0 in
     let next =
     before c.args.lp.now c.args.step.now.by.now.step c.values-direction.result.now (value_at c.args.point.now) (value_at c.loop-k.point)
     (all_kept c.loop-k.still) c.nonzero-moving.result.now c.loop-k.k-index c.loop-k-test.true c.loop-k.invariant.done in
-    let never : c.is_needed-needed.result ≡ true → ⊥ = λ h. nothing_there c.in_ok-next.field-0 c.in_default.is (c.in_ok-next.ensures.found h) in
+    let never : c.is_needed.result ≡ true → ⊥ = λ h. let e = sym c.if-is_needed.false ∙ h in absurd (let clash : false ≡ true = e in cc) in
     record {
       done = one_more c.values-direction.result.now _ k _ next.within next.left
           (moved_but c.args.lp.now c.args.step.now.by.now.step (value_at c.values-direction.result.now) (value_at c.args.point.now) (value_at c.loop-k.point)
           (all_kept c.loop-k.still) false next.before k next.is_next
-          (λ h. never (c.is_needed-needed.ensures ∙ or_right (all_needed c.args.kept) (has_limit c.args.lp.now k) h))
+          (λ h. never (c.is_needed.ensures ∙ or_right (all_needed c.args.kept) (has_limit c.args.lp.now k) h))
           (λ all. absurd (let clash : false ≡ true = all in cc)) next.done);
       kept = λ all. absurd (let clash : false ≡ true = all in cc);
-      needed = λ h. absurd (never (c.is_needed-needed.ensures ∙ or_left (all_needed c.args.kept) (has_limit c.args.lp.now k) h));
+      needed = λ h. absurd (never (c.is_needed.ensures ∙ or_left (all_needed c.args.kept) (has_limit c.args.lp.now k) h));
       scaled = search rules;
     }
 
@@ -147,13 +145,15 @@ loop-k-preserved c =
     (all_kept c.loop-k.still) c.nonzero-moving.result.now c.loop-k.k-index c.loop-k-test.true c.loop-k.invariant.done in
     let places : length c.values-direction.result.now ≡ length c.args.step.now.direction.now = ap length c.values-direction.ensures in
     let fits : k ≤ length c.loop-k.point = omega (arith, next.within, places, c.requires.direction_places, c.requires.point_places) in
-    let value_is = value_read c.loop-k.point k c.index-point-k.result (omega (arith, next.is_next, fits)) c.index-point-k.is in
-    let rate_is = value_read c.values-direction.result.now k c.index-direction-k.result (omega (arith, next.is_next, next.within)) c.index-direction-k.is in
-    let value : c.in-Some.next ≡ c.index-point-k.result +ℚ c.args.step.now.by.now.step *ℚ c.index-direction-k.result = search rules in
+    let value_is = value_read c.loop-k.point k c.index-point-place.result (omega (arith, next.is_next, fits)) c.index-point-place.is in
+    let rate_is =
+    value_read c.values-direction.result.now k c.index-direction-place.result (omega (arith, next.is_next, next.within)) c.index-direction-place.is in
+    let value : c.in-Ok.next ≡ c.index-point-place.result +ℚ c.args.step.now.by.now.step *ℚ c.index-direction-place.result = search rules in
     record {
       done = one_more c.values-direction.result.now _ k _ next.within next.left
           (moved_by c.args.lp.now c.args.step.now.by.now.step (value_at c.values-direction.result.now) (value_at c.args.point.now) c.loop-k.point
-          (all_kept c.loop-k.still) next.before k c.in-Some.next c.index-point-k.result c.index-direction-k.result next.is_next fits value_is rate_is value next.done);
+          (all_kept c.loop-k.still) next.before k c.in-Ok.next c.index-point-place.result c.index-direction-place.result
+          next.is_next fits value_is rate_is value next.done);
       kept = c.loop-k.invariant.kept;
       needed = c.loop-k.invariant.needed;
       scaled = search rules;

@@ -1,4 +1,4 @@
-use Rattle.std.proofs.Common.{arith}
+use Rattle.std.proofs.Common.{◌∙◌, arith}
 use Rattle.lp_definitions.specs.LinearProgram.{value_at, size}
 use Rattle.simplex_definitions.specs.Moves.{step_length}
 use Rattle.basis_values.specs.Motions.{motion}
@@ -18,7 +18,9 @@ returns-in-Some-clause-blocking_variable c =
     found_within (step_length c.args.lp.now (value_at c.args.point.now) (motion (value_at c.args.direction.now) c.args.up))
     (size c.args.lp.now.matrix) c.in_ok-found.found c.in-Some.nearest c.in_ok-found.ensures.nearest c.in-Some.is in
     stop_found c.args.lp.now (value_at c.args.point.now)
-    (value_at c.args.direction.now) c.args.up c.in_ok-found.found c.in-Some.nearest c.index-rates-nearest.result c.counted-speed.result c.counted.result c.limit_reached.result
+    (value_at c.args.direction.now) c.args.up c.in_ok-found.found c.in-Some.nearest c.reduced.result c.counted-speed.result c.counted.result
+    c.limit_reached.result
     c.in_ok-found.ensures.nearest c.in-Some.is
-    (value_read c.args.direction.now c.in-Some.nearest.p c.index-rates-nearest.result (omega (arith, within.0, within.1))
+    (c.reduced.ensures
+    ∙ value_read c.args.direction.now c.in-Some.nearest.p c.index-rates-nearest.result (omega (arith, within.0, within.1))
     (rw c.values-rates.ensures at c.index-rates-nearest.is)) c.counted-speed.ensures c.counted.ensures c.limit_reached.ensures
