@@ -40,7 +40,7 @@ const MOST_ETAS: usize = 4_294_967_294;
 /// A denominator of this size or more is reduced, where numbers that fit one machine word mostly stay words.
 const VERY_LARGE: u128 = 1 << 58;
 
-/// An eta of fewer entries keeps them in lowest terms, since its fractions may be asked for often.
+/// An eta whose direction has fewer numbers that aren't 0 is kept in lowest terms, since its fractions may be asked for often.
 const FEW: usize = 40;
 
 /// The least denominator that may have a common divisor with numbers.
@@ -117,7 +117,7 @@ fn entries_at(
     entries_of(alloc, direction, basics.listed())
 }
 
-/// A rate as an eta keeps it: in lowest terms where the eta has few entries.
+/// A rate as an eta keeps it: in lowest terms where the direction has few numbers.
 #[inline(always)]
 fn kept_rate(rate: &Ratio, few: bool) -> Ratio
     ensures { result ≡ rate.now }
