@@ -117,6 +117,25 @@ fn entries_at(
     entries_of(alloc, direction, basics.listed())
 }
 
+/// Places in ascending order, as variables.
+fn ascending(alloc: Global, places: &[usize], j: u32) -> Result<Vec<u32>, NoMemory> {
+    let mut made: Vec<u32> = Vec::with_capacity(alloc, places.len())?;
+    for place in places {
+        let k = *place as u32 + 1;
+        if k == j {
+            continue;
+        }
+        made.push(k).map_err(|_| NoMemory)?;
+        let mut at = made.len() - 1;
+        while at > 0 && made[at - 1] > k {
+            made[at] = made[at - 1];
+            at -= 1;
+        }
+        made[at] = k;
+    }
+    Ok(made)
+}
+
 /// A rate as an eta keeps it: in lowest terms where the direction has few numbers.
 #[inline(always)]
 fn kept_rate(rate: &Ratio, few: bool) -> Ratio
@@ -528,6 +547,12 @@ impl EtaFile {
         let number = least.num();
         if least.den() != 1 || number < 1 {
             return Ok(None);
+        }
+        if wholes.listed().len() < 48 {
+            let few = ascending(self.alloc, wholes.listed(), j)?;
+            let (before, after) = few.split_at(place_of(&few, j));
+            out.put_over(wholes.numbers(), number, before, j, after)?;
+            return Ok(Some(()));
         }
         let listed = self.basics.listed();
         let (before, after) = listed.split_at(place_of(listed, j));

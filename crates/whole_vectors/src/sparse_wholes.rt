@@ -157,6 +157,12 @@ impl SparseWholes {
         &self.numbers
     }
 
+    /// The places that are listed.
+    #[inline(always)]
+    pub fn listed(&self) -> &[usize] {
+        &self.listed
+    }
+
     /// Makes `n` the number of the variable `k`, from 1.
     #[inline(always)]
     pub fn put(&mut self, k: u32, n: i128) -> Option<()>
