@@ -41,7 +41,10 @@ const MOST_ETAS: usize = 4_294_967_294;
 const VERY_LARGE: u128 = 1 << 58;
 
 /// An eta whose direction has fewer numbers that aren't 0 is kept in lowest terms, since its fractions may be asked for often.
-const FEW: usize = 40;
+const FEW_NUMBERS: usize = 40;
+
+/// A direction carried with fewer places is put by these, and another one by the basics.
+const FEW_PLACES: usize = 48;
 
 /// The least denominator that may have a common divisor with numbers.
 const LEAST: u128 = 2;
@@ -143,7 +146,7 @@ fn entries_but(
     let mut entries = Vec::with_capacity(alloc, listed.len())?;
     for k in listed {
         if *k != q {
-            let rate = kept_rate(&direction[*k as usize - 1], listed.len() < FEW);
+            let rate = kept_rate(&direction[*k as usize - 1], listed.len() < FEW_NUMBERS);
             entries
                 .push(EtaEntry { i: *k, rate })
                 .map_err(|_| NoMemory)?;
@@ -528,6 +531,10 @@ impl EtaFile {
         let number = least.num();
         if least.den() != 1 || number < 1 {
             return Ok(None);
+        }
+        if wholes.listed().len() < FEW_PLACES {
+            out.put_few(wholes.numbers(), number, wholes.listed())?;
+            return Ok(Some(()));
         }
         let listed = self.basics.listed();
         let (before, after) = listed.split_at(place_of(listed, j));

@@ -176,7 +176,7 @@ fn subtract_whole(
     let opposite = whole_number(multiple.neg())?;
     for entry in entries {
         if entry.i != p {
-            out.add_product(entry.i, opposite, entry.rate.whole()?)?;
+            out.add_product(entry.i, opposite, entry.rate.as_whole()?)?;
         }
     }
     Some(())
@@ -245,7 +245,7 @@ fn place_entries(entries: &[EtaEntry], p: u32, out: &mut SparseWholes) -> Option
 {
     for entry in entries {
         if entry.i != p {
-            let number = whole_number(entry.rate.whole()?)?;
+            let number = whole_number(entry.rate.as_whole()?)?;
             out.put(entry.i, number)?;
         }
     }

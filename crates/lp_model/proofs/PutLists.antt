@@ -1,5 +1,5 @@
 -- Numbers that are put at the places of a list, and the list of those that aren't 0.
-use Rattle.std.proofs.Common.{◌≡◌, ◌≢◌, ◌∙◌, sym, ap, subst, ℕ, zero, suc, ◌+◌, ◌-◌, ◌<◌, ◌≤◌, Bool, true, false, not, List, [], ◌∷◌, ◌++◌, length, take, filter, map, get_or, slice_index_or, slice_set, ◌⊎◌, inl, inr, refl, cond, arith, All, ℤ, pos, to_z, of_z}
+use Rattle.std.proofs.Common.{◌≡◌, ◌≢◌, ◌∙◌, sym, ap, subst, ℕ, zero, suc, ◌+◌, ◌-◌, ◌<◌, ◌≤◌, Bool, true, false, not, List, [], ◌∷◌, ◌++◌, length, take, filter, get_or, slice_index_or, slice_set, ◌⊎◌, inl, inr, refl, cond, arith, All, ℤ, pos, to_z, of_z}
 use Rattle.std.specs.Int.{w128}
 use Rattle.std.specs.Prelude.{◌≤ℤ◌, unsigned_abs}
 use Rattle.std.proofs.lemmas.Bool.{cases_lt, cases_eq}
@@ -13,7 +13,7 @@ use Rattle.exact_values.specs.Rational.{ℚ, zero_ℚ, fraction}
 use Rattle.exact_values.specs.Tests.{eq_ℚ}
 use Rattle.exact_values.proofs.TestsLaws.{test_from_same, eq_fails_from_apart}
 use Rattle.lp_definitions.specs.LinearProgram.{value_at}
-use Rattle.lp_model.specs.Sparse.{AreNonzeroFrom, no_more, next_nonzero, CoverNonzeroFrom, no_more_listed, next_listed, IsPartly, over}
+use Rattle.lp_model.specs.Sparse.{AreNonzeroFrom, no_more, next_nonzero, CoverNonzeroFrom, no_more_listed, next_listed, CoverPlaces, IsPartly, over}
 use Rattle.frac128.specs.Terms.{Fits}
 use Rattle.frac128.proofs.Parts.{read, read_fitting}
 use Rattle.lp_model.proofs.RatioTerms.{positive_terms, zero_numerator, numerator_zero}
@@ -239,3 +239,168 @@ all_three xs first second third before after k all one rest stays remains =
 -- a vector whose places were all written
 pub front_taken : (xs rest : List ℚ) (n : ℕ) → n ≡ length xs → take n (xs ++ rest) ≡ xs
 front_taken xs rest n e = ap (λ m. take m (xs ++ rest)) e ∙ take-append_seam xs rest
+
+-- ---- numbers that are put at places in any order
+
+-- the numbers at the first i places of ps are right, the others are right or 0, and the variables whose numbers aren't 0 are listed
+pub record IsPutSoFar (d : ℤ) (ns : List ℤ) (ps : List ℕ) (i : ℕ) (now : List ℚ) (listed : List ℕ) : Type 0 where
+  pub lengths : length now ≡ length ns
+  pub partly : IsPartly (over d ns) now
+  pub done : (n : ℕ) → n < i → value_at now (slice_index_or ps n 0 + 1) ≡ value_at (over d ns) (slice_index_or ps n 0 + 1)
+  pub nonzero : AreNonzeroFrom now 1 listed
+
+pub no_place_put : (d : ℤ) (ns : List ℤ) (ps : List ℕ) (old : List ℚ) (listed : List ℕ) → length old ≡ length ns →
+    ((n : ℕ) → 1 ≤ n → value_at old n ≡ zero_ℚ) → listed ≡ [] → IsPutSoFar d ns ps 0 old listed
+no_place_put d ns ps old listed lengths zeros none = record {
+  lengths = lengths;
+  partly = zeros_partly (over d ns) old zeros;
+  done = λ n below. absurd (omega (arith, below));
+  nonzero = subst (AreNonzeroFrom old 1) (sym none) (no_more (λ i above. zeros i above));
+}
+
+one_place_more : (P : ℕ → Type 0) (i : ℕ) → ((n : ℕ) → n < i → P n) → P i → (n : ℕ) → n < i + 1 → P n
+one_place_more P i before at n below = by_case (eq-or-lt_of_le (omega (arith, below)))
+  where
+    by_case : (n ≡ i) ⊎ (n < i) → P n
+    by_case (inl same) = subst P (sym same) at
+    by_case (inr under) = before n under
+
+module _ (d : ℤ) (ns : List ℤ) (some : pos 1 ≤ℤ d) (ps : List ℕ) (i : ℕ) (now : List ℚ) (listed : List ℕ) (h : IsPutSoFar d ns ps i now listed)
+    (within : slice_index_or ps i 0 < length ns) (fit : All Fits ns) where
+  abbrev item : ℕ
+  item = slice_index_or ps i 0 + 1
+
+  abbrev item_number : ℤ
+  item_number = slice_index_or ns (slice_index_or ps i 0) (pos 0)
+
+  place_is : item - 1 ≡ slice_index_or ps i 0
+  place_is = omega arith
+
+  item_read : read item_number ≡ item_number
+  item_read = read_fitting item_number (fit (slice_index_or ps i 0) (pos 0) within)
+
+  at_item : fraction item_number (unsigned_abs d) ≡ value_at (over d ns) item
+  at_item =
+      ap (λ j. fraction (slice_index_or ns j (pos 0)) (unsigned_abs d)) (sym place_is) ∙ over_at d ns some item (omega arith) (omega (arith, within))
+
+  zero_there : of_z w128 item_number ≡ 0 → value_at (over d ns) item ≡ zero_ℚ
+  zero_there none =
+      over_zero d ns some item (omega arith) (omega (arith, within))
+      (ap (λ j. slice_index_or ns j (pos 0)) place_is ∙ sym item_read ∙ ap (to_z w128) none)
+
+  -- the place's number is 0
+  pub place_zero : of_z w128 item_number ≡ 0 → IsPutSoFar d ns ps (i + 1) now listed
+  place_zero none = record {
+    lengths = h.lengths;
+    partly = h.partly;
+    done = one_place_more (λ n. value_at now (slice_index_or ps n 0 + 1) ≡ value_at (over d ns) (slice_index_or ps n 0 + 1)) i h.done (by_case (h.partly item));
+    nonzero = h.nonzero;
+  } where
+    by_case : (value_at now item ≡ value_at (over d ns) item) ⊎ (value_at now item ≡ zero_ℚ) → value_at now item ≡ value_at (over d ns) item
+    by_case (inl same) = same
+    by_case (inr nothing) = nothing ∙ sym (zero_there none)
+
+  -- the place was there before
+  pub place_again : (value_at now item ≡ zero_ℚ → ⊥) → IsPutSoFar d ns ps (i + 1) now listed
+  place_again apart = record {
+    lengths = h.lengths;
+    partly = h.partly;
+    done = one_place_more (λ n. value_at now (slice_index_or ps n 0 + 1) ≡ value_at (over d ns) (slice_index_or ps n 0 + 1)) i h.done (by_case (h.partly item));
+    nonzero = h.nonzero;
+  } where
+    by_case : (value_at now item ≡ value_at (over d ns) item) ⊎ (value_at now item ≡ zero_ℚ) → value_at now item ≡ value_at (over d ns) item
+    by_case (inl same) = same
+    by_case (inr nothing) = absurd (apart nothing)
+
+  -- the number that is put there isn't 0
+  pub put_apart : (v : ℚ) → v ≡ fraction (read item_number) (unsigned_abs d) → (of_z w128 item_number ≡ 0 → ⊥) → v ≢ zero_ℚ
+  put_apart v is apart e =
+      apart (ap (of_z w128) (numerator_zero item_number (unsigned_abs d) (positive_terms d some)
+      (sym (is ∙ ap (λ n. fraction n (unsigned_abs d)) item_read) ∙ e)))
+
+  -- it is put there
+  pub place_put : (v : ℚ) → v ≡ fraction (read item_number) (unsigned_abs d) → (longer : List ℕ) →
+      AreNonzeroFrom (slice_set now (item - 1) v) 1 longer → IsPutSoFar d ns ps (i + 1) (slice_set now (item - 1) v) longer
+  place_put v is longer nonzero = record {
+    lengths = length-set now (item - 1) v ∙ h.lengths;
+    partly = λ k. partly k (after_is k);
+    done = one_place_more (λ n. value_at after (slice_index_or ps n 0 + 1) ≡ value_at (over d ns) (slice_index_or ps n 0 + 1)) i
+        (λ n below. right (slice_index_or ps n 0 + 1) (h.done n below) (after_is (slice_index_or ps n 0 + 1))) at;
+    nonzero = nonzero;
+  } where
+    after : List ℚ
+    after = slice_set now (item - 1) v
+
+    at : value_at after item ≡ value_at (over d ns) item
+    at = get_or-set_same now (item - 1) v zero_ℚ (omega (arith, within, h.lengths)) ∙ is ∙ ap (λ n. fraction n (unsigned_abs d)) item_read ∙ at_item
+
+    by_place : (k : ℕ) → (k - 1 ≡ item - 1) ⊎ (k - 1 ≢ item - 1) → (value_at after k ≡ value_at (over d ns) k) ⊎ (value_at after k ≡ value_at now k)
+    by_place k (inl same) = inl (ap (λ j. get_or after j zero_ℚ) same ∙ at ∙ ap (λ j. get_or (over d ns) j zero_ℚ) (sym same))
+    by_place k (inr other) = inr (get_or-set_other now (item - 1) (k - 1) v zero_ℚ other)
+
+    after_is : (k : ℕ) → (value_at after k ≡ value_at (over d ns) k) ⊎ (value_at after k ≡ value_at now k)
+    after_is k = by_place k (cases_eq (k - 1) (item - 1))
+
+    as_before : (k : ℕ) → value_at after k ≡ value_at now k → (value_at now k ≡ value_at (over d ns) k) ⊎ (value_at now k ≡ zero_ℚ) →
+        (value_at after k ≡ value_at (over d ns) k) ⊎ (value_at after k ≡ zero_ℚ)
+    as_before k e (inl same) = inl (e ∙ same)
+    as_before k e (inr nothing) = inr (e ∙ nothing)
+
+    partly : (k : ℕ) → (value_at after k ≡ value_at (over d ns) k) ⊎ (value_at after k ≡ value_at now k) →
+        (value_at after k ≡ value_at (over d ns) k) ⊎ (value_at after k ≡ zero_ℚ)
+    partly k (inl same) = inl same
+    partly k (inr e) = as_before k e (h.partly k)
+
+    right : (k : ℕ) → value_at now k ≡ value_at (over d ns) k → (value_at after k ≡ value_at (over d ns) k) ⊎ (value_at after k ≡ value_at now k) →
+        value_at after k ≡ value_at (over d ns) k
+    right k same (inl now_right) = now_right
+    right k same (inr e) = e ∙ same
+
+-- a number in a list
+record IsListedAt (ps : List ℕ) (n : ℕ) : Type 0 where
+  place : ℕ
+  below : place < length ps
+  here : get_or ps place 0 ≡ n
+
+listed_or_not : (ps : List ℕ) (n : ℕ) → IsListedAt ps n ⊎ ((i : ℕ) → i < length ps → slice_index_or ps i 0 ≢ n)
+listed_or_not [] n = inr (λ i below. absurd (omega (arith, below)))
+listed_or_not (p ∷ ps) n = by_case (cases_eq p n) (listed_or_not ps n)
+  where
+    neither : p ≢ n → ((i : ℕ) → i < length ps → get_or ps i 0 ≢ n) → (i : ℕ) → i < length (p ∷ ps) → get_or (p ∷ ps) i 0 ≢ n
+    neither first rest zero below = first
+    neither first rest (suc i) below = rest i (omega (arith, below))
+
+    later : p ≢ n → IsListedAt ps n ⊎ ((i : ℕ) → i < length ps → slice_index_or ps i 0 ≢ n) →
+        IsListedAt (p ∷ ps) n ⊎ ((i : ℕ) → i < length (p ∷ ps) → slice_index_or (p ∷ ps) i 0 ≢ n)
+    later first (inl it) = inl (record { place = suc it.place; below = (omega (arith, it.below)); here = it.here; })
+    later first (inr rest) = inr (neither first rest)
+
+    by_case : (p ≡ n) ⊎ (p ≢ n) → IsListedAt ps n ⊎ ((i : ℕ) → i < length ps → slice_index_or ps i 0 ≢ n) →
+        IsListedAt (p ∷ ps) n ⊎ ((i : ℕ) → i < length (p ∷ ps) → slice_index_or (p ∷ ps) i 0 ≢ n)
+    by_case (inl same) rest = inl (record { place = 0; below = (omega arith); here = same; })
+    by_case (inr first) rest = later first rest
+
+-- all places are gone through
+pub all_places_put : (d : ℤ) (ns : List ℤ) → pos 1 ≤ℤ d → (ps : List ℕ) (i : ℕ) (now : List ℚ) (listed : List ℕ) → CoverPlaces ns ps →
+    length ps ≤ i → IsPutSoFar d ns ps i now listed → now ≡ over d ns
+all_places_put d ns some ps i now listed cover past h =
+    ext_get_or zero_ℚ now (over d ns) (h.lengths ∙ sym (length-map ns (λ n. fraction n (unsigned_abs d))))
+    (λ n below. at n (omega (arith, below, h.lengths)) (listed_or_not ps n))
+  where
+    place_of : (n : ℕ) → n + 1 - 1 ≡ n
+    place_of n = omega arith
+
+    as_place : (n : ℕ) → value_at now (n + 1) ≡ value_at (over d ns) (n + 1) → get_or now n zero_ℚ ≡ get_or (over d ns) n zero_ℚ
+    as_place n e = ap (λ j. get_or now j zero_ℚ) (sym (place_of n)) ∙ e ∙ ap (λ j. get_or (over d ns) j zero_ℚ) (place_of n)
+
+    zero_or_same : (n : ℕ) → value_at (over d ns) (n + 1) ≡ zero_ℚ →
+        (value_at now (n + 1) ≡ value_at (over d ns) (n + 1)) ⊎ (value_at now (n + 1) ≡ zero_ℚ) → value_at now (n + 1) ≡ value_at (over d ns) (n + 1)
+    zero_or_same n none (inl same) = same
+    zero_or_same n none (inr nothing) = nothing ∙ sym none
+
+    at : (n : ℕ) → n < length ns → IsListedAt ps n ⊎ ((i : ℕ) → i < length ps → slice_index_or ps i 0 ≢ n) → get_or now n zero_ℚ ≡ get_or (over d ns) n zero_ℚ
+    at n below (inl it) =
+        as_place n (subst (λ p. value_at now (p + 1) ≡ value_at (over d ns) (p + 1)) it.here (h.done it.place (omega (arith, past, it.below))))
+    at n below (inr missing) =
+        as_place n (zero_or_same n (over_zero d ns some (n + 1) (omega arith) (omega (arith, below))
+        (ap (λ j. slice_index_or ns j (pos 0)) (place_of n) ∙ cover.none_missing n missing)) (h.partly (n + 1)))

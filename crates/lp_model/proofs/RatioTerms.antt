@@ -1,12 +1,12 @@
 -- Fractions by two terms that may have a common divisor.
-use Rattle.std.proofs.Common.{◌≡◌, ◌≢◌, ◌∙◌, sym, ap, ap₂, subst, ℕ, ◌^◌, ◌<◌, ◌+◌, ◌*◌, Bool, true, false, refl, IsTrue, arith, ℤ, pos, negsuc, ◌⊎◌, inl, inr, FitsSigned, to_z, of_z}
+use Rattle.std.proofs.Common.{◌≡◌, ◌∙◌, sym, ap, ap₂, subst, ℕ, ◌^◌, ◌<◌, ◌+◌, ◌*◌, Bool, true, false, refl, IsTrue, arith, ℤ, pos, negsuc, FitsSigned, of_z}
 use Rattle.std.specs.Prelude.{◌↔◌, ◌≤ℤ◌, ◌<ℤ◌, ◌-ℤ◌, ◌*ℤ◌, neg_ℤ, int_lt, nat_eq, unsigned_abs}
 use Rattle.std.specs.Int.{w128}
-use Rattle.std.proofs.lemmas.Int.{ints, to_z-of_z}
+use Rattle.std.proofs.lemmas.Int.{ints}
 use borrow.Author.Differences.{up, down, product_is}
-use Rattle.exact_values.specs.Rational.{ℚ, zero_ℚ, neg_ℚ, fraction, whole, sign_ℚ, ◌<ℚ◌, ◌≤ℚ◌}
+use Rattle.exact_values.specs.Rational.{ℚ, zero_ℚ, neg_ℚ, fraction, whole, sign_ℚ, ◌<ℚ◌}
 use Rattle.exact_values.specs.Tests.{lt_ℚ}
-use Rattle.exact_values.proofs.Fractions.{IsRatio, fraction_ratio, is_ratio, same_fractions, cross_of_same_fractions, neg_fraction, parts_make}
+use Rattle.exact_values.proofs.Fractions.{fraction_ratio, same_fractions, cross_of_same_fractions, neg_fraction, parts_make}
 use Rattle.exact_values.proofs.RingLaws.{fraction-one, whole_ratio}
 use Rattle.exact_values.proofs.Order.{lt_from_ratios, le_from_ratios}
 use Rattle.exact_values.proofs.TestsLaws.{test_from_lt, lt_fails_from_le, sign_from_below, sign_from_above, sign_from_zero}

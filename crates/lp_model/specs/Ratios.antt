@@ -13,10 +13,12 @@ pub record AreTerms (n : ℤ) (d : ℤ) : Type 0 where
   pub num_fits : Fits n
   pub den_fits : Fits d
 
+-- the number that is kept so
 abbrev pub number_of : Form → ℚ
 number_of (Lowest x) = x
 number_of (Terms num den) = fraction num (unsigned_abs den)
 
+-- a fraction in lowest terms is one; terms are those of a fraction
 abbrev pub IsForm : Form → Type 0
 IsForm (Lowest x) = Unit {0}
 IsForm (Terms num den) = AreTerms num den

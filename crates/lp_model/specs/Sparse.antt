@@ -4,9 +4,10 @@
 --     AreNonzero xs ks             ks are all the variables whose numbers aren't 0
 --     CoverNonzeroFrom xs n ks     ks ascend from n on, and no number from n on that isn't 0 is missing among them
 --     CoverNonzero xs ks           the same of all variables
+--     CoverPlaces ns ps            no place of ns whose number isn't 0 is missing among ps
 --     over d ns                    whole numbers over a denominator
 --     IsPartly xs ys               each number of ys is that of xs, or 0
-use Rattle.std.specs.Prelude.{◌≡◌, ◌≢◌, ℕ, ℤ, suc, ◌≤◌, ◌<◌, List, [], ◌∷◌, length, map, unsigned_abs, ◌⊎◌}
+use Rattle.std.specs.Prelude.{◌≡◌, ◌≢◌, ℕ, ℤ, pos, suc, ◌≤◌, ◌<◌, List, [], ◌∷◌, length, map, slice_index_or, All, unsigned_abs, ◌⊎◌}
 use Rattle.exact_values.specs.Rational.{ℚ, zero_ℚ, fraction}
 use Rattle.lp_definitions.specs.LinearProgram.{value_at}
 use Rattle.lp_model.specs.declared.sparse.SparseVector.TheInside.{Inside}
@@ -38,6 +39,11 @@ pub data CoverNonzeroFrom (xs : List ℚ) : ℕ → List ℕ → Type 0 where
 
 abbrev pub CoverNonzero : List ℚ → List ℕ → Type 0
 CoverNonzero xs ks = CoverNonzeroFrom xs 1 ks
+
+-- places are numbered from 0; they may stand in any order
+pub record CoverPlaces (ns : List ℤ) (ps : List ℕ) : Type 0 where
+  pub within : All (λ n. n < length ns) ps
+  pub none_missing : (n : ℕ) → ((i : ℕ) → i < length ps → slice_index_or ps i 0 ≢ n) → slice_index_or ns n (pos 0) ≡ pos 0
 
 -- the list that is kept is that of the numbers
 abbrev pub IsSparse : Inside → Type 0

@@ -95,9 +95,9 @@ impl Ratio {
         }
     }
 
-    /// The whole number, where the denominator is 1.
+    /// The number, where its terms show at once that it is a whole one, over the denominator 1.
     #[inline(always)]
-    pub fn whole(&self) -> Option<Frac>
+    pub fn as_whole(&self) -> Option<Frac>
         ensures { IfSome result (λ x. x ≡ self.now) }
     {
         let (num, den) = self.terms();

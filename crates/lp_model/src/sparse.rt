@@ -1,11 +1,11 @@
 //! Vectors most of whose numbers are 0.
 
-ghost use Rattle.std.specs.Prelude.{◌≡◌, ◌≢◌, ◌≤◌, ◌≤ℤ◌, pos, ◌++◌, ◌∷◌, ◌^◌, ◌<◌, [], ℕ, All, filter, length, replicate, IfOk, OnOk, OnErr, not};
+ghost use Rattle.std.specs.Prelude.{◌≡◌, ◌≢◌, ◌≤◌, ◌≤ℤ◌, pos, ◌++◌, ◌∷◌, ◌-◌, ◌^◌, ◌<◌, [], ℕ, All, filter, length, replicate, set, IfOk, OnOk, OnErr, not};
 ghost use Rattle.exact_values.specs.Rational.{zero_ℚ};
 ghost use Rattle.exact_values.specs.Tests.{eq_ℚ};
 ghost use Rattle.frac128.specs.Terms.{Fits};
 ghost use Rattle.lp_definitions.specs.LinearProgram.{value_at, numbers_from};
-ghost use Rattle.lp_model.specs.Sparse.{AreNonzero, CoverNonzero, over, IsPartly};
+ghost use Rattle.lp_model.specs.Sparse.{AreNonzero, CoverNonzero, CoverPlaces, over, IsPartly};
 
 use crate::NoMemory;
 use crate::ratio::{Ratio, ratios_of, zero_ratios};
@@ -105,6 +105,55 @@ fn put_around(
     put_listed(numbers, denominator, after, values, kept)
 }
 
+/// Makes a number that is 0 another one, and puts its variable in at its place in the list.
+fn put_one(
+    values: &mut [Ratio],
+    listed: &mut Vec<u32>,
+    k: u32,
+    number: Ratio,
+) -> Result<(), NoMemory>
+    requires low { 1 ≤ k }
+    requires high { k ≤ length values.old }
+    requires zero { value_at values.old k ≡ zero_ℚ }
+    requires some { number ≢ zero_ℚ }
+    requires listed { AreNonzero values.old listed.old.items }
+    ensures number { OnOk result (values.new ≡ set values.old (k - 1) number) }
+    ensures listed { OnOk result (AreNonzero values.new listed.new.items) }
+{
+    let place = listed.partition_point(|i| *i < k);
+    listed.insert(place, k).map_err(|_| NoMemory)?;
+    values[k as usize - 1] = number;
+    Ok(())
+}
+
+/// Puts the numbers at these places over a denominator, where all were 0, and lists the variables whose numbers aren't 0.
+fn put_places(
+    numbers: &[i128],
+    denominator: i128,
+    places: &[usize],
+    values: &mut [Ratio],
+    listed: &mut Vec<u32>,
+) -> Result<(), NoMemory>
+    requires at_least_one { pos 1 ≤ℤ denominator }
+    requires fit { All Fits numbers.now }
+    requires small { length numbers.now < 2 ^ 32 }
+    requires lengths { length values.old ≡ length numbers.now }
+    requires covered { CoverPlaces numbers.now places.now }
+    requires zero { (n : ℕ) → 1 ≤ n → value_at values.old n ≡ zero_ℚ }
+    requires none { listed.old.items ≡ [] }
+    ensures values { OnOk result (values.new ≡ over denominator numbers.now) }
+    ensures listed { OnOk result (AreNonzero values.new listed.new.items) }
+{
+    for place in places {
+        let number = numbers[*place];
+        if number != 0 && values[*place].is_zero() {
+            let k = *place as u32 + 1;
+            put_one(values, listed, k, Ratio::new(number, denominator))?;
+        }
+    }
+    Ok(())
+}
+
 /// Adds all variables whose numbers aren't 0.
 fn keep_all_nonzero(values: &[Ratio], kept: &mut Vec<u32>) -> Result<(), NoMemory>
     requires { length values.now < 2 ^ 32 }
@@ -199,6 +248,35 @@ impl SparseVector {
         }
     }
 
+    /// Makes the numbers whole numbers over a denominator, where few aren't 0. None of these is missing at the listed places, which may stand
+    /// in any order.
+    pub fn put_few(
+        &mut self,
+        numbers: &[i128],
+        denominator: i128,
+        places: &[usize],
+    ) -> Result<(), NoMemory>
+        requires at_least_one { pos 1 ≤ℤ denominator }
+        requires fit { All Fits numbers.now }
+        requires small { length numbers.now < 2 ^ 32 }
+        requires lengths { length self.old ≡ length numbers.now }
+        requires covered { CoverPlaces numbers.now places.now }
+        ensures values { OnOk result (self.new ≡ over denominator numbers.now) }
+        ensures none { OnErr result (self.new ≡ []) }
+    {
+        let mut values = self.take();
+        match put_places(numbers, denominator, places, &mut values, &mut self.nonzero) {
+            Ok(()) => {
+                self.values = values;
+                Ok(())
+            }
+            Err(refused) => {
+                self.nonzero.clear();
+                Err(refused)
+            }
+        }
+    }
+
     /// As many zeros as there are numbers, in lowest terms.
     pub fn zero_fractions(&self) -> Result<Vec<Frac>, NoMemory>
         ensures { IfOk result (λ made. made.items ≡ replicate (length self.now) zero_ℚ) }
@@ -211,9 +289,11 @@ impl SparseVector {
     pub fn put_all(&mut self, values: &[Frac]) -> Result<(), NoMemory>
         requires small { length values.now < 2 ^ 32 }
         ensures values { OnOk result (self.new ≡ values.now) }
+        ensures none { OnErr result (self.new ≡ []) }
     {
-        let values = ratios_of(self.alloc, values)?;
         self.nonzero.clear();
+        self.values.clear();
+        let values = ratios_of(self.alloc, values)?;
         match keep_all_nonzero(&values, &mut self.nonzero) {
             Ok(()) => {
                 self.values = values;
@@ -221,7 +301,6 @@ impl SparseVector {
             }
             Err(refused) => {
                 self.nonzero.clear();
-                self.values.clear();
                 Err(refused)
             }
         }

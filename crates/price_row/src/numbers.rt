@@ -139,7 +139,7 @@ fn sum_of_entries<N: Numbers>(
         if N::is_zero(number) {
             continue;
         }
-        sum = N::plus(sum, number, entry.rate.whole()?)?;
+        sum = N::plus(sum, number, entry.rate.as_whole()?)?;
     }
     Some(sum)
 }

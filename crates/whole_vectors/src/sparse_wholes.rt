@@ -157,6 +157,17 @@ impl SparseWholes {
         &self.numbers
     }
 
+    /// The places whose numbers may differ from 0, in any order; none whose number does is missing among them.
+    #[inline(always)]
+    pub fn listed(&self) -> &[usize]
+        ensures within { All (λ n. n < length self.now) result.now }
+        ensures none_missing { (n : ℕ) →
+            ((i : ℕ) → i < length result.now → slice_index_or result.now i 0 ≢ n) →
+            slice_index_or self.now n zero_ℚ ≡ zero_ℚ }
+    {
+        &self.listed
+    }
+
     /// Makes `n` the number of the variable `k`, from 1.
     #[inline(always)]
     pub fn put(&mut self, k: u32, n: i128) -> Option<()>

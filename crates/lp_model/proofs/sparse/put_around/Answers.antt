@@ -1,4 +1,4 @@
-use Rattle.std.proofs.Common.{rules, subst, filter, ℤ, ℕ, ◌≡◌, ◌≤◌, ◌∙◌, ◌++◌, ◌∷◌, List, length, sym}
+use Rattle.std.proofs.Common.{rules, subst, filter, ℤ, ℕ, ◌≡◌, ◌≤◌, ◌∙◌, ◌++◌, ◌∷◌, length, sym}
 use Rattle.std.proofs.lemmas.List.{length-map}
 use Rattle.std.specs.Prelude.{unsigned_abs, OnOk}
 use Rattle.std.specs.Int.{w128}

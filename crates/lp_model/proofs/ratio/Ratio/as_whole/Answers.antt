@@ -3,7 +3,7 @@ use Rattle.std.proofs.lemmas.Int.{ints}
 use Rattle.exact_values.specs.Rational.{whole}
 use Rattle.frac128.proofs.Parts.{read_fitting}
 use Rattle.lp_model.proofs.RatioTerms.{whole_terms}
-use Rattle.lp_model.proofs.ratio.Ratio.whole.Goals as goal
+use Rattle.lp_model.proofs.ratio.Ratio.as_whole.Goals as goal
 
 pub returns-then-den-eq1 : goal.returns-then-den-eq1
 returns-then-den-eq1 c =
