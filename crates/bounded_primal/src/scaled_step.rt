@@ -1,5 +1,5 @@
 //! A step that isn't a whole number. The values that it moves have mostly one denominator, so have the rates, and so has what they make:
-//! with these at hand a value takes two products and a quotient, and no greatest common divisor.
+//! with these at hand most values take two products and a quotient, and no greatest common divisor.
 
 ghost use Rattle.std.specs.Prelude.{◌≡◌, ◌<◌, ◌≤ℤ◌, ◌*ℤ◌, pos, IfSome};
 ghost use Rattle.exact_values.specs.Rational.{whole, ◌+ℚ◌, ◌*ℚ◌};
@@ -81,12 +81,14 @@ fn common_multiple(common: u64, x: &Ratio) -> Option<u64>
     factor.checked_mul(own)
 }
 
-/// The same number, in lowest terms where its denominator is another one than the one at hand, if there is one.
-fn fitting(common: u64, x: &Ratio) -> Ratio
+/// The same number, in lowest terms where its denominator is another one than the one at hand; where none is at hand yet, 1 stands for
+/// it, and any of one machine word will do.
+fn lowest_unless_over(common: u64, x: &Ratio) -> Ratio
     ensures { result ≡ x.now }
 {
     let (_, den) = x.terms();
-    if common == 1 || den == common as i128 {
+    let is_first = common == 1 && u64::try_from(den).is_ok();
+    if is_first || den == common as i128 {
         return x.copy();
     }
     Ratio::of(x.reduced())
@@ -176,8 +178,8 @@ impl ScaledStep {
         if let Some(moved) = self.moved_over(value, rate) {
             return Some(moved);
         }
-        let value = fitting(self.value_denominator, value);
-        let rate = fitting(self.rate_denominator, rate);
+        let value = lowest_unless_over(self.value_denominator, value);
+        let rate = lowest_unless_over(self.rate_denominator, rate);
         let values = common_multiple(self.value_denominator, &value)?;
         let rates = common_multiple(self.rate_denominator, &rate)?;
         self.take_denominators(values, rates)?;

@@ -372,12 +372,12 @@ listed_or_not (p ∷ ps) n = by_case (cases_eq p n) (listed_or_not ps n)
 
     later : p ≢ n → IsListedAt ps n ⊎ ((i : ℕ) → i < length ps → slice_index_or ps i 0 ≢ n) →
         IsListedAt (p ∷ ps) n ⊎ ((i : ℕ) → i < length (p ∷ ps) → slice_index_or (p ∷ ps) i 0 ≢ n)
-    later first (inl it) = inl (record { place = suc it.place; below = (omega (arith, it.below)); here = it.here; })
+    later first (inl it) = inl (record { place = suc it.place; below = (omega (arith, it.below)); here = it.here })
     later first (inr rest) = inr (neither first rest)
 
     by_case : (p ≡ n) ⊎ (p ≢ n) → IsListedAt ps n ⊎ ((i : ℕ) → i < length ps → slice_index_or ps i 0 ≢ n) →
         IsListedAt (p ∷ ps) n ⊎ ((i : ℕ) → i < length (p ∷ ps) → slice_index_or (p ∷ ps) i 0 ≢ n)
-    by_case (inl same) rest = inl (record { place = 0; below = (omega arith); here = same; })
+    by_case (inl same) rest = inl (record { place = 0; below = (omega arith); here = same })
     by_case (inr first) rest = later first rest
 
 -- all places are gone through

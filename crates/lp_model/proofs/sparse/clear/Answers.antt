@@ -16,8 +16,11 @@ bounds-values-k c =
 
 pub loop-k-preserved : goal.loop-k-preserved
 loop-k-preserved c =
-    let zero : c.of.result ≡ zero_ℚ = search rules in
-    (search rules, item_cleared c.args.values.now c.loop-k.values c.args.listed.now c.loop-k.k-index c.loop-k-test.true c.of.result zero c.loop-k.invariant.0 c.loop-k.invariant.1)
+    let zero : c.of.result ≡ zero_ℚ = search rules in (
+      search rules,
+      item_cleared c.args.values.now c.loop-k.values c.args.listed.now c.loop-k.k-index c.loop-k-test.true c.of.result zero
+          c.loop-k.invariant.0 c.loop-k.invariant.1,
+    )
 
 pub returns : goal.returns
 returns c =

@@ -35,7 +35,8 @@ loop-candidate-preserved c = elim c.if-number-ne0.branch [
   | then-number-ne0+in_ok-map_err w ↦
       (let same : to_z w128 (of_z w128 c.args.denominator) ≡ c.args.denominator = to_z-of_z w128 c.args.denominator (search rules) in
       let some : pos 1 ≤ℤ to_z w128 (of_z w128 c.args.denominator) = subst (λ (z : ℤ). pos 1 ≤ℤ z) (sym same) c.requires.at_least_one in
-      let pushed : w.push.new.self.items ≡ c.loop-candidate.kept.items ++ slice_index_or c.args.candidates.now c.loop-candidate.candidate-index 0 ∷ [] = search rules in
+      let pushed : w.push.new.self.items ≡ c.loop-candidate.kept.items ++ slice_index_or c.args.candidates.now c.loop-candidate.candidate-index 0 ∷ [] =
+      search rules in
       subst (λ (v : List ℚ). IsPut (over (to_z w128 (of_z w128 c.args.denominator)) c.args.numbers.now) c.args.values.now v c.args.candidates.now
       (c.loop-candidate.candidate-index + 1) c.args.kept.now.items c.if-number-ne0.kept.items) (sym w.values-is)
       (subst (λ (v : List ℕ). IsPut (over (to_z w128 (of_z w128 c.args.denominator)) c.args.numbers.now) c.args.values.now

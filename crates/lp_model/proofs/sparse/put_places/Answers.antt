@@ -19,7 +19,8 @@ loop-place-init c =
 
 pub put_one-requires-clause-zero : goal.put_one-requires-clause-zero
 put_one-requires-clause-zero c =
-    let place : slice_index_or c.args.places.now c.loop-place.place-index 0 + 1 - 1 ≡ slice_index_or c.args.places.now c.loop-place.place-index 0 = omega arith in
+    let place : slice_index_or c.args.places.now c.loop-place.place-index 0 + 1 - 1 ≡ slice_index_or c.args.places.now c.loop-place.place-index 0 =
+    omega arith in
     let within = c.requires.covered.within c.loop-place.place-index 0 c.loop-place-test.true in
     let there = get_or_default c.loop-place.values (slice_index_or c.args.places.now c.loop-place.place-index 0) zero_ℚ c.index-values-place.result
     (omega (arith, within, c.loop-place.invariant.lengths)) in
@@ -41,28 +42,29 @@ loop-place-preserved c =
     let within = c.requires.covered.within c.loop-place.place-index 0 c.loop-place-test.true in
     elim c.if-number-ne0.branch [
       | then-number-ne0+then-is_zero+in_ok-put_one w ↦
-          (let values : c.if-number-ne0.values ≡ slice_set c.loop-place.values (slice_index_or c.args.places.now c.loop-place.place-index 0 + 1 - 1) w.new.result =
-          search rules in
+          (let values : c.if-number-ne0.values ≡
+          slice_set c.loop-place.values (slice_index_or c.args.places.now c.loop-place.place-index 0 + 1 - 1) w.new.result = search rules in
           subst (λ (v : List ℚ). IsPutSoFar (to_z w128 (of_z w128 c.args.denominator)) c.args.numbers.now c.args.places.now (c.loop-place.place-index + 1) v
           c.if-number-ne0.listed.items) (sym values)
           (place_put (to_z w128 (of_z w128 c.args.denominator)) c.args.numbers.now some c.args.places.now c.loop-place.place-index c.loop-place.values
           c.loop-place.listed.items c.loop-place.invariant within c.requires.fit w.new.result w.new.ensures c.if-number-ne0.listed.items
           (subst (λ (v : List ℚ). AreNonzeroFrom v 1 c.if-number-ne0.listed.items) values (search rules))))
       | else-number-ne0 w ↦ elim w.else-number-ne0.branch [
-          | else-number-ne0-via-then-number-ne0+else-is_zero v ↦
-              (let place : slice_index_or c.args.places.now c.loop-place.place-index 0 + 1 - 1 ≡ slice_index_or c.args.places.now c.loop-place.place-index 0 = omega arith in
-              let there = get_or_default c.loop-place.values (slice_index_or c.args.places.now c.loop-place.place-index 0) zero_ℚ v.index-values-place.result
-              (omega (arith, within, c.loop-place.invariant.lengths)) in
-              rw (w.values-is, w.listed-is)
-              (place_again (to_z w128 (of_z w128 c.args.denominator)) c.args.numbers.now some c.args.places.now c.loop-place.place-index c.loop-place.values
-              c.loop-place.listed.items c.loop-place.invariant within c.requires.fit
-              (λ e. not_both v.is_zero.result v.if-is_zero.false
-              (v.is_zero.ensures.1 (sym there ∙ ap (λ j. slice_index_or c.loop-place.values j zero_ℚ) (sym place) ∙ e)))))
-          | else-number-ne0-via-else-number-ne0 v ↦
-              (rw (w.values-is, w.listed-is)
-              (place_zero (to_z w128 (of_z w128 c.args.denominator)) c.args.numbers.now some c.args.places.now c.loop-place.place-index c.loop-place.values
-              c.loop-place.listed.items c.loop-place.invariant within c.requires.fit v.if-number-ne0.false))
-        ]
+        | else-number-ne0-via-then-number-ne0+else-is_zero v ↦
+            (let place : slice_index_or c.args.places.now c.loop-place.place-index 0 + 1 - 1 ≡ slice_index_or c.args.places.now c.loop-place.place-index 0 =
+            omega arith in
+            let there = get_or_default c.loop-place.values (slice_index_or c.args.places.now c.loop-place.place-index 0) zero_ℚ v.index-values-place.result
+            (omega (arith, within, c.loop-place.invariant.lengths)) in
+            rw (w.values-is, w.listed-is)
+            (place_again (to_z w128 (of_z w128 c.args.denominator)) c.args.numbers.now some c.args.places.now c.loop-place.place-index c.loop-place.values
+            c.loop-place.listed.items c.loop-place.invariant within c.requires.fit
+            (λ e. not_both v.is_zero.result v.if-is_zero.false
+            (v.is_zero.ensures.1 (sym there ∙ ap (λ j. slice_index_or c.loop-place.values j zero_ℚ) (sym place) ∙ e)))))
+        | else-number-ne0-via-else-number-ne0 v ↦
+            (rw (w.values-is, w.listed-is)
+            (place_zero (to_z w128 (of_z w128 c.args.denominator)) c.args.numbers.now some c.args.places.now c.loop-place.place-index c.loop-place.values
+            c.loop-place.listed.items c.loop-place.invariant within c.requires.fit v.if-number-ne0.false))
+      ]
     ]
 
 pub returns-clause-values : goal.returns-clause-values

@@ -18,7 +18,8 @@ invariant_of-self c =
     none_of_nothing c.self.inside.nonzero.items
     (subst (λ (ys : List ℚ). AreNonzeroFrom ys 1 c.self.inside.nonzero.items) (c.self.view_is ∙ c.take-values.ensures.none) c.self.invariant) in
     let kept : c.put_around.new.kept.items ≡ filter (is_some (over c.args.denominator c.args.numbers.now)) (c.args.before.now ++ c.args.k ∷ c.args.after.now) =
-    c.in-Ok.ensures.kept ∙ ap (λ (ls : List ℕ). ls ++ filter (is_some (over (read c.args.denominator) c.args.numbers.now)) (c.args.before.now ++ c.args.k ∷ c.args.after.now)) none
+    c.in-Ok.ensures.kept ∙ ap (λ (ls : List ℕ). ls ++ filter (is_some (over (read c.args.denominator) c.args.numbers.now)) (c.args.before.now
+    ++ c.args.k ∷ c.args.after.now)) none
     ∙ ap (λ (d : ℤ). filter (is_some (over d c.args.numbers.now)) (c.args.before.now ++ c.args.k ∷ c.args.after.now)) same in
     subst (λ (ys : List ℚ). AreNonzeroFrom ys 1 c.put_around.new.kept.items) (sym whole)
     (subst (AreNonzeroFrom (over c.args.denominator c.args.numbers.now) 1) (sym kept)
