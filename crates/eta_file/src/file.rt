@@ -525,6 +525,7 @@ impl EtaFile {
         ensures places { OnOk result (length out.new ≡ size self.now.matrix) }
         ensures wholes { length wholes.new ≡ length wholes.old }
     {
+        let _size = self.size();
         let Some(least) = wholes.reduce_from(LEAST, denominator) else {
             return Ok(None);
         };
@@ -532,8 +533,9 @@ impl EtaFile {
         if least.den() != 1 || number < 1 {
             return Ok(None);
         }
-        if wholes.listed().len() < FEW_PLACES {
-            out.put_few(wholes.numbers(), number, wholes.listed())?;
+        let places = wholes.listed();
+        if places.len() < FEW_PLACES {
+            out.put_few(wholes.numbers(), number, places)?;
             return Ok(Some(()));
         }
         let listed = self.basics.listed();
