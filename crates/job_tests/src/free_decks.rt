@@ -18,8 +18,7 @@ pub struct Lawful {
     pub deck: &'static [&'static [u8]],
 }
 
-/// What stands before the cards of a case, what the listing has before its line, and what stands after the cards. What stands around
-/// them is in parts.
+/// The parts before the cards of a case, what the listing has before its line, and the parts after the cards.
 pub struct Around {
     pub before: &'static [&'static [u8]],
     pub listing: &'static [u8],
@@ -83,7 +82,7 @@ const BCDOUT: &[u8] = b"* A free deck, with one card or two changed.
          PEND
 ";
 
-// The NAME card of the free deck, and its sections.
+// The NAME card of the free deck, and its three sections.
 const FREE_NAME: &[u8] = b"NAME          ONE       FREE\n";
 
 const FREE_ROWS: &[u8] = b"ROWS\n N COST\n G LOW\n";
