@@ -1,7 +1,7 @@
 // Words, and devices that fail.
 
 use crate::full::Full;
-use crate::listings::{Answer, answer_from};
+use crate::listings::{Answer, answer_from, joined};
 use crate::plans::STORE;
 use checks_of_128_bits::Of128Bits;
 use job_devices::{MemorySink, MemorySource};
@@ -23,10 +23,11 @@ fn in_pieces(
     failing_writes: &[u64],
 ) -> Result<Answer, Fail> {
     let plan = &STORE;
+    let (job, listing) = (joined(alloc, plan.job)?, joined(alloc, plan.text)?);
     answer_from::<Of128Bits>(
         alloc,
-        MemorySource::in_pieces(alloc, plan.job, failing_job, 100)?,
-        MemorySource::in_pieces(alloc, plan.text, failing_listing, 100)?,
+        MemorySource::in_pieces(alloc, &job, failing_job, 100)?,
+        MemorySource::in_pieces(alloc, &listing, failing_listing, 100)?,
         failing_writes,
     )
 }

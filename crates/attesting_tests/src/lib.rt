@@ -22,7 +22,13 @@ mod parametric_runs;
 #[cfg(test)]
 mod plans;
 #[cfg(test)]
+mod problems;
+#[cfg(test)]
+mod programs;
+#[cfg(test)]
 mod refused;
+#[cfg(test)]
+mod store;
 #[cfg(test)]
 mod verdicts;
 #[cfg(test)]

@@ -14,6 +14,8 @@ pub enum Edit {
     Text(&'static [u8], &'static [u8]),
     /// All from there on is replaced by the other.
     From(&'static [u8], &'static [u8]),
+    /// The first place where these parts stand one after another gets the others.
+    Parts(&'static [&'static [u8]], &'static [&'static [u8]]),
 }
 
 /// A change of a listing, and what is printed of it then.
@@ -28,8 +30,10 @@ pub struct Case {
 /// A job, its listing with what is printed of it, and changes of that.
 pub struct Listing {
     pub name: &'static str,
-    pub job: &'static [u8],
-    pub text: &'static [u8],
+    /// The control program and the decks, one after another.
+    pub job: &'static [&'static [u8]],
+    /// The parts of the listing, one after another.
+    pub text: &'static [&'static [u8]],
     pub status: u8,
     pub line: &'static [u8],
     pub cases: &'static [Case],
@@ -47,6 +51,15 @@ impl Answer {
     pub fn is(&self, status: u8, line: &[u8]) -> bool {
         self.status == status && self.print.bytes() == line
     }
+}
+
+/// The parts of a text, one after another.
+pub fn joined(alloc: Global, parts: &[&[u8]]) -> Result<Vec<u8>, Fail> {
+    let mut text = Vec::new(alloc);
+    for part in parts {
+        text.extend_from_slice(part)?;
+    }
+    Ok(text)
 }
 
 // Where a text stands first.
@@ -86,6 +99,15 @@ pub fn edited(alloc: Global, text: &[u8], edit: Edit) -> Result<Option<Vec<u8>>,
     match edit {
         Edit::Text(old, new) => replaced(alloc, text, old, new, true),
         Edit::From(old, new) => replaced(alloc, text, old, new, false),
+        Edit::Parts(old, new) => {
+            replaced(
+                alloc,
+                text,
+                &joined(alloc, old)?,
+                &joined(alloc, new)?,
+                true,
+            )
+        }
     }
 }
 
@@ -101,11 +123,16 @@ pub fn answer_from<T: Checks>(
     Ok(Answer { status, print })
 }
 
-/// What a checker answers to a job and a listing.
-pub fn answer_to<T: Checks>(alloc: Global, job: &[u8], listing: &[u8]) -> Result<Answer, Fail> {
+/// What a checker answers to the job of these parts and a listing.
+pub fn answer_to<T: Checks>(
+    alloc: Global,
+    parts: &[&[u8]],
+    listing: &[u8],
+) -> Result<Answer, Fail> {
+    let job = joined(alloc, parts)?;
     answer_from::<T>(
         alloc,
-        MemorySource::new(alloc, job, &[])?,
+        MemorySource::new(alloc, &job, &[])?,
         MemorySource::new(alloc, listing, &[])?,
         &[],
     )
@@ -117,14 +144,15 @@ pub fn first_other<T: Checks>(
     alloc: Global,
     listing: &Listing,
 ) -> Result<Option<&'static str>, Fail> {
-    if !answer_to::<T>(alloc, listing.job, listing.text)?.is(listing.status, listing.line) {
+    let text = joined(alloc, listing.text)?;
+    if !answer_to::<T>(alloc, listing.job, &text)?.is(listing.status, listing.line) {
         return Ok(Some("as it is"));
     }
     for case in listing.cases {
-        let Some(text) = edited(alloc, listing.text, case.edit)? else {
+        let Some(changed) = edited(alloc, &text, case.edit)? else {
             return Ok(Some(case.name));
         };
-        if !answer_to::<T>(alloc, listing.job, &text)?.is(case.status, case.line) {
+        if !answer_to::<T>(alloc, listing.job, &changed)?.is(case.status, case.line) {
             return Ok(Some(case.name));
         }
     }

@@ -1,11 +1,12 @@
 // What the checker of any length finds.
 use crate::last_values::LAST_VALUES;
-use crate::listings::{Edit, Listing, answer_to, edited, first_wrong};
+use crate::listings::{Edit, Listing, answer_to, edited, first_wrong, joined};
 use crate::long_plans::{CHAIN, CHAIN_OBJECTIVE, CHAIN_RHS, LONG_DIRECTION, LONG_RAY};
 use crate::parametric_runs::{
     INFEASIBLE_PAST, LAMPS, MILK, RHS_INTERVALS, RHS_POINT, TWO_INTERVALS, UNBOUNDED_OPENING,
 };
 use crate::plans::{BLANKS, STORE, TIES, TWO_SOLUTIONS};
+use crate::programs::SOLVE;
 use crate::refused::{
     BAD_INSERT_REFUSED, FAR_POINT, GREAT, INSERT_REFUSED, RANGE_AFTER_PRIMAL, RANGE_REFUSED,
 };
@@ -96,7 +97,8 @@ fn no_test_is_refused(rt: HostRuntime) -> Result<(), Fail> {
         (&FAR_POINT, 0, b"ATTESTED 3 REPORTS\n"),
     ];
     for (listing, status, line) in cases {
-        let answer = answer_to::<OfAnyLength>(rt.alloc(), listing.job, listing.text)?;
+        let text = joined(rt.alloc(), listing.text)?;
+        let answer = answer_to::<OfAnyLength>(rt.alloc(), listing.job, &text)?;
         assert!(rt; answer.is(status, line), "{}", listing.name);
     }
     Ok(())
@@ -106,7 +108,8 @@ fn no_test_is_refused(rt: HostRuntime) -> Result<(), Fail> {
 #[test]
 fn long_last_values_are_left(rt: HostRuntime) -> Result<(), Fail> {
     for row in &LAST_VALUES {
-        let answer = answer_to::<OfAnyLength>(rt.alloc(), row.job, row.listing)?;
+        let listing = joined(rt.alloc(), row.listing)?;
+        let answer = answer_to::<OfAnyLength>(rt.alloc(), row.job, &listing)?;
         assert!(rt; answer.is(row.status, row.line), "{}", row.name);
     }
     Ok(())
@@ -118,7 +121,7 @@ fn an_unchecked_verdict_is_tested(rt: HostRuntime) -> Result<(), Fail> {
     let (alloc, store) = (rt.alloc(), &STORE);
     let text = edited(
         alloc,
-        store.text,
+        &joined(alloc, store.text)?,
         Edit::Text(b"CHECKED", b"UNCHECKED MUL 2 3"),
     )?;
     let text = text.unwrap_or(Vec::new(alloc));
@@ -127,14 +130,7 @@ fn an_unchecked_verdict_is_tested(rt: HostRuntime) -> Result<(), Fail> {
     Ok(())
 }
 
-const COUNTED: &[u8] = b"         PROGRAM
-         CONVERT
-         SETUP
-         PRIMAL
-         SOLUTION
-         EXIT
-         PEND
-NAME          T
+const COUNTED: &[u8] = b"NAME          T
 ROWS
  N  COST
  N  SUM
@@ -188,7 +184,7 @@ fn numbers_of_100000_digits_are_read(rt: HostRuntime) -> Result<(), Fail> {
     for (digits, status, line) in cases {
         let text = plan_of_ones(alloc, digits)?;
         assert!(rt;
-            answer_to::<OfAnyLength>(alloc, COUNTED, &text)?.is(status, line),
+            answer_to::<OfAnyLength>(alloc, &[SOLVE, COUNTED], &text)?.is(status, line),
             "{digits}"
         );
     }

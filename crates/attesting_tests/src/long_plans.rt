@@ -1,33 +1,15 @@
 // Plans and verdicts with numbers of more than 128 bits, worked out by hand: each number of a listing follows from those of its job
 // by a product or a quotient.
 use crate::listings::{Case, Edit, Listing};
+use crate::problems;
+use crate::programs::{PARAOBJ_TO_5, SOLVE};
 
 /// A column that is a great multiple of another.
 pub const CHAIN: Listing = Listing {
     name: "chain",
-    job: b"         PROGRAM
-         CONVERT
-         SETUP
-         PRIMAL
-         SOLUTION
-         EXIT
-         PEND
-NAME          LONG
-ROWS
- N  COST
- N  CHG
- G  LOW
- G  LINK
-COLUMNS
-    X         LOW       3              LINK      -99999998E18
-    Y         COST      .5             CHG       1
-    Y         LINK      1
-RHS
-    B         LOW       99999998E18
-    C         LOW       1
-ENDATA
-",
-    text: b"CONVERT LONG     ROWS 4 COLUMNS 2 ENTRIES 5
+    job: &[SOLVE, problems::LONG],
+    text: &[
+        b"CONVERT LONG     ROWS 4 COLUMNS 2 ENTRIES 5
 SETUP   LONG     MIN
 PRIMAL OPTIMAL STEPS 2 OBJECTIVE 4999999800000002000000000000000000000000000000000000/3 CHECKED
 SOLUTION OPTIMAL
@@ -43,6 +25,7 @@ NUMBER COLUMN AT ACTIVITY COST LOWER UPPER REDUCED
     6 Y        BS 9999999600000004000000000000000000000000000000000000/3 1/2 0 NONE 0
 END 0
 ",
+    ],
     status: 0,
     line: b"ATTESTED 4 REPORTS\n",
     cases: &[
@@ -139,30 +122,9 @@ END 0
 /// The objective changed along a second one.
 pub const CHAIN_OBJECTIVE: Listing = Listing {
     name: "chain, another objective",
-    job: b"         PROGRAM
-         CONVERT
-         SETUP
-         MOVE(XCHROW,'CHG')
-         MOVE(XPARMAX,5)
-         PARAOBJ
-         EXIT
-         PEND
-NAME          LONG
-ROWS
- N  COST
- N  CHG
- G  LOW
- G  LINK
-COLUMNS
-    X         LOW       3              LINK      -99999998E18
-    Y         COST      .5             CHG       1
-    Y         LINK      1
-RHS
-    B         LOW       99999998E18
-    C         LOW       1
-ENDATA
-",
-    text: b"CONVERT LONG     ROWS 4 COLUMNS 2 ENTRIES 5
+    job: &[PARAOBJ_TO_5, problems::LONG],
+    text: &[
+        b"CONVERT LONG     ROWS 4 COLUMNS 2 ENTRIES 5
 SETUP   LONG     MIN
 PARAOBJ FROM 0 CHANGE CHG
 INTERVAL 1 FROM 0 TO 5
@@ -175,6 +137,7 @@ INTERVAL 1 FROM 0 TO 5
 PARAOBJ ENDS AT 5
 END 0
 ",
+    ],
     status: 0,
     line: b"ATTESTED 3 REPORTS\n",
     cases: &[
@@ -208,7 +171,8 @@ END 0
 /// A demand that grows.
 pub const CHAIN_RHS: Listing = Listing {
     name: "chain, another demand",
-    job: b"         PROGRAM
+    job: &[
+        b"         PROGRAM
          CONVERT
          SETUP
          MOVE(XCHCOL,'C')
@@ -216,22 +180,11 @@ pub const CHAIN_RHS: Listing = Listing {
          PARARHS
          EXIT
          PEND
-NAME          LONG
-ROWS
- N  COST
- N  CHG
- G  LOW
- G  LINK
-COLUMNS
-    X         LOW       3              LINK      -99999998E18
-    Y         COST      .5             CHG       1
-    Y         LINK      1
-RHS
-    B         LOW       99999998E18
-    C         LOW       1
-ENDATA
 ",
-    text: b"CONVERT LONG     ROWS 4 COLUMNS 2 ENTRIES 5
+        problems::LONG,
+    ],
+    text: &[
+        b"CONVERT LONG     ROWS 4 COLUMNS 2 ENTRIES 5
 SETUP   LONG     MIN
 PARARHS FROM 0 CHANGE C
 INTERVAL 1 FROM 0 TO 5
@@ -244,6 +197,7 @@ INTERVAL 1 FROM 0 TO 5
 PARARHS ENDS AT 5
 END 0
 ",
+    ],
     status: 0,
     line: b"ATTESTED 3 REPORTS\n",
     cases: &[
@@ -277,7 +231,8 @@ END 0
 /// Limits that conflict by a great factor.
 pub const LONG_RAY: Listing = Listing {
     name: "long ray",
-    job: b"         PROGRAM
+    job: &[
+        b"         PROGRAM
          CONVERT
          SETUP
          PRIMAL
@@ -298,7 +253,9 @@ RHS
     B         HIGH      2
 ENDATA
 ",
-    text: b"CONVERT RAY      ROWS 4 COLUMNS 2 ENTRIES 5
+    ],
+    text: &[
+        b"CONVERT RAY      ROWS 4 COLUMNS 2 ENTRIES 5
 SETUP   RAY      MIN
 PRIMAL INFEASIBLE STEPS 1 RAY CHECKED
     2 LOW      -999999980000000000000000000000000000000000000
@@ -306,6 +263,7 @@ PRIMAL INFEASIBLE STEPS 1 RAY CHECKED
     4 HIGH     1/3
 END 1
 ",
+    ],
     status: 0,
     line: b"ATTESTED 3 REPORTS\n",
     cases: &[
@@ -356,7 +314,8 @@ END 1
 /// A direction that grows by great steps.
 pub const LONG_DIRECTION: Listing = Listing {
     name: "long direction",
-    job: b"         PROGRAM
+    job: &[
+        b"         PROGRAM
          CONVERT
          SETUP('MAX')
          PRIMAL
@@ -373,7 +332,9 @@ RHS
     B         LINK      .5
 ENDATA
 ",
-    text: b"CONVERT ENDLESS  ROWS 2 COLUMNS 2 ENTRIES 3
+    ],
+    text: &[
+        b"CONVERT ENDLESS  ROWS 2 COLUMNS 2 ENTRIES 3
 SETUP   ENDLESS  MAX
 PRIMAL UNBOUNDED STEPS 1 OBJECTIVE 15000000000000000000000000000000000000 CHECKED
     1 PROFIT   15000000000000000000000000000000000000 2999999940000000000000000000000000000000000000000000000000000000
@@ -382,6 +343,7 @@ PRIMAL UNBOUNDED STEPS 1 OBJECTIVE 15000000000000000000000000000000000000 CHECKE
     4 Y        5000000000000000000 999999980000000000000000000000000000000000000
 END 2
 ",
+    ],
     status: 0,
     line: b"ATTESTED 3 REPORTS\n",
     cases: &[

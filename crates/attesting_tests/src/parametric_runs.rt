@@ -1,10 +1,29 @@
 // Parametric runs.
 use crate::listings::{Case, Edit, Listing};
+use crate::problems;
+use crate::programs::{PARAOBJ_TO_5, PARARHS_TO_5};
+
+// The best point in the first interval.
+const FIRST_POINT: &[u8] = b"    1 COST     BS -8 0 0 0
+    2 CHG      BS 0 0 0 0
+    3 LIM      UL 4 0 -2 0
+    4 X        LL 0 0 1 -1
+    5 Y        BS 4 0 0 0
+";
+
+// The best point in the second interval.
+const SECOND_POINT: &[u8] = b"    1 COST     BS -5 0 0 0
+    2 CHG      BS -3 0 0 0
+    3 LIM      UL 4 0 -2 0
+    4 X        UL 3 0 1 -1
+    5 Y        BS 1 0 0 0
+";
 
 /// A parametric run of the objective.
 pub const TWO_INTERVALS: Listing = Listing {
     name: "paraobj two intervals",
-    job: b"         PROGRAM
+    job: &[
+        b"         PROGRAM
          CONVERT
          SETUP('BOUND','BND')
          MOVE(XCHROW,'CHG')
@@ -12,175 +31,99 @@ pub const TWO_INTERVALS: Listing = Listing {
          PARAOBJ
          EXIT
          PEND
-NAME          TWO
-ROWS
- N  COST
- N  CHG
- L  LIM
-COLUMNS
-    X         COST      -1
-    X         CHG       -1
-    X         LIM       1
-    Y         COST      -2
-    Y         LIM       1
-RHS
-    B         LIM       4
-BOUNDS
- UP BND       X         3
-ENDATA
 ",
-    text: b"CONVERT TWO      ROWS 3 COLUMNS 2 ENTRIES 5
+        problems::TWO,
+    ],
+    text: &[
+        b"CONVERT TWO      ROWS 3 COLUMNS 2 ENTRIES 5
 SETUP   TWO      MIN
 PARAOBJ FROM 0 CHANGE CHG
 INTERVAL 1 FROM 0 TO 1
-    1 COST     BS -8 0 0 0
-    2 CHG      BS 0 0 0 0
-    3 LIM      UL 4 0 -2 0
-    4 X        LL 0 0 1 -1
-    5 Y        BS 4 0 0 0
-INTERVAL 2 FROM 1 TO 5
-    1 COST     BS -5 0 0 0
-    2 CHG      BS -3 0 0 0
-    3 LIM      UL 4 0 -2 0
-    4 X        UL 3 0 1 -1
-    5 Y        BS 1 0 0 0
-PARAOBJ ENDS AT 5
-END 0
 ",
+        FIRST_POINT,
+        b"INTERVAL 2 FROM 1 TO 5\n",
+        SECOND_POINT,
+        b"PARAOBJ ENDS AT 5\nEND 0\n",
+    ],
     status: 0,
     line: b"ATTESTED 3 REPORTS\n",
     cases: &[
         Case {
             name: "an interval split",
-            edit: Edit::Text(
-                b"INTERVAL 2 FROM 1 TO 5
-    1 COST     BS -5 0 0 0
-    2 CHG      BS -3 0 0 0
-    3 LIM      UL 4 0 -2 0
-    4 X        UL 3 0 1 -1
-    5 Y        BS 1 0 0 0
-",
-                b"INTERVAL 2 FROM 1 TO 2
-    1 COST     BS -5 0 0 0
-    2 CHG      BS -3 0 0 0
-    3 LIM      UL 4 0 -2 0
-    4 X        UL 3 0 1 -1
-    5 Y        BS 1 0 0 0
-INTERVAL 3 FROM 2 TO 5
-    1 COST     BS -5 0 0 0
-    2 CHG      BS -3 0 0 0
-    3 LIM      UL 4 0 -2 0
-    4 X        UL 3 0 1 -1
-    5 Y        BS 1 0 0 0
-",
+            edit: Edit::Parts(
+                &[b"INTERVAL 2 FROM 1 TO 5\n", SECOND_POINT],
+                &[
+                    b"INTERVAL 2 FROM 1 TO 2\n",
+                    SECOND_POINT,
+                    b"INTERVAL 3 FROM 2 TO 5\n",
+                    SECOND_POINT,
+                ],
             ),
             status: 0,
             line: b"ATTESTED 3 REPORTS\n",
         },
         Case {
             name: "a point in front",
-            edit: Edit::Text(
-                b"INTERVAL 1 FROM 0 TO 1
-    1 COST     BS -8 0 0 0
-    2 CHG      BS 0 0 0 0
-    3 LIM      UL 4 0 -2 0
-    4 X        LL 0 0 1 -1
-    5 Y        BS 4 0 0 0
-INTERVAL 2 FROM 1 TO 5
-    1 COST     BS -5 0 0 0
-    2 CHG      BS -3 0 0 0
-    3 LIM      UL 4 0 -2 0
-    4 X        UL 3 0 1 -1
-    5 Y        BS 1 0 0 0
-",
-                b"INTERVAL 1 FROM 0 TO 0
+            edit: Edit::Parts(
+                &[
+                    b"INTERVAL 1 FROM 0 TO 1\n",
+                    FIRST_POINT,
+                    b"INTERVAL 2 FROM 1 TO 5\n",
+                    SECOND_POINT,
+                ],
+                &[
+                    b"INTERVAL 1 FROM 0 TO 0
     1 COST     BS -8 7 0 0
     2 CHG      BS 0 7 0 0
     3 LIM      UL 4 7 -2 7
     4 X        LL 0 7 1 7
     5 Y        BS 4 7 0 7
 INTERVAL 2 FROM 0 TO 1
-    1 COST     BS -8 0 0 0
-    2 CHG      BS 0 0 0 0
-    3 LIM      UL 4 0 -2 0
-    4 X        LL 0 0 1 -1
-    5 Y        BS 4 0 0 0
-INTERVAL 3 FROM 1 TO 5
-    1 COST     BS -5 0 0 0
-    2 CHG      BS -3 0 0 0
-    3 LIM      UL 4 0 -2 0
-    4 X        UL 3 0 1 -1
-    5 Y        BS 1 0 0 0
 ",
+                    FIRST_POINT,
+                    b"INTERVAL 3 FROM 1 TO 5\n",
+                    SECOND_POINT,
+                ],
             ),
             status: 0,
             line: b"ATTESTED 3 REPORTS\n",
         },
         Case {
             name: "right at both ends alone",
-            edit: Edit::Text(
-                b"INTERVAL 1 FROM 0 TO 1
-    1 COST     BS -8 0 0 0
-    2 CHG      BS 0 0 0 0
-    3 LIM      UL 4 0 -2 0
-    4 X        LL 0 0 1 -1
-    5 Y        BS 4 0 0 0
-INTERVAL 2 FROM 1 TO 5
-    1 COST     BS -5 0 0 0
-    2 CHG      BS -3 0 0 0
-    3 LIM      UL 4 0 -2 0
-    4 X        UL 3 0 1 -1
-    5 Y        BS 1 0 0 0
-",
-                b"INTERVAL 1 FROM 0 TO 5
+            edit: Edit::Parts(
+                &[
+                    b"INTERVAL 1 FROM 0 TO 1\n",
+                    FIRST_POINT,
+                    b"INTERVAL 2 FROM 1 TO 5\n",
+                    SECOND_POINT,
+                ],
+                &[
+                    b"INTERVAL 1 FROM 0 TO 5
     1 COST     BS -8 3/5 0 0
     2 CHG      BS 0 -3/5 0 0
     3 LIM      UL 4 0 -2 0
     4 X        LL 0 3/5 1 -1
     5 Y        BS 4 -3/5 0 0
 ",
+                ],
             ),
             status: 40,
             line: b"WRONG LINE 3\n",
         },
         Case {
             name: "past the last value",
-            edit: Edit::Text(
-                b"TO 5
-    1 COST     BS -5 0 0 0
-    2 CHG      BS -3 0 0 0
-    3 LIM      UL 4 0 -2 0
-    4 X        UL 3 0 1 -1
-    5 Y        BS 1 0 0 0
-PARAOBJ ENDS AT 5",
-                b"TO 6
-    1 COST     BS -5 0 0 0
-    2 CHG      BS -3 0 0 0
-    3 LIM      UL 4 0 -2 0
-    4 X        UL 3 0 1 -1
-    5 Y        BS 1 0 0 0
-PARAOBJ ENDS AT 6",
+            edit: Edit::Parts(
+                &[b"TO 5\n", SECOND_POINT, b"PARAOBJ ENDS AT 5"],
+                &[b"TO 6\n", SECOND_POINT, b"PARAOBJ ENDS AT 6"],
             ),
             status: 40,
             line: b"WRONG LINE 3\n",
         },
         Case {
             name: "before the last value",
-            edit: Edit::Text(
-                b"TO 5
-    1 COST     BS -5 0 0 0
-    2 CHG      BS -3 0 0 0
-    3 LIM      UL 4 0 -2 0
-    4 X        UL 3 0 1 -1
-    5 Y        BS 1 0 0 0
-PARAOBJ ENDS AT 5",
-                b"TO 4
-    1 COST     BS -5 0 0 0
-    2 CHG      BS -3 0 0 0
-    3 LIM      UL 4 0 -2 0
-    4 X        UL 3 0 1 -1
-    5 Y        BS 1 0 0 0
-PARAOBJ ENDS AT 4",
+            edit: Edit::Parts(
+                &[b"TO 5\n", SECOND_POINT, b"PARAOBJ ENDS AT 5"],
+                &[b"TO 4\n", SECOND_POINT, b"PARAOBJ ENDS AT 4"],
             ),
             status: 40,
             line: b"WRONG LINE 3\n",
@@ -193,54 +136,28 @@ PARAOBJ ENDS AT 4",
         },
         Case {
             name: "the first interval carried on",
-            edit: Edit::Text(
-                b"INTERVAL 1 FROM 0 TO 1
-    1 COST     BS -8 0 0 0
-    2 CHG      BS 0 0 0 0
-    3 LIM      UL 4 0 -2 0
-    4 X        LL 0 0 1 -1
-    5 Y        BS 4 0 0 0
-INTERVAL 2 FROM 1 TO 5
-    1 COST     BS -5 0 0 0
-    2 CHG      BS -3 0 0 0
-    3 LIM      UL 4 0 -2 0
-    4 X        UL 3 0 1 -1
-    5 Y        BS 1 0 0 0
-",
-                b"INTERVAL 1 FROM 0 TO 5
-    1 COST     BS -8 0 0 0
-    2 CHG      BS 0 0 0 0
-    3 LIM      UL 4 0 -2 0
-    4 X        LL 0 0 1 -1
-    5 Y        BS 4 0 0 0
-",
+            edit: Edit::Parts(
+                &[
+                    b"INTERVAL 1 FROM 0 TO 1\n",
+                    FIRST_POINT,
+                    b"INTERVAL 2 FROM 1 TO 5\n",
+                    SECOND_POINT,
+                ],
+                &[b"INTERVAL 1 FROM 0 TO 5\n", FIRST_POINT],
             ),
             status: 40,
             line: b"WRONG LINE 3\n",
         },
         Case {
             name: "a point behind the first interval",
-            edit: Edit::Text(
-                b"INTERVAL 2 FROM 1 TO 5
-    1 COST     BS -5 0 0 0
-    2 CHG      BS -3 0 0 0
-    3 LIM      UL 4 0 -2 0
-    4 X        UL 3 0 1 -1
-    5 Y        BS 1 0 0 0
-",
-                b"INTERVAL 2 FROM 1 TO 1
-    1 COST     BS -5 0 0 0
-    2 CHG      BS -3 0 0 0
-    3 LIM      UL 4 0 -2 0
-    4 X        UL 3 0 1 -1
-    5 Y        BS 1 0 0 0
-INTERVAL 3 FROM 1 TO 5
-    1 COST     BS -5 0 0 0
-    2 CHG      BS -3 0 0 0
-    3 LIM      UL 4 0 -2 0
-    4 X        UL 3 0 1 -1
-    5 Y        BS 1 0 0 0
-",
+            edit: Edit::Parts(
+                &[b"INTERVAL 2 FROM 1 TO 5\n", SECOND_POINT],
+                &[
+                    b"INTERVAL 2 FROM 1 TO 1\n",
+                    SECOND_POINT,
+                    b"INTERVAL 3 FROM 1 TO 5\n",
+                    SECOND_POINT,
+                ],
             ),
             status: 40,
             line: b"WRONG LINE 3\n",
@@ -259,21 +176,14 @@ INTERVAL 3 FROM 1 TO 5
         },
         Case {
             name: "no interval",
-            edit: Edit::Text(
-                b"INTERVAL 1 FROM 0 TO 1
-    1 COST     BS -8 0 0 0
-    2 CHG      BS 0 0 0 0
-    3 LIM      UL 4 0 -2 0
-    4 X        LL 0 0 1 -1
-    5 Y        BS 4 0 0 0
-INTERVAL 2 FROM 1 TO 5
-    1 COST     BS -5 0 0 0
-    2 CHG      BS -3 0 0 0
-    3 LIM      UL 4 0 -2 0
-    4 X        UL 3 0 1 -1
-    5 Y        BS 1 0 0 0
-",
-                b"",
+            edit: Edit::Parts(
+                &[
+                    b"INTERVAL 1 FROM 0 TO 1\n",
+                    FIRST_POINT,
+                    b"INTERVAL 2 FROM 1 TO 5\n",
+                    SECOND_POINT,
+                ],
+                &[],
             ),
             status: 40,
             line: b"WRONG LINE 3\n",
@@ -305,7 +215,8 @@ INTERVAL 2 FROM 1 TO 5
 /// A parametric run whose objective is unbounded past a value.
 pub const LAMPS: Listing = Listing {
     name: "lamps",
-    job: b"* A lamp maker: a lamp takes 12 of material and 2.5 hours of 40, or is bought
+    job: &[
+        b"* A lamp maker: a lamp takes 12 of material and 2.5 hours of 40, or is bought
 * ready-made for 25. It sells for 10 plus theta. From which price on is it made,
 * and up to which price does the question make sense?
          PROGRAM
@@ -333,7 +244,9 @@ RHS
     WEEK      HOURS     40
 ENDATA
 ",
-    text: b"TITLE THE PRICE OF A LAMP
+    ],
+    text: &[
+        b"TITLE THE PRICE OF A LAMP
 CONVERT LAMPS    ROWS 4 COLUMNS 3 ENTRIES 8
 SETUP   LAMPS    MAX
 PARAOBJ FROM 0 CHANGE SOLD
@@ -363,6 +276,7 @@ PARAOBJ UNBOUNDED PAST 15
     7 BUY      0 1
 END 0
 ",
+    ],
     status: 0,
     line: b"ATTESTED 4 REPORTS\n",
     cases: &[
@@ -390,24 +304,9 @@ END 0
 /// A parametric run whose opening is unbounded.
 pub const UNBOUNDED_OPENING: Listing = Listing {
     name: "unbounded opening",
-    job: b"         PROGRAM
-         CONVERT
-         SETUP
-         MOVE(XCHROW,'CHG')
-         MOVE(XPARMAX,5)
-         PARAOBJ
-         EXIT
-         PEND
-NAME          T
-ROWS
- N  COST
- N  CHG
-COLUMNS
-    X         COST      -1
-    X         CHG       1
-ENDATA
-",
-    text: b"CONVERT T        ROWS 2 COLUMNS 1 ENTRIES 2
+    job: &[PARAOBJ_TO_5, problems::ENDLESS_UP_TO_1],
+    text: &[
+        b"CONVERT T        ROWS 2 COLUMNS 1 ENTRIES 2
 SETUP   T        MIN
 PARAOBJ UNBOUNDED STEPS 0 OBJECTIVE 0 CHECKED
     1 COST     0 -1
@@ -415,6 +314,7 @@ PARAOBJ UNBOUNDED STEPS 0 OBJECTIVE 0 CHECKED
     3 X        0 1
 END 2
 ",
+    ],
     status: 0,
     line: b"ATTESTED 3 REPORTS\n",
     cases: &[Case {
@@ -428,29 +328,9 @@ END 2
 /// A parametric run that ends with a ray.
 pub const INFEASIBLE_PAST: Listing = Listing {
     name: "infeasible past",
-    job: b"         PROGRAM
-         CONVERT
-         SETUP('BOUND','BND')
-         MOVE(XCHCOL,'C')
-         MOVE(XPARMAX,5)
-         PARARHS
-         EXIT
-         PEND
-NAME          ONE
-ROWS
- N  COST
- G  LOW
-COLUMNS
-    X         COST      1
-    X         LOW       1
-RHS
-    B         LOW       1
-    C         LOW       1
-BOUNDS
- UP BND       X         3
-ENDATA
-",
-    text: b"CONVERT ONE      ROWS 2 COLUMNS 1 ENTRIES 2
+    job: &[PARARHS_TO_5, problems::BOUNDED_ONE],
+    text: &[
+        b"CONVERT ONE      ROWS 2 COLUMNS 1 ENTRIES 2
 SETUP   ONE      MIN
 PARARHS FROM 0 CHANGE C
 INTERVAL 1 FROM 0 TO 2
@@ -462,6 +342,7 @@ PARARHS INFEASIBLE PAST 2
     3 X        1
 END 0
 ",
+    ],
     status: 0,
     line: b"ATTESTED 3 REPORTS\n",
     cases: &[
@@ -549,7 +430,8 @@ PARARHS INFEASIBLE PAST 3",
 /// Two parametric runs of the right-hand side.
 pub const MILK: Listing = Listing {
     name: "milk",
-    job: b"* A dairy needs 30 churns of milk a day, and theta more. A farm has up to 40 at
+    job: &[
+        b"* A dairy needs 30 churns of milk a day, and theta more. A farm has up to 40 at
 * 3 each; a cooperative has as many as one likes, at 5. The van makes 28 trips,
 * and takes two churns of the farm on one, but only one of the cooperative.
          PROGRAM
@@ -580,7 +462,9 @@ BOUNDS
  UP DAY       FARM      40
 ENDATA
 ",
-    text: b"TITLE MORE MILK
+    ],
+    text: &[
+        b"TITLE MORE MILK
 CONVERT DAIRY    ROWS 3 COLUMNS 2 ENTRIES 6
 SETUP   DAIRY    MIN
 PARARHS FROM 0 CHANGE MORE
@@ -610,6 +494,7 @@ PARARHS INFEASIBLE PAST 18
     4 FARM     1/2
 END 0
 ",
+    ],
     status: 0,
     line: b"ATTESTED 5 REPORTS\n",
     cases: &[Case {
@@ -623,31 +508,9 @@ END 0
 /// A parametric run of the right-hand side in two intervals.
 pub const RHS_INTERVALS: Listing = Listing {
     name: "pararhs two intervals",
-    job: b"         PROGRAM
-         CONVERT
-         SETUP('BOUND','BND')
-         MOVE(XCHCOL,'C')
-         MOVE(XPARMAX,5)
-         PARARHS
-         EXIT
-         PEND
-NAME          T
-ROWS
- N  COST
- G  LOW
-COLUMNS
-    X         COST      1
-    X         LOW       1
-    Y         COST      2
-    Y         LOW       1
-RHS
-    B         LOW       1
-    C         LOW       1
-BOUNDS
- UP BND       X         3
-ENDATA
-",
-    text: b"CONVERT T        ROWS 2 COLUMNS 2 ENTRIES 4
+    job: &[PARARHS_TO_5, problems::TWO_SOURCES],
+    text: &[
+        b"CONVERT T        ROWS 2 COLUMNS 2 ENTRIES 4
 SETUP   T        MIN
 PARARHS FROM 0 CHANGE C
 INTERVAL 1 FROM 0 TO 2
@@ -663,6 +526,7 @@ INTERVAL 2 FROM 2 TO 5
 PARARHS ENDS AT 5
 END 0
 ",
+    ],
     status: 0,
     line: b"ATTESTED 3 REPORTS\n",
     cases: &[],
@@ -671,7 +535,8 @@ END 0
 /// One that is a point.
 pub const RHS_POINT: Listing = Listing {
     name: "pararhs point interval",
-    job: b"         PROGRAM
+    job: &[
+        b"         PROGRAM
          CONVERT
          SETUP('BOUND','BND')
          MOVE(XCHCOL,'C')
@@ -679,21 +544,11 @@ pub const RHS_POINT: Listing = Listing {
          PARARHS
          EXIT
          PEND
-NAME          ONE
-ROWS
- N  COST
- G  LOW
-COLUMNS
-    X         COST      1
-    X         LOW       1
-RHS
-    B         LOW       1
-    C         LOW       1
-BOUNDS
- UP BND       X         3
-ENDATA
 ",
-    text: b"CONVERT ONE      ROWS 2 COLUMNS 1 ENTRIES 2
+        problems::BOUNDED_ONE,
+    ],
+    text: &[
+        b"CONVERT ONE      ROWS 2 COLUMNS 1 ENTRIES 2
 SETUP   ONE      MIN
 PARARHS FROM 0 CHANGE C
 INTERVAL 1 FROM 0 TO 0
@@ -703,6 +558,7 @@ INTERVAL 1 FROM 0 TO 0
 PARARHS ENDS AT 0
 END 0
 ",
+    ],
     status: 0,
     line: b"ATTESTED 3 REPORTS\n",
     cases: &[],

@@ -1,52 +1,19 @@
 // Plans and their solutions.
 use crate::listings::{Case, Edit, Listing};
+use crate::problems;
+use crate::programs::{SOLVE, SOLVE_BND1};
+use crate::store::{STORE_FROM_EXIT, STORE_SOLUTION, STORE_TO_PRIMAL, STORE_VERDICT};
 
 /// A plan of a store, and its listing changed.
 pub const STORE: Listing = Listing {
     name: "store",
-    job: b"* What must a store spend to stay within its space and its money?
-* Nothing has to be bought, so the cheapest plan buys nothing.
-         PROGRAM
-         TITLE('THE CHEAPEST PLAN')
-         MVADR(XDONFS,NONE)
-         CONVERT
-         SETUP('MIN')
-         PRIMAL
-         SOLUTION
-         EXIT
-NONE     TITLE('NO PLAN KEEPS ALL LIMITS')
-         EXIT
-         PEND
-NAME          STORE
-ROWS
- N  COST
- L  SPACE
- L  MONEY
-COLUMNS
-    FLOUR     COST      3              SPACE     1
-    FLOUR     MONEY     3
-    SUGAR     COST      2.5            SPACE     .75
-    SUGAR     MONEY     2.5
-RHS
-    WEEK      SPACE     40             MONEY     100
-ENDATA
-",
-    text: b"TITLE THE CHEAPEST PLAN
-CONVERT STORE    ROWS 3 COLUMNS 2 ENTRIES 6
-SETUP   STORE    MIN
-PRIMAL OPTIMAL STEPS 0 OBJECTIVE 0 CHECKED
-SOLUTION OPTIMAL
-SECTION 1 - ROWS
-NUMBER ROW AT ACTIVITY SLACK LOWER UPPER DUAL
-    1 COST     BS 0 0 NONE NONE 0
-    2 SPACE    BS 0 40 NONE 40 0
-    3 MONEY    BS 0 100 NONE 100 0
-SECTION 2 - COLUMNS
-NUMBER COLUMN AT ACTIVITY COST LOWER UPPER REDUCED
-    4 FLOUR    LL 0 3 0 NONE 3
-    5 SUGAR    LL 0 5/2 0 NONE 5/2
-END 0
-",
+    job: &[
+        STORE_TO_PRIMAL,
+        b"         SOLUTION\n",
+        STORE_FROM_EXIT,
+        problems::STORE,
+    ],
+    text: &[STORE_VERDICT, STORE_SOLUTION, b"END 0\n"],
     status: 0,
     line: b"ATTESTED 5 REPORTS\n",
     cases: &[
@@ -274,42 +241,14 @@ END 2
     ],
 };
 
-/// A problem with bounds.
-pub const TESTPROB: Listing = Listing {
-    name: "testprob",
-    job: b"         PROGRAM
-         CONVERT
-         SETUP('BOUND','BND1')
-         PRIMAL
-         SOLUTION
-         EXIT
-         PEND
-NAME          TESTPROB
-ROWS
- N  COST
- L  LIM1
- G  LIM2
- E  MYEQN
-COLUMNS
-    XONE      COST      1              LIM1      1
-    XONE      LIM2      1
-    YTWO      COST      4              LIM1      1
-    YTWO      MYEQN     -1
-    ZTHREE    COST      9              LIM2      1
-    ZTHREE    MYEQN     1
-RHS
-    RHS       LIM1      5              LIM2      10
-    RHS       MYEQN     7
-BOUNDS
- UP BND1      XONE      4
- LO BND1      YTWO      -1
- UP BND1      YTWO      1
-ENDATA
-",
-    text: b"CONVERT TESTPROB ROWS 4 COLUMNS 3 ENTRIES 9
+// The listing of TESTPROB down to the verdict of PRIMAL.
+const TESTPROB_VERDICT: &[u8] = b"CONVERT TESTPROB ROWS 4 COLUMNS 3 ENTRIES 9
 SETUP   TESTPROB MIN
 PRIMAL OPTIMAL STEPS 3 OBJECTIVE 54 CHECKED
-SOLUTION OPTIMAL
+";
+
+// The plan of TESTPROB, as SOLUTION shows it.
+const TESTPROB_SOLUTION: &[u8] = b"SOLUTION OPTIMAL
 SECTION 1 - ROWS
 NUMBER ROW AT ACTIVITY SLACK LOWER UPPER DUAL
     1 COST     BS 54 -54 NONE NONE 0
@@ -321,8 +260,13 @@ NUMBER COLUMN AT ACTIVITY COST LOWER UPPER REDUCED
     5 XONE     BS 4 1 0 4 0
     6 YTWO     LL -1 4 -1 1 12
     7 ZTHREE   BS 6 9 0 NONE 0
-END 0
-",
+";
+
+/// A problem with bounds.
+pub const TESTPROB: Listing = Listing {
+    name: "testprob",
+    job: &[SOLVE_BND1, problems::TESTPROB],
+    text: &[TESTPROB_VERDICT, TESTPROB_SOLUTION, b"END 0\n"],
     status: 0,
     line: b"ATTESTED 4 REPORTS\n",
     cases: &[],
@@ -331,7 +275,8 @@ END 0
 /// The same problem, whose solution is shown twice.
 pub const TWO_SOLUTIONS: Listing = Listing {
     name: "two solutions",
-    job: b"         PROGRAM
+    job: &[
+        b"         PROGRAM
          CONVERT
          SETUP('BOUND','BND1')
          PRIMAL
@@ -339,88 +284,24 @@ pub const TWO_SOLUTIONS: Listing = Listing {
          SOLUTION
          EXIT
          PEND
-NAME          TESTPROB
-ROWS
- N  COST
- L  LIM1
- G  LIM2
- E  MYEQN
-COLUMNS
-    XONE      COST      1              LIM1      1
-    XONE      LIM2      1
-    YTWO      COST      4              LIM1      1
-    YTWO      MYEQN     -1
-    ZTHREE    COST      9              LIM2      1
-    ZTHREE    MYEQN     1
-RHS
-    RHS       LIM1      5              LIM2      10
-    RHS       MYEQN     7
-BOUNDS
- UP BND1      XONE      4
- LO BND1      YTWO      -1
- UP BND1      YTWO      1
-ENDATA
 ",
-    text: b"CONVERT TESTPROB ROWS 4 COLUMNS 3 ENTRIES 9
-SETUP   TESTPROB MIN
-PRIMAL OPTIMAL STEPS 3 OBJECTIVE 54 CHECKED
-SOLUTION OPTIMAL
-SECTION 1 - ROWS
-NUMBER ROW AT ACTIVITY SLACK LOWER UPPER DUAL
-    1 COST     BS 54 -54 NONE NONE 0
-    2 LIM1     BS 3 2 NONE 5 0
-    3 LIM2     LL 10 0 10 NONE 1
-    4 MYEQN    EQ 7 0 7 7 8
-SECTION 2 - COLUMNS
-NUMBER COLUMN AT ACTIVITY COST LOWER UPPER REDUCED
-    5 XONE     BS 4 1 0 4 0
-    6 YTWO     LL -1 4 -1 1 12
-    7 ZTHREE   BS 6 9 0 NONE 0
-SOLUTION OPTIMAL
-SECTION 1 - ROWS
-NUMBER ROW AT ACTIVITY SLACK LOWER UPPER DUAL
-    1 COST     BS 54 -54 NONE NONE 0
-    2 LIM1     BS 3 2 NONE 5 0
-    3 LIM2     LL 10 0 10 NONE 1
-    4 MYEQN    EQ 7 0 7 7 8
-SECTION 2 - COLUMNS
-NUMBER COLUMN AT ACTIVITY COST LOWER UPPER REDUCED
-    5 XONE     BS 4 1 0 4 0
-    6 YTWO     LL -1 4 -1 1 12
-    7 ZTHREE   BS 6 9 0 NONE 0
-END 0
-",
+        problems::TESTPROB,
+    ],
+    text: &[
+        TESTPROB_VERDICT,
+        TESTPROB_SOLUTION,
+        TESTPROB_SOLUTION,
+        b"END 0\n",
+    ],
     status: 0,
     line: b"ATTESTED 5 REPORTS\n",
     cases: &[Case {
         name: "another second solution",
-        edit: Edit::From(
-            b"SOLUTION OPTIMAL
-SECTION 1 - ROWS
-NUMBER ROW AT ACTIVITY SLACK LOWER UPPER DUAL
-    1 COST     BS 54 -54 NONE NONE 0
-    2 LIM1     BS 3 2 NONE 5 0
-    3 LIM2     LL 10 0 10 NONE 1
-    4 MYEQN    EQ 7 0 7 7 8
-SECTION 2 - COLUMNS
-NUMBER COLUMN AT ACTIVITY COST LOWER UPPER REDUCED
-    5 XONE     BS 4 1 0 4 0
-    6 YTWO     LL -1 4 -1 1 12
-    7 ZTHREE   BS 6 9 0 NONE 0
-SOLUTION",
-            b"SOLUTION OPTIMAL
-SECTION 1 - ROWS
-NUMBER ROW AT ACTIVITY SLACK LOWER UPPER DUAL
-    1 COST     BS 54 -54 NONE NONE 0
-    2 LIM1     BS 3 2 NONE 5 0
-    3 LIM2     LL 10 0 10 NONE 1
-    4 MYEQN    EQ 7 0 7 7 8
-SECTION 2 - COLUMNS
-NUMBER COLUMN AT ACTIVITY COST LOWER UPPER REDUCED
-    5 XONE     BS 4 1 0 4 0
-    6 YTWO     LL -1 4 -1 1 12
-    7 ZTHREE   BS 6 9 0 NONE 0
-SOLUTION OPTIMAL
+        edit: Edit::Parts(
+            &[TESTPROB_SOLUTION, TESTPROB_SOLUTION],
+            &[
+                TESTPROB_SOLUTION,
+                b"SOLUTION OPTIMAL
 SECTION 1 - ROWS
 NUMBER ROW AT ACTIVITY SLACK LOWER UPPER DUAL
     1 COST     BS 55 -55 NONE NONE 0
@@ -432,8 +313,8 @@ NUMBER COLUMN AT ACTIVITY COST LOWER UPPER REDUCED
     5 XONE     BS 5 1 0 4 0
     6 YTWO     LL -1 4 -1 1 12
     7 ZTHREE   BS 6 9 0 NONE 0
-END 0
 ",
+            ],
         ),
         status: 40,
         line: b"WRONG LINE 16\n",
@@ -443,14 +324,9 @@ END 0
 /// A plan with more than one best point.
 pub const TIES: Listing = Listing {
     name: "ties",
-    job: b"         PROGRAM
-         CONVERT
-         SETUP
-         PRIMAL
-         SOLUTION
-         EXIT
-         PEND
-NAME          T
+    job: &[
+        SOLVE,
+        b"NAME          T
 ROWS
  N  COST
  L  LIM
@@ -463,7 +339,9 @@ RHS
     B         LIM       4
 ENDATA
 ",
-    text: b"CONVERT T        ROWS 2 COLUMNS 2 ENTRIES 4
+    ],
+    text: &[
+        b"CONVERT T        ROWS 2 COLUMNS 2 ENTRIES 4
 SETUP   T        MIN
 PRIMAL OPTIMAL STEPS 1 OBJECTIVE -4 CHECKED
 SOLUTION OPTIMAL
@@ -477,6 +355,7 @@ NUMBER COLUMN AT ACTIVITY COST LOWER UPPER REDUCED
     4 Y        LL 0 -1 0 NONE 0
 END 0
 ",
+    ],
     status: 0,
     line: b"ATTESTED 4 REPORTS\n",
     cases: &[
@@ -504,14 +383,9 @@ END 0
 /// Names with blanks in them.
 pub const BLANKS: Listing = Listing {
     name: "names with blanks",
-    job: b"         PROGRAM
-         CONVERT
-         SETUP
-         PRIMAL
-         SOLUTION
-         EXIT
-         PEND
-NAME           A
+    job: &[
+        SOLVE,
+        b"NAME           A
 ROWS
  N   COST
  L  12 3
@@ -522,7 +396,9 @@ RHS
     B         12 3      4
 ENDATA
 ",
-    text: b"CONVERT  A       ROWS 2 COLUMNS 1 ENTRIES 2
+    ],
+    text: &[
+        b"CONVERT  A       ROWS 2 COLUMNS 1 ENTRIES 2
 SETUP    A       MIN
 PRIMAL OPTIMAL STEPS 0 OBJECTIVE 0 CHECKED
 SOLUTION OPTIMAL
@@ -535,6 +411,7 @@ NUMBER COLUMN AT ACTIVITY COST LOWER UPPER REDUCED
     3 1        LL 0 1 0 NONE 1
 END 0
 ",
+    ],
     status: 0,
     line: b"ATTESTED 4 REPORTS\n",
     cases: &[],

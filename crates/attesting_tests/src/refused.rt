@@ -1,17 +1,14 @@
 // Listings in whose tests an operation is refused.
 use crate::listings::{Case, Edit, Listing};
+use crate::problems;
+use crate::programs::SOLVE;
 
 /// A solution with numbers of 128 bits.
 pub const GREAT: Listing = Listing {
     name: "great activities",
-    job: b"         PROGRAM
-         CONVERT
-         SETUP
-         PRIMAL
-         SOLUTION
-         EXIT
-         PEND
-NAME          T
+    job: &[
+        SOLVE,
+        b"NAME          T
 ROWS
  N  COST
  G  LIM
@@ -22,7 +19,9 @@ RHS
     B         LIM       4
 ENDATA
 ",
-    text: b"CONVERT T        ROWS 2 COLUMNS 1 ENTRIES 2
+    ],
+    text: &[
+        b"CONVERT T        ROWS 2 COLUMNS 1 ENTRIES 2
 SETUP   T        MIN
 PRIMAL OPTIMAL STEPS 1 OBJECTIVE 8 CHECKED
 SOLUTION OPTIMAL
@@ -35,6 +34,7 @@ NUMBER COLUMN AT ACTIVITY COST LOWER UPPER REDUCED
     3 X        BS 170141183460469231731687303715884105727 2 0 NONE 0
 END 0
 ",
+    ],
     status: 42,
     line: b"UNCHECKED LINE 4\n",
     cases: &[Case {
@@ -48,24 +48,16 @@ END 0
 /// A range whose sum is refused, in a listing as if it were selected.
 pub const RANGE_REFUSED: Listing = Listing {
     name: "a range that is refused",
-    job: b"         PROGRAM
+    job: &[
+        b"         PROGRAM
          CONVERT
          SETUP('RANGE','R')
          EXIT
          PEND
-NAME          T
-ROWS
- N  COST
- L  LIM
-COLUMNS
-    X         LIM       1
-RHS
-    B         LIM       999999999E18
-RANGES
-    R         LIM       .1E-18
-ENDATA
 ",
-    text: b"CONVERT T        ROWS 2 COLUMNS 1 ENTRIES 1\nSETUP   T        MIN\nEND 0\n",
+        problems::FAR_RANGE,
+    ],
+    text: &[b"CONVERT T        ROWS 2 COLUMNS 1 ENTRIES 1\nSETUP   T        MIN\nEND 0\n"],
     status: 42,
     line: b"UNCHECKED LINE 2\n",
     cases: &[
@@ -99,31 +91,25 @@ WAY NONE
 /// The same after a verdict that no SOLUTION shows, as if it were selected.
 pub const RANGE_AFTER_PRIMAL: Listing = Listing {
     name: "a range that is refused after a verdict",
-    job: b"         PROGRAM
+    job: &[
+        b"         PROGRAM
          CONVERT
          SETUP
          PRIMAL
          SETUP('RANGE','R')
          EXIT
          PEND
-NAME          T
-ROWS
- N  COST
- L  LIM
-COLUMNS
-    X         LIM       1
-RHS
-    B         LIM       999999999E18
-RANGES
-    R         LIM       .1E-18
-ENDATA
 ",
-    text: b"CONVERT T        ROWS 2 COLUMNS 1 ENTRIES 1
+        problems::FAR_RANGE,
+    ],
+    text: &[
+        b"CONVERT T        ROWS 2 COLUMNS 1 ENTRIES 1
 SETUP   T        MIN
 PRIMAL OPTIMAL STEPS 0 OBJECTIVE 0 CHECKED
 SETUP   T        MIN
 END 0
 ",
+    ],
     status: 41,
     line: b"OPEN LINE 3\n",
     cases: &[Case {
@@ -144,34 +130,28 @@ WAY NONE
 /// INSERT, at whose selection the range is refused, as if the basis were taken. Its deck puts the row at the limit that the range gives.
 pub const INSERT_REFUSED: Listing = Listing {
     name: "a range that is refused at INSERT",
-    job: b"         PROGRAM
+    job: &[
+        b"         PROGRAM
          CONVERT
          SETUP('RANGE','R')
          MOVE(XRHS,'B')
          INSERT
          EXIT
          PEND
-NAME          T
-ROWS
- N  COST
- L  LIM
-COLUMNS
-    X         LIM       1
-RHS
-    A         LIM       4
-    B         LIM       999999999E18
-RANGES
-    R         LIM       .1E-18
-ENDATA
-NAME          D
+",
+        problems::FAR_RANGE_OF_B,
+        b"NAME          D
  XL X         LIM
 ENDATA
 ",
-    text: b"CONVERT T        ROWS 2 COLUMNS 1 ENTRIES 1
+    ],
+    text: &[
+        b"CONVERT T        ROWS 2 COLUMNS 1 ENTRIES 1
 SETUP   T        MIN
 INSERT  D        BASIC 1
 END 0
 ",
+    ],
     status: 41,
     line: b"OPEN LINE 3\n",
     cases: &[
@@ -205,34 +185,28 @@ WAY NONE
 /// The same with a deck that puts a row at a limit that it hasn't.
 pub const BAD_INSERT_REFUSED: Listing = Listing {
     name: "a range that is refused at INSERT of a bad deck",
-    job: b"         PROGRAM
+    job: &[
+        b"         PROGRAM
          CONVERT
          SETUP('RANGE','R')
          MOVE(XRHS,'B')
          INSERT
          EXIT
          PEND
-NAME          T
-ROWS
- N  COST
- L  LIM
-COLUMNS
-    X         LIM       1
-RHS
-    A         LIM       4
-    B         LIM       999999999E18
-RANGES
-    R         LIM       .1E-18
-ENDATA
-NAME          D
+",
+        problems::FAR_RANGE_OF_B,
+        b"NAME          D
  XL X         COST
 ENDATA
 ",
-    text: b"CONVERT T        ROWS 2 COLUMNS 1 ENTRIES 1
+    ],
+    text: &[
+        b"CONVERT T        ROWS 2 COLUMNS 1 ENTRIES 1
 SETUP   T        MIN
 INSERT  D        BASIC 1
 END 0
 ",
+    ],
     status: 42,
     line: b"UNCHECKED LINE 3\n",
     cases: &[],
@@ -241,7 +215,8 @@ END 0
 /// A parametric run whose first limits are refused.
 pub const FAR_POINT: Listing = Listing {
     name: "a point far away",
-    job: b"         PROGRAM
+    job: &[
+        b"         PROGRAM
          CONVERT
          SETUP
          MOVE(XCHCOL,'C')
@@ -262,7 +237,9 @@ RHS
     C         LOW       1
 ENDATA
 ",
-    text: b"CONVERT T        ROWS 2 COLUMNS 1 ENTRIES 2
+    ],
+    text: &[
+        b"CONVERT T        ROWS 2 COLUMNS 1 ENTRIES 2
 SETUP   T        MIN
 PARARHS FROM 999999999000000000000000000 CHANGE C
 INTERVAL 1 FROM 999999999000000000000000000 TO 999999999000000000000000000
@@ -272,6 +249,7 @@ INTERVAL 1 FROM 999999999000000000000000000 TO 999999999000000000000000000
 PARARHS ENDS AT 999999999000000000000000000
 END 0
 ",
+    ],
     status: 42,
     line: b"UNCHECKED LINE 3\n",
     cases: &[

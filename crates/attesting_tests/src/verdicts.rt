@@ -1,10 +1,13 @@
 // Verdicts that there is no best plan.
 use crate::listings::{Case, Edit, Listing};
+use crate::problems;
+use crate::programs::SOLVE;
 
 /// Limits that conflict.
 pub const CONFLICT: Listing = Listing {
     name: "conflict",
-    job: b"* A workshop promised more than its hours allow: no plan keeps all limits.
+    job: &[
+        b"* A workshop promised more than its hours allow: no plan keeps all limits.
 * It shows a ray: the rows that conflict, with the factors by which they do.
          PROGRAM
          TITLE('PROMISES AND HOURS')
@@ -30,7 +33,9 @@ RHS
     WEEK      TABLES    14
 ENDATA
 ",
-    text: b"TITLE PROMISES AND HOURS
+    ],
+    text: &[
+        b"TITLE PROMISES AND HOURS
 CONVERT PROMISE  ROWS 4 COLUMNS 2 ENTRIES 6
 SETUP   PROMISE  MIN
 PRIMAL INFEASIBLE STEPS 2 RAY CHECKED
@@ -39,6 +44,7 @@ PRIMAL INFEASIBLE STEPS 2 RAY CHECKED
     4 TABLES   -5
 END 1
 ",
+    ],
     status: 0,
     line: b"ATTESTED 4 REPORTS\n",
     cases: &[
@@ -135,34 +141,16 @@ END 1
 /// A lower limit above an upper one.
 pub const INFEASIBLE: Listing = Listing {
     name: "infeasible ray",
-    job: b"         PROGRAM
-         CONVERT
-         SETUP
-         PRIMAL
-         SOLUTION
-         EXIT
-         PEND
-NAME          T
-ROWS
- N  COST
- G  LOW
- L  HIGH
-COLUMNS
-    X         COST      1
-    X         LOW       1
-    X         HIGH      1
-RHS
-    B         LOW       3
-    B         HIGH      2
-ENDATA
-",
-    text: b"CONVERT T        ROWS 3 COLUMNS 1 ENTRIES 3
+    job: &[SOLVE, problems::CONFLICT],
+    text: &[
+        b"CONVERT T        ROWS 3 COLUMNS 1 ENTRIES 3
 SETUP   T        MIN
 PRIMAL INFEASIBLE STEPS 1 RAY CHECKED
     2 LOW      -1
     3 HIGH     1
 END 1
 ",
+    ],
     status: 0,
     line: b"ATTESTED 3 REPORTS\n",
     cases: &[Case {
@@ -176,7 +164,8 @@ END 1
 /// A profit without a bound.
 pub const UNBOUNDED: Listing = Listing {
     name: "endless",
-    job: b"* A row was forgotten: nothing limits what is sold, so the profit has no bound.
+    job: &[
+        b"* A row was forgotten: nothing limits what is sold, so the profit has no bound.
 * It shows a direction along which the profit grows for ever.
          PROGRAM
          TITLE('A ROW IS MISSING')
@@ -197,7 +186,9 @@ RHS
     DAY       MILLING   40
 ENDATA
 ",
-    text: b"TITLE A ROW IS MISSING
+    ],
+    text: &[
+        b"TITLE A ROW IS MISSING
 CONVERT ENDLESS  ROWS 2 COLUMNS 2 ENTRIES 4
 SETUP   ENDLESS  MAX
 PRIMAL UNBOUNDED STEPS 1 OBJECTIVE 200 CHECKED
@@ -207,6 +198,7 @@ PRIMAL UNBOUNDED STEPS 1 OBJECTIVE 200 CHECKED
     4 SELL     40 1
 END 2
 ",
+    ],
     status: 0,
     line: b"ATTESTED 4 REPORTS\n",
     cases: &[

@@ -1,19 +1,14 @@
 // Random plans with numbers of more than 128 bits, as they are.
 // Each job was made at random, and what is found of its listing came with it, from outside this repository.
 use crate::listings::Listing;
+use crate::programs::SOLVE_WIDE_TO_40;
 
 /// A plan of a random job.
 pub const FIRST_PLAN: Listing = Listing {
     name: "first random plan",
-    job: b"         PROGRAM
-         CONVERT
-         MOVE(XPARMAX,40)
-         SETUP('BOUND','B')
-         PRIMAL
-         SOLUTION
-         EXIT
-         PEND
-NAME          WIDE
+    job: &[
+        SOLVE_WIDE_TO_40,
+        b"NAME          WIDE
 ROWS
  N  COST
  N  CH
@@ -132,7 +127,9 @@ BOUNDS
  UP B         X8            3309.736
 ENDATA
 ",
-    text: b"CONVERT WIDE     ROWS 10 COLUMNS 9 ENTRIES 77
+    ],
+    text: &[
+        b"CONVERT WIDE     ROWS 10 COLUMNS 9 ENTRIES 77
 SETUP   WIDE     MIN
 PRIMAL OPTIMAL STEPS 14 OBJECTIVE -21376025031465491545793950165746805845727/1304111758200885233486237371466140000 CHECKED
 SOLUTION OPTIMAL
@@ -161,6 +158,7 @@ NUMBER COLUMN AT ACTIVITY COST LOWER UPPER REDUCED
    19 X8       BS 19309614930302764397629945175749067/2608223516401770466972474742932280 -230503/1000 0 413717/125 0
 END 0
 ",
+    ],
     status: 0,
     line: b"ATTESTED 4 REPORTS\n",
     cases: &[],
@@ -169,15 +167,9 @@ END 0
 /// Another plan.
 pub const SECOND_PLAN: Listing = Listing {
     name: "second random plan",
-    job: b"         PROGRAM
-         CONVERT
-         MOVE(XPARMAX,40)
-         SETUP('BOUND','B')
-         PRIMAL
-         SOLUTION
-         EXIT
-         PEND
-NAME          WIDE
+    job: &[
+        SOLVE_WIDE_TO_40,
+        b"NAME          WIDE
 ROWS
  N  COST
  N  CH
@@ -299,7 +291,9 @@ BOUNDS
  UP B         X8             1619.13
 ENDATA
 ",
-    text: b"CONVERT WIDE     ROWS 10 COLUMNS 9 ENTRIES 80
+    ],
+    text: &[
+        b"CONVERT WIDE     ROWS 10 COLUMNS 9 ENTRIES 80
 SETUP   WIDE     MIN
 PRIMAL OPTIMAL STEPS 16 OBJECTIVE -58624406924695835648949419848906323265888012544002589/3707462937504768825474232315682436097402783012500 CHECKED
 SOLUTION OPTIMAL
@@ -328,6 +322,7 @@ NUMBER COLUMN AT ACTIVITY COST LOWER UPPER REDUCED
    19 X8       BS 11930882213805762712246908213349983987890418507/2471641958336512550316154877121624064935188675 -337379/1000 0 161913/100 0
 END 0
 ",
+    ],
     status: 0,
     line: b"ATTESTED 4 REPORTS\n",
     cases: &[],
@@ -336,15 +331,9 @@ END 0
 /// Another plan.
 pub const THIRD_PLAN: Listing = Listing {
     name: "third random plan",
-    job: b"         PROGRAM
-         CONVERT
-         MOVE(XPARMAX,40)
-         SETUP('BOUND','B')
-         PRIMAL
-         SOLUTION
-         EXIT
-         PEND
-NAME          WIDE
+    job: &[
+        SOLVE_WIDE_TO_40,
+        b"NAME          WIDE
 ROWS
  N  COST
  N  CH
@@ -470,7 +459,9 @@ BOUNDS
  UP B         X8            2230.164
 ENDATA
 ",
-    text: b"CONVERT WIDE     ROWS 11 COLUMNS 9 ENTRIES 81
+    ],
+    text: &[
+        b"CONVERT WIDE     ROWS 11 COLUMNS 9 ENTRIES 81
 SETUP   WIDE     MIN
 PRIMAL OPTIMAL STEPS 10 OBJECTIVE -4291196253009535899818239709971025471717671/255923472354445993497210986588279889000 CHECKED
 SOLUTION OPTIMAL
@@ -500,6 +491,7 @@ NUMBER COLUMN AT ACTIVITY COST LOWER UPPER REDUCED
    20 X8       LL 0 -11503/500 0 557541/250 2388544106768164307100736114003404521693/8530782411814866449907032886275996300
 END 0
 ",
+    ],
     status: 0,
     line: b"ATTESTED 4 REPORTS\n",
     cases: &[],

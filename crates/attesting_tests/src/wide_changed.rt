@@ -1,19 +1,14 @@
 // Random plans with numbers of more than 128 bits, each with a change.
 // Each job was made at random, and what is found of its listing came with it, from outside this repository.
 use crate::listings::Listing;
+use crate::programs::SOLVE_WIDE_TO_1;
 
 /// A digit stands for a letter in the line of CONVERT.
 pub const WRONG_LETTER: Listing = Listing {
     name: "a digit for a letter",
-    job: b"         PROGRAM
-         CONVERT
-         MOVE(XPARMAX,1)
-         SETUP('BOUND','B')
-         PRIMAL
-         SOLUTION
-         EXIT
-         PEND
-NAME          WIDE
+    job: &[
+        SOLVE_WIDE_TO_1,
+        b"NAME          WIDE
 ROWS
  N  COST
  N  CH
@@ -120,7 +115,9 @@ BOUNDS
  UP B         X8            2647.232
 ENDATA
 ",
-    text: b"CONVERT WIDE     ROWS 10 COLUMNS 9 ENTRIE1 65
+    ],
+    text: &[
+        b"CONVERT WIDE     ROWS 10 COLUMNS 9 ENTRIE1 65
 SETUP   WIDE     MIN
 PRIMAL OPTIMAL STEPS 17 OBJECTIVE -1665469806518456259576340513936320211819843/78616395827826989869041422316334452500 CHECKED
 SOLUTION OPTIMAL
@@ -149,6 +146,7 @@ NUMBER COLUMN AT ACTIVITY COST LOWER UPPER REDUCED
    19 X8       BS 1708064314325193170942274571535964974/157232791655653979738082844632668905 -559663/1000 0 330904/125 0
 END 0
 ",
+    ],
     status: 40,
     line: b"WRONG LINE 1\n",
     cases: &[],
@@ -157,15 +155,9 @@ END 0
 /// A slack has another digit below its line.
 pub const WRONG_SLACK: Listing = Listing {
     name: "another digit of a slack",
-    job: b"         PROGRAM
-         CONVERT
-         MOVE(XPARMAX,1)
-         SETUP('BOUND','B')
-         PRIMAL
-         SOLUTION
-         EXIT
-         PEND
-NAME          WIDE
+    job: &[
+        SOLVE_WIDE_TO_1,
+        b"NAME          WIDE
 ROWS
  N  COST
  N  CH
@@ -289,7 +281,9 @@ BOUNDS
  UP B         X9            3495.877
 ENDATA
 ",
-    text: b"CONVERT WIDE     ROWS 10 COLUMNS 10 ENTRIES 81
+    ],
+    text: &[
+        b"CONVERT WIDE     ROWS 10 COLUMNS 10 ENTRIES 81
 SETUP   WIDE     MIN
 PRIMAL OPTIMAL STEPS 18 OBJECTIVE -672199490183878401559409255189674851239329/21970060558354613503565628850421816500 CHECKED
 SOLUTION OPTIMAL
@@ -319,6 +313,7 @@ NUMBER COLUMN AT ACTIVITY COST LOWER UPPER REDUCED
    20 X9       LL 0 31401/1000 0 3495877/1000 1095727865920606324304074552782069122306/16477545418765960127674221637816362375
 END 0
 ",
+    ],
     status: 40,
     line: b"WRONG LINE 4\n",
     cases: &[],
@@ -327,7 +322,8 @@ END 0
 /// A row's line is left out.
 pub const MISSING_ROW: Listing = Listing {
     name: "a row left out",
-    job: b"         PROGRAM
+    job: &[
+        b"         PROGRAM
          CONVERT
          MOVE(XPARMAX,2.5)
          SETUP('BOUND','B')
@@ -466,7 +462,9 @@ BOUNDS
  UP B         X8             2139.64
 ENDATA
 ",
-    text: b"CONVERT WIDE     ROWS 11 COLUMNS 9 ENTRIES 86
+    ],
+    text: &[
+        b"CONVERT WIDE     ROWS 11 COLUMNS 9 ENTRIES 86
 SETUP   WIDE     MIN
 PRIMAL OPTIMAL STEPS 18 OBJECTIVE -484194907760961143128513611005747405130409/31554088466741709206095174744586022500 CHECKED
 SOLUTION OPTIMAL
@@ -495,6 +493,7 @@ NUMBER COLUMN AT ACTIVITY COST LOWER UPPER REDUCED
    20 X8       BS 133730775118217889250575249998925379/12621635386696683682438069897834409 -78147/125 0 53491/25 0
 END 0
 ",
+    ],
     status: 40,
     line: b"WRONG LINE 4\n",
     cases: &[],

@@ -1,19 +1,14 @@
 // Random plans with numbers of more than 128 bits, whose listings are cut off.
 // Each job was made at random, and what is found of its listing came with it, from outside this repository.
 use crate::listings::Listing;
+use crate::programs::{SOLVE_WIDE_TO_1, SOLVE_WIDE_TO_40};
 
 /// The verdict's line is cut off.
 pub const CUT_VERDICT: Listing = Listing {
     name: "cut off in the verdict",
-    job: b"         PROGRAM
-         CONVERT
-         MOVE(XPARMAX,1)
-         SETUP('BOUND','B')
-         PRIMAL
-         SOLUTION
-         EXIT
-         PEND
-NAME          WIDE
+    job: &[
+        SOLVE_WIDE_TO_1,
+        b"NAME          WIDE
 ROWS
  N  COST
  N  CH
@@ -150,9 +145,12 @@ BOUNDS
  UP B         X8            2068.452
 ENDATA
 ",
-    text: b"CONVERT WIDE     ROWS 12 COLUMNS 9 ENTRIES 89
+    ],
+    text: &[
+        b"CONVERT WIDE     ROWS 12 COLUMNS 9 ENTRIES 89
 SETUP   WIDE     MIN
 PRIMAL OPTIMAL STEPS 22 OBJECTIVE -412932567072787321845111391680006820683427/2205111503543519450189693818545395850",
+    ],
     status: 40,
     line: b"WRONG LINE 3\n",
     cases: &[],
@@ -161,15 +159,9 @@ PRIMAL OPTIMAL STEPS 22 OBJECTIVE -412932567072787321845111391680006820683427/22
 /// The second row's line is cut off.
 pub const CUT_SECOND_ROW: Listing = Listing {
     name: "cut off in the second row",
-    job: b"         PROGRAM
-         CONVERT
-         MOVE(XPARMAX,40)
-         SETUP('BOUND','B')
-         PRIMAL
-         SOLUTION
-         EXIT
-         PEND
-NAME          WIDE
+    job: &[
+        SOLVE_WIDE_TO_40,
+        b"NAME          WIDE
 ROWS
  N  COST
  N  CH
@@ -306,7 +298,9 @@ BOUNDS
  UP B         X8            1721.448
 ENDATA
 ",
-    text: b"CONVERT WIDE     ROWS 12 COLUMNS 9 ENTRIES 89
+    ],
+    text: &[
+        b"CONVERT WIDE     ROWS 12 COLUMNS 9 ENTRIES 89
 SETUP   WIDE     MIN
 PRIMAL OPTIMAL STEPS 10 OBJECTIVE -46651689002656265485316676085594865094091/2467616179525949169405226441166081360 CHECKED
 SOLUTION OPTIMAL
@@ -314,6 +308,7 @@ SECTION 1 - ROWS
 NUMBER ROW AT ACTIVITY SLACK LOWER UPPER DUAL
     1 COST     BS -46651689002656265485316676085594865094091/2467616179525949169405226441166081360 46651689002656265485316676085594865094091/2467616179525949169405226441166081360 NONE NONE 0
     2 CH       BS 5060",
+    ],
     status: 40,
     line: b"WRONG LINE 4\n",
     cases: &[],
@@ -322,15 +317,9 @@ NUMBER ROW AT ACTIVITY SLACK LOWER UPPER DUAL
 /// The third row's line is cut off.
 pub const CUT_THIRD_ROW: Listing = Listing {
     name: "cut off in the third row",
-    job: b"         PROGRAM
-         CONVERT
-         MOVE(XPARMAX,40)
-         SETUP('BOUND','B')
-         PRIMAL
-         SOLUTION
-         EXIT
-         PEND
-NAME          WIDE
+    job: &[
+        SOLVE_WIDE_TO_40,
+        b"NAME          WIDE
 ROWS
  N  COST
  N  CH
@@ -458,7 +447,9 @@ BOUNDS
  UP B         X9             3894.17
 ENDATA
 ",
-    text: b"CONVERT WIDE     ROWS 10 COLUMNS 10 ENTRIES 85
+    ],
+    text: &[
+        b"CONVERT WIDE     ROWS 10 COLUMNS 10 ENTRIES 85
 SETUP   WIDE     MIN
 PRIMAL OPTIMAL STEPS 14 OBJECTIVE -3403396133722878483865344322005522919499863/233547318300950830389443439498907901000 CHECKED
 SOLUTION OPTIMAL
@@ -467,6 +458,7 @@ NUMBER ROW AT ACTIVITY SLACK LOWER UPPER DUAL
     1 COST     BS -3403396133722878483865344322005522919499863/233547318300950830389443439498907901000 3403396133722878483865344322005522919499863/233547318300950830389443439498907901000 NONE NONE 0
     2 CH       BS -28405120662301682245276128913679833993703/233547318300950830389443439498907901000 28405120662301682245276128913679833993703/233547318300950830389443439498907901000 NONE NONE 0
     3 R0  \x20",
+    ],
     status: 40,
     line: b"WRONG LINE 4\n",
     cases: &[],

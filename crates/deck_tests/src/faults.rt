@@ -78,60 +78,27 @@ COLUMNS
 
 const COLUMNS: [DeckOfFault; 5] = [
     (
-        b"NAME          T
-ROWS
- N  COST
-COLUMNS
-    X         COST      1
-    Y         COST      1
-    X         COST      2
-ENDATA
-",
+        b"    X         COST      1\n    Y         COST      1\n    X         COST      2\nENDATA\n",
         7,
         DeckFaultKind::ColumnSplit,
     ),
     (
-        b"NAME          T
-ROWS
- N  COST
-COLUMNS
-    X         COST      1
-    X         COST      1
-ENDATA
-",
+        b"    X         COST      1\n    X         COST      1\nENDATA\n",
         6,
         DeckFaultKind::DuplicateEntry,
     ),
     (
-        b"NAME          T
-ROWS
- N  COST
-COLUMNS
-    M1        'MARKER'
-ENDATA
-",
+        b"    M1        'MARKER'\nENDATA\n",
         5,
         DeckFaultKind::Marker,
     ),
     (
-        b"NAME          T
-ROWS
- N  COST
-COLUMNS
-    X         COST      1.2.3
-ENDATA
-",
+        b"    X         COST      1.2.3\nENDATA\n",
         5,
         DeckFaultKind::Number(NumberFault::BadCharacter(4), 28),
     ),
     (
-        b"NAME          T
-ROWS
- N  COST
-COLUMNS
-    X         COST      1E19
-ENDATA
-",
+        b"    X         COST      1E19\nENDATA\n",
         5,
         DeckFaultKind::Number(NumberFault::ExponentRange, 0),
     ),
@@ -139,138 +106,56 @@ ENDATA
 
 const ENTRIES: [DeckOfFault; 6] = [
     (
-        b"NAME          T
-ROWS
- N  COST
-COLUMNS
-    X         COST      -.
-ENDATA
-",
+        b"    X         COST      -.\nENDATA\n",
         5,
         DeckFaultKind::Number(NumberFault::NoDigit, 0),
     ),
     (
-        b"NAME          T
-ROWS
- N  COST
-COLUMNS
-    X         COST
-ENDATA
-",
+        b"    X         COST\nENDATA\n",
         5,
         DeckFaultKind::Number(NumberFault::Empty, 0),
     ),
     (
-        b"NAME          T
-ROWS
- N  COST
-COLUMNS
-    X         GAIN      1
-ENDATA
-",
+        b"    X         GAIN      1\nENDATA\n",
         5,
         DeckFaultKind::UnknownRow,
     ),
     (
-        b"NAME          T
-ROWS
- N  COST
-COLUMNS
-    X         COST      1              GAIN      1
-ENDATA
-",
+        b"    X         COST      1              GAIN      1\nENDATA\n",
         5,
         DeckFaultKind::UnknownRow,
     ),
     (
-        b"NAME          T
-ROWS
- N  COST
-COLUMNS
-              COST      1
-ENDATA
-",
+        b"              COST      1\nENDATA\n",
         5,
         DeckFaultKind::EmptyName,
     ),
     // The first pair of a card is there.
     (
-        b"NAME          T
-ROWS
- N  COST
-COLUMNS
-    X                                  COST      1
-ENDATA
-",
+        b"    X                                  COST      1\nENDATA\n",
         5,
         DeckFaultKind::EmptyName,
     ),
 ];
 
-const FREE_DECKS: [DeckOfFault; 6] = [
+const FREE_DECKS: [DeckOfFault; 5] = [
+    (b" X COST\n", 6, DeckFaultKind::WordCount),
+    (b" LONGNAME9 COST 1\n", 6, DeckFaultKind::LongName),
+    (b" X COST 1234567890123\n", 6, DeckFaultKind::LongNumber),
     (
-        b"NAME          ONE       FREE
-ROWS
- N COST
- G LOW
-COLUMNS
- X COST
-",
-        6,
-        DeckFaultKind::WordCount,
-    ),
-    (
-        b"NAME          ONE       FREE
-ROWS
- N COST
- G LOW
-COLUMNS
- LONGNAME9 COST 1
-",
-        6,
-        DeckFaultKind::LongName,
-    ),
-    (
-        b"NAME          ONE       FREE
-ROWS
- N COST
- G LOW
-COLUMNS
- X COST 1234567890123
-",
-        6,
-        DeckFaultKind::LongNumber,
-    ),
-    (
-        b"NAME          ONE       FREE
-ROWS
- N COST
- G LOW
-COLUMNS
- X COST 1 LOW 1.2.3
-",
+        b" X COST 1 LOW 1.2.3\n",
         6,
         DeckFaultKind::Number(NumberFault::BadCharacter(4), 18),
     ),
-    (
-        b"NAME          ONE       FREE
-ROWS
- N COST
- G LOW
-COLUMNS
- X COST 1
-BOUNDS
- UP X
-",
-        8,
-        DeckFaultKind::WordCount,
-    ),
-    (
-        b"NAME          ONE      FREE\nROWS\n N COST\n",
-        3,
-        DeckFaultKind::ExtraField,
-    ),
+    (b" X COST 1\nBOUNDS\n UP X\n", 8, DeckFaultKind::WordCount),
 ];
+
+// A card NAME whose last word isn't in its columns.
+const FREE_NAMES: [DeckOfFault; 1] = [(
+    b"NAME          ONE      FREE\nROWS\n N COST\n",
+    3,
+    DeckFaultKind::ExtraField,
+)];
 
 // Decks of one name, and the cards that stand before each of them.
 #[derive(Clone, Copy)]
@@ -279,6 +164,25 @@ struct Group {
     before: &'static [u8],
     decks: &'static [DeckOfFault],
 }
+
+// The row COST. The cards after these are the fifth and on.
+const A_ROW: &[u8] = b"NAME          T\nROWS\n N  COST\nCOLUMNS\n";
+
+// The same with the column X. The cards after these are the sixth and on.
+const ONE_COLUMN: &[u8] = b"NAME          T
+ROWS
+ N  COST
+COLUMNS
+    X         COST      1
+";
+
+// The rows COST and LOW of a free deck. The cards after these are the sixth and on.
+const FREE_COLUMNS: &[u8] = b"NAME          ONE       FREE
+ROWS
+ N COST
+ G LOW
+COLUMNS
+";
 
 // The rows COST and LIM and the column X on COST. The cards after these are the seventh and on.
 pub const A_COLUMN: &[u8] = b"NAME          T
@@ -289,7 +193,7 @@ COLUMNS
     X         COST      1
 ";
 
-const GROUPS: [Group; 12] = [
+const GROUPS: [Group; 13] = [
     Group {
         name: "sections",
         before: b"",
@@ -302,18 +206,23 @@ const GROUPS: [Group; 12] = [
     },
     Group {
         name: "columns",
-        before: b"",
+        before: A_ROW,
         decks: &COLUMNS,
     },
     Group {
         name: "entries",
-        before: b"",
+        before: A_ROW,
         decks: &ENTRIES,
     },
     Group {
         name: "free decks",
-        before: b"",
+        before: FREE_COLUMNS,
         decks: &FREE_DECKS,
+    },
+    Group {
+        name: "free decks",
+        before: b"",
+        decks: &FREE_NAMES,
     },
     Group {
         name: "combinations",
@@ -332,7 +241,7 @@ const GROUPS: [Group; 12] = [
     },
     Group {
         name: "sets",
-        before: b"",
+        before: ONE_COLUMN,
         decks: &SETS,
     },
     Group {

@@ -7,83 +7,31 @@ use std::test::Fail;
 
 pub const SETS: [DeckOfFault; 6] = [
     (
-        b"NAME          T
-ROWS
- N  COST
-COLUMNS
-    X         COST      1
-RANGES
-    RNG       COST      4
-ENDATA
-",
+        b"RANGES\n    RNG       COST      4\nENDATA\n",
         7,
         DeckFaultKind::RangeOnFree,
     ),
     (
-        b"NAME          T
-ROWS
- N  COST
-COLUMNS
-    X         COST      1
-BOUNDS
- BV BND       X         1
-ENDATA
-",
+        b"BOUNDS\n BV BND       X         1\nENDATA\n",
         7,
         DeckFaultKind::BadBoundType,
     ),
     (
-        b"NAME          T
-ROWS
- N  COST
-COLUMNS
-    X         COST      1
-BOUNDS
- UP BND       Y         1
-ENDATA
-",
+        b"BOUNDS\n UP BND       Y         1\nENDATA\n",
         7,
         DeckFaultKind::UnknownColumn,
     ),
     (
-        b"NAME          T
-ROWS
- N  COST
-COLUMNS
-    X         COST      1
-BOUNDS
- MI BND       X
- FX BND       X         1
-",
+        b"BOUNDS\n MI BND       X\n FX BND       X         1\n",
         8,
         DeckFaultKind::BoundTwice,
     ),
     (
-        b"NAME          T
-ROWS
- N  COST
-COLUMNS
-    X         COST      1
-RHS
-    A         COST      1
-    A         COST      2
-",
+        b"RHS\n    A         COST      1\n    A         COST      2\n",
         8,
         DeckFaultKind::DuplicateEntry,
     ),
-    (
-        b"NAME          T
-ROWS
- N  COST
-COLUMNS
-    X         COST      1
-BOUNDS
-RHS
-ENDATA
-",
-        7,
-        DeckFaultKind::SectionOrder,
-    ),
+    (b"BOUNDS\nRHS\nENDATA\n", 7, DeckFaultKind::SectionOrder),
 ];
 
 pub const SECOND_PAIRS: [DeckOfFault; 6] = [

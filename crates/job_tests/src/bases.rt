@@ -1,39 +1,24 @@
 // Bases that go out as decks and come in again.
+use crate::problems::{ENDATA, SINGULAR, SMALL, TESTPROB_BASIS, TESTPROB_CARDS, TWINS};
+use crate::programs::{INSERT, INSERT_BND};
 use crate::rows::DeckRow;
 
 /// Programs of PUNCH and INSERT, with their listings and the cards that they punch.
 pub const BASES: [DeckRow; 17] = [
     DeckRow {
         name: "punch basis",
-        job: b"         PROGRAM
+        job: &[
+            b"         PROGRAM
          CONVERT
          SETUP('BOUND','BND1')
          PRIMAL
          PUNCH
          EXIT
          PEND
-NAME          TESTPROB
-ROWS
- N  COST
- L  LIM1
- G  LIM2
- E  MYEQN
-COLUMNS
-    XONE      COST      1              LIM1      1
-    XONE      LIM2      1
-    YTWO      COST      4              LIM1      1
-    YTWO      MYEQN     -1
-    ZTHREE    COST      9              LIM2      1
-    ZTHREE    MYEQN     1
-RHS
-    RHS       LIM1      5              LIM2      10
-    RHS       MYEQN     7
-BOUNDS
- UP BND1      XONE      4
- LO BND1      YTWO      -1
- UP BND1      YTWO      1
-ENDATA
 ",
+            TESTPROB_CARDS,
+            ENDATA,
+        ],
         status: 0,
         listing: b"CONVERT TESTPROB ROWS 4 COLUMNS 3 ENTRIES 9
 SETUP   TESTPROB MIN
@@ -41,11 +26,12 @@ PRIMAL OPTIMAL STEPS 3 OBJECTIVE 54 CHECKED
 PUNCH   TESTPROB CARDS 4
 END 0
 ",
-        cards: b"NAME          TESTPROB\n XL XONE      LIM2\n XL ZTHREE    MYEQN\nENDATA\n",
+        cards: TESTPROB_BASIS,
     },
     DeckRow {
         name: "insert basis",
-        job: b"         PROGRAM
+        job: &[
+            b"         PROGRAM
          CONVERT
          SETUP('BOUND','BND1')
          INSERT
@@ -53,32 +39,11 @@ END 0
          PUNCH
          EXIT
          PEND
-NAME          TESTPROB
-ROWS
- N  COST
- L  LIM1
- G  LIM2
- E  MYEQN
-COLUMNS
-    XONE      COST      1              LIM1      1
-    XONE      LIM2      1
-    YTWO      COST      4              LIM1      1
-    YTWO      MYEQN     -1
-    ZTHREE    COST      9              LIM2      1
-    ZTHREE    MYEQN     1
-RHS
-    RHS       LIM1      5              LIM2      10
-    RHS       MYEQN     7
-BOUNDS
- UP BND1      XONE      4
- LO BND1      YTWO      -1
- UP BND1      YTWO      1
-ENDATA
-NAME          TESTPROB
- XL XONE      LIM2
- XL ZTHREE    MYEQN
-ENDATA
 ",
+            TESTPROB_CARDS,
+            ENDATA,
+            TESTPROB_BASIS,
+        ],
         status: 0,
         listing: b"CONVERT TESTPROB ROWS 4 COLUMNS 3 ENTRIES 9
 SETUP   TESTPROB MIN
@@ -87,34 +52,19 @@ PRIMAL OPTIMAL STEPS 0 OBJECTIVE 54 CHECKED
 PUNCH   TESTPROB CARDS 4
 END 0
 ",
-        cards: b"NAME          TESTPROB\n XL XONE      LIM2\n XL ZTHREE    MYEQN\nENDATA\n",
+        cards: TESTPROB_BASIS,
     },
     DeckRow {
         name: "insert singular",
-        job: b"         PROGRAM
-         CONVERT
-         SETUP
-         INSERT
-         EXIT
-         PEND
-NAME          T
-ROWS
- N  COST
- G  A
- G  B
-COLUMNS
-    X         COST      1
-    X         A         1
-    X         B         1
-    Y         COST      2
-    Y         A         1
-    Y         B         1
-ENDATA
-NAME          S
+        job: &[
+            INSERT,
+            TWINS,
+            b"NAME          S
  XL X         A
  XL Y         B
 ENDATA
 ",
+        ],
         status: 10,
         listing: b"CONVERT T        ROWS 3 COLUMNS 2 ENTRIES 6
 SETUP   T        MIN
@@ -127,30 +77,15 @@ STOP 10 VERB FAULT 15 CARD 4
     },
     DeckRow {
         name: "insert bad code",
-        job: b"         PROGRAM
-         CONVERT
-         SETUP
-         INSERT
-         EXIT
-         PEND
-NAME          T
-ROWS
- N  COST
- G  A
- G  B
-COLUMNS
-    X         COST      1
-    X         A         1
-    X         B         1
-    Y         COST      2
-    Y         A         1
-    Y         B         1
-ENDATA
-NAME          S
+        job: &[
+            INSERT,
+            TWINS,
+            b"NAME          S
  XX X         A
  XL Y         B
 ENDATA
 ",
+        ],
         status: 12,
         listing: b"CONVERT T        ROWS 3 COLUMNS 2 ENTRIES 6
 SETUP   T        MIN
@@ -160,40 +95,17 @@ STOP 12 DECK FAULT 30 CARD 21
     },
     DeckRow {
         name: "punch with upper limits",
-        job: b"         PROGRAM
+        job: &[
+            b"         PROGRAM
          CONVERT
          SETUP('BOUND','BND')
          PRIMAL
          PUNCH
          EXIT
          PEND
-NAME          SMALL
-ROWS
- N  COST
- L  UPR
- G  LOR
- E  EQ
-COLUMNS
-    A         COST      -3
-    A         UPR       1
-    A         EQ        1
-    B         COST      -2
-    B         UPR       1
-    B         LOR       1
-    C         COST      1
-    C         LOR       1
-    C         EQ        1
-RHS
-    B         UPR       4
-    B         LOR       1
-    B         EQ        3
-BOUNDS
- UP BND       A         2
- UP BND       C         5
- MI BND       B
- UP BND       B         1
-ENDATA
 ",
+            SMALL,
+        ],
         status: 0,
         listing: b"CONVERT SMALL    ROWS 4 COLUMNS 3 ENTRIES 9
 SETUP   SMALL    MIN
@@ -205,39 +117,16 @@ END 0
     },
     DeckRow {
         name: "punch of the opening basis",
-        job: b"         PROGRAM
+        job: &[
+            b"         PROGRAM
          CONVERT
          SETUP('BOUND','BND')
          PUNCH
          EXIT
          PEND
-NAME          SMALL
-ROWS
- N  COST
- L  UPR
- G  LOR
- E  EQ
-COLUMNS
-    A         COST      -3
-    A         UPR       1
-    A         EQ        1
-    B         COST      -2
-    B         UPR       1
-    B         LOR       1
-    C         COST      1
-    C         LOR       1
-    C         EQ        1
-RHS
-    B         UPR       4
-    B         LOR       1
-    B         EQ        3
-BOUNDS
- UP BND       A         2
- UP BND       C         5
- MI BND       B
- UP BND       B         1
-ENDATA
 ",
+            SMALL,
+        ],
         status: 0,
         listing: b"CONVERT SMALL    ROWS 4 COLUMNS 3 ENTRIES 9
 SETUP   SMALL    MIN
@@ -248,7 +137,8 @@ END 0
     },
     DeckRow {
         name: "insert and punch",
-        job: b"         PROGRAM
+        job: &[
+            b"         PROGRAM
          CONVERT
          SETUP('BOUND','BND')
          INSERT
@@ -256,38 +146,15 @@ END 0
          PRIMAL
          EXIT
          PEND
-NAME          SMALL
-ROWS
- N  COST
- L  UPR
- G  LOR
- E  EQ
-COLUMNS
-    A         COST      -3
-    A         UPR       1
-    A         EQ        1
-    B         COST      -2
-    B         UPR       1
-    B         LOR       1
-    C         COST      1
-    C         LOR       1
-    C         EQ        1
-RHS
-    B         UPR       4
-    B         LOR       1
-    B         EQ        3
-BOUNDS
- UP BND       A         2
- UP BND       C         5
- MI BND       B
- UP BND       B         1
-ENDATA
-NAME          START
+",
+            SMALL,
+            b"NAME          START
  XU A         UPR
  XL C         EQ
  UL B
 ENDATA
 ",
+        ],
         status: 0,
         listing: b"CONVERT SMALL    ROWS 4 COLUMNS 3 ENTRIES 9
 SETUP   SMALL    MIN
@@ -300,42 +167,20 @@ END 0
     },
     DeckRow {
         name: "insert of no card",
-        job: b"         PROGRAM
+        job: &[
+            b"         PROGRAM
          CONVERT
          SETUP('BOUND','BND')
          INSERT
          PRIMAL
          EXIT
          PEND
-NAME          SMALL
-ROWS
- N  COST
- L  UPR
- G  LOR
- E  EQ
-COLUMNS
-    A         COST      -3
-    A         UPR       1
-    A         EQ        1
-    B         COST      -2
-    B         UPR       1
-    B         LOR       1
-    C         COST      1
-    C         LOR       1
-    C         EQ        1
-RHS
-    B         UPR       4
-    B         LOR       1
-    B         EQ        3
-BOUNDS
- UP BND       A         2
- UP BND       C         5
- MI BND       B
- UP BND       B         1
-ENDATA
-NAME          NOTHING   FREE
+",
+            SMALL,
+            b"NAME          NOTHING   FREE
 ENDATA
 ",
+        ],
         status: 0,
         listing: b"CONVERT SMALL    ROWS 4 COLUMNS 3 ENTRIES 9
 SETUP   SMALL    MIN
@@ -347,44 +192,22 @@ END 0
     },
     DeckRow {
         name: "insert of limits",
-        job: b"         PROGRAM
+        job: &[
+            b"         PROGRAM
          CONVERT
          SETUP('BOUND','BND')
          INSERT
          PUNCH
          EXIT
          PEND
-NAME          SMALL
-ROWS
- N  COST
- L  UPR
- G  LOR
- E  EQ
-COLUMNS
-    A         COST      -3
-    A         UPR       1
-    A         EQ        1
-    B         COST      -2
-    B         UPR       1
-    B         LOR       1
-    C         COST      1
-    C         LOR       1
-    C         EQ        1
-RHS
-    B         UPR       4
-    B         LOR       1
-    B         EQ        3
-BOUNDS
- UP BND       A         2
- UP BND       C         5
- MI BND       B
- UP BND       B         1
-ENDATA
-NAME          S
+",
+            SMALL,
+            b"NAME          S
  LL A
  UL C
 ENDATA
 ",
+        ],
         status: 0,
         listing: b"CONVERT SMALL    ROWS 4 COLUMNS 3 ENTRIES 9
 SETUP   SMALL    MIN
@@ -396,7 +219,8 @@ END 0
     },
     DeckRow {
         name: "insert by the name of the deck",
-        job: b"         PROGRAM
+        job: &[
+            b"         PROGRAM
          CONVERT
          SETUP('BOUND','BND')
          MOVE(XDATA,'SECOND')
@@ -404,39 +228,16 @@ END 0
          INSERT
          EXIT
          PEND
-NAME          SMALL
-ROWS
- N  COST
- L  UPR
- G  LOR
- E  EQ
-COLUMNS
-    A         COST      -3
-    A         UPR       1
-    A         EQ        1
-    B         COST      -2
-    B         UPR       1
-    B         LOR       1
-    C         COST      1
-    C         LOR       1
-    C         EQ        1
-RHS
-    B         UPR       4
-    B         LOR       1
-    B         EQ        3
-BOUNDS
- UP BND       A         2
- UP BND       C         5
- MI BND       B
- UP BND       B         1
-ENDATA
-NAME          FIRST
+",
+            SMALL,
+            b"NAME          FIRST
 ENDATA
 NAME          SECOND
 ENDATA
 NAME          THIRD
 ENDATA
 ",
+        ],
         status: 10,
         listing: b"CONVERT SMALL    ROWS 4 COLUMNS 3 ENTRIES 9
 SETUP   SMALL    MIN
@@ -447,7 +248,8 @@ STOP 10 VERB FAULT 1 CARD 6
     },
     DeckRow {
         name: "insert clears the mark",
-        job: b"         PROGRAM
+        job: &[
+            b"         PROGRAM
          CONVERT
          SETUP('BOUND','BND')
          PRIMAL
@@ -455,35 +257,12 @@ STOP 10 VERB FAULT 1 CARD 6
          SOLUTION
          EXIT
          PEND
-NAME          SMALL
-ROWS
- N  COST
- L  UPR
- G  LOR
- E  EQ
-COLUMNS
-    A         COST      -3
-    A         UPR       1
-    A         EQ        1
-    B         COST      -2
-    B         UPR       1
-    B         LOR       1
-    C         COST      1
-    C         LOR       1
-    C         EQ        1
-RHS
-    B         UPR       4
-    B         LOR       1
-    B         EQ        3
-BOUNDS
- UP BND       A         2
- UP BND       C         5
- MI BND       B
- UP BND       B         1
-ENDATA
-NAME          S
+",
+            SMALL,
+            b"NAME          S
 ENDATA
 ",
+        ],
         status: 10,
         listing: b"CONVERT SMALL    ROWS 4 COLUMNS 3 ENTRIES 9
 SETUP   SMALL    MIN
@@ -495,39 +274,7 @@ STOP 10 VERB FAULT 4 CARD 6
     },
     DeckRow {
         name: "no basis deck",
-        job: b"         PROGRAM
-         CONVERT
-         SETUP('BOUND','BND')
-         INSERT
-         EXIT
-         PEND
-NAME          SMALL
-ROWS
- N  COST
- L  UPR
- G  LOR
- E  EQ
-COLUMNS
-    A         COST      -3
-    A         UPR       1
-    A         EQ        1
-    B         COST      -2
-    B         UPR       1
-    B         LOR       1
-    C         COST      1
-    C         LOR       1
-    C         EQ        1
-RHS
-    B         UPR       4
-    B         LOR       1
-    B         EQ        3
-BOUNDS
- UP BND       A         2
- UP BND       C         5
- MI BND       B
- UP BND       B         1
-ENDATA
-",
+        job: &[INSERT_BND, SMALL],
         status: 10,
         listing: b"CONVERT SMALL    ROWS 4 COLUMNS 3 ENTRIES 9
 SETUP   SMALL    MIN
@@ -537,43 +284,15 @@ STOP 10 VERB FAULT 1 CARD 4
     },
     DeckRow {
         name: "a row named twice",
-        job: b"         PROGRAM
-         CONVERT
-         SETUP('BOUND','BND')
-         INSERT
-         EXIT
-         PEND
-NAME          SMALL
-ROWS
- N  COST
- L  UPR
- G  LOR
- E  EQ
-COLUMNS
-    A         COST      -3
-    A         UPR       1
-    A         EQ        1
-    B         COST      -2
-    B         UPR       1
-    B         LOR       1
-    C         COST      1
-    C         LOR       1
-    C         EQ        1
-RHS
-    B         UPR       4
-    B         LOR       1
-    B         EQ        3
-BOUNDS
- UP BND       A         2
- UP BND       C         5
- MI BND       B
- UP BND       B         1
-ENDATA
-NAME          S
+        job: &[
+            INSERT_BND,
+            SMALL,
+            b"NAME          S
  XU A         UPR
  XU B         UPR
 ENDATA
 ",
+        ],
         status: 12,
         listing: b"CONVERT SMALL    ROWS 4 COLUMNS 3 ENTRIES 9
 SETUP   SMALL    MIN
@@ -583,42 +302,14 @@ STOP 12 DECK FAULT 31 CARD 35
     },
     DeckRow {
         name: "a third name",
-        job: b"         PROGRAM
-         CONVERT
-         SETUP('BOUND','BND')
-         INSERT
-         EXIT
-         PEND
-NAME          SMALL
-ROWS
- N  COST
- L  UPR
- G  LOR
- E  EQ
-COLUMNS
-    A         COST      -3
-    A         UPR       1
-    A         EQ        1
-    B         COST      -2
-    B         UPR       1
-    B         LOR       1
-    C         COST      1
-    C         LOR       1
-    C         EQ        1
-RHS
-    B         UPR       4
-    B         LOR       1
-    B         EQ        3
-BOUNDS
- UP BND       A         2
- UP BND       C         5
- MI BND       B
- UP BND       B         1
-ENDATA
-NAME          S
+        job: &[
+            INSERT_BND,
+            SMALL,
+            b"NAME          S
  LL B         UPR
 ENDATA
 ",
+        ],
         status: 12,
         listing: b"CONVERT SMALL    ROWS 4 COLUMNS 3 ENTRIES 9
 SETUP   SMALL    MIN
@@ -628,41 +319,13 @@ STOP 12 DECK FAULT 32 CARD 34
     },
     DeckRow {
         name: "a basis deck without its end",
-        job: b"         PROGRAM
-         CONVERT
-         SETUP('BOUND','BND')
-         INSERT
-         EXIT
-         PEND
-NAME          SMALL
-ROWS
- N  COST
- L  UPR
- G  LOR
- E  EQ
-COLUMNS
-    A         COST      -3
-    A         UPR       1
-    A         EQ        1
-    B         COST      -2
-    B         UPR       1
-    B         LOR       1
-    C         COST      1
-    C         LOR       1
-    C         EQ        1
-RHS
-    B         UPR       4
-    B         LOR       1
-    B         EQ        3
-BOUNDS
- UP BND       A         2
- UP BND       C         5
- MI BND       B
- UP BND       B         1
-ENDATA
-NAME          S
+        job: &[
+            INSERT_BND,
+            SMALL,
+            b"NAME          S
  UL A
 ",
+        ],
         status: 12,
         listing: b"CONVERT SMALL    ROWS 4 COLUMNS 3 ENTRIES 9
 SETUP   SMALL    MIN
@@ -672,37 +335,15 @@ STOP 12 DECK FAULT 13 CARD 34
     },
     DeckRow {
         name: "a singular basis",
-        job: b"         PROGRAM
-         CONVERT
-         SETUP
-         INSERT
-         EXIT
-         PEND
-NAME          SING
-ROWS
- N  COST
- E  A
- E  B
- G  D
-COLUMNS
-    P         COST      1
-    P         A         1
-    P         B         2
-    Q         COST      1
-    Q         A         2
-    Q         B         4
-    Q         D         1
-    T         COST      5
-    T         A         1
-    T         D         1
-RHS
-    B         A         3
-ENDATA
-NAME          S
+        job: &[
+            INSERT,
+            SINGULAR,
+            b"NAME          S
  XL Q         A
  XL P         B
 ENDATA
 ",
+        ],
         status: 10,
         listing: b"CONVERT SING     ROWS 4 COLUMNS 3 ENTRIES 10
 SETUP   SING     MIN
@@ -716,39 +357,23 @@ STOP 10 VERB FAULT 15 CARD 4
     },
     DeckRow {
         name: "a basis of three columns",
-        job: b"         PROGRAM
+        job: &[
+            b"         PROGRAM
          CONVERT
          SETUP
          INSERT
          PUNCH
          EXIT
          PEND
-NAME          SING
-ROWS
- N  COST
- E  A
- E  B
- G  D
-COLUMNS
-    P         COST      1
-    P         A         1
-    P         B         2
-    Q         COST      1
-    Q         A         2
-    Q         B         4
-    Q         D         1
-    T         COST      5
-    T         A         1
-    T         D         1
-RHS
-    B         A         3
-ENDATA
-NAME          S
+",
+            SINGULAR,
+            b"NAME          S
  XL Q         A
  XL P         B
  XL T         D
 ENDATA
 ",
+        ],
         status: 0,
         listing: b"CONVERT SING     ROWS 4 COLUMNS 3 ENTRIES 10
 SETUP   SING     MIN

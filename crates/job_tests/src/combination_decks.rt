@@ -1,18 +1,15 @@
 // Combination rows: cards that are refused for one, and revisions that state them.
+use crate::problems::SUM;
+use crate::programs::{CONVERT, REVISE, REVISE_AND_SOLVE, SOLVE};
 use crate::rows::{DeckRow, Row};
 
 /// Cards that are refused for a combination.
 pub const FAULTS: [Row; 16] = [
     Row {
         name: "an entry on a combination",
-        job: b"         PROGRAM
-         CONVERT
-         SETUP
-         PRIMAL
-         SOLUTION
-         EXIT
-         PEND
-NAME          T
+        job: &[
+            SOLVE,
+            b"NAME          T
 ROWS
  N  COST
  L  A
@@ -30,16 +27,15 @@ RHS
     B1        S         4
 ENDATA
 ",
+        ],
         status: 12,
         listing: b"STOP 12 DECK FAULT 28 CARD 17\n",
     },
     Row {
         name: "a range on a free combination",
-        job: b"         PROGRAM
-         CONVERT
-         EXIT
-         PEND
-NAME          T
+        job: &[
+            CONVERT,
+            b"NAME          T
 ROWS
  N  COST
  DN S         COST      1
@@ -49,16 +45,15 @@ RANGES
     R         S         1
 ENDATA
 ",
+        ],
         status: 12,
         listing: b"STOP 12 DECK FAULT 9 CARD 12\n",
     },
     Row {
         name: "a part on the combination itself",
-        job: b"         PROGRAM
-         CONVERT
-         EXIT
-         PEND
-NAME          T
+        job: &[
+            CONVERT,
+            b"NAME          T
 ROWS
  N  COST
  DL S         S         1
@@ -66,16 +61,15 @@ COLUMNS
     X         COST      1
 ENDATA
 ",
+        ],
         status: 12,
         listing: b"STOP 12 DECK FAULT 6 CARD 8\n",
     },
     Row {
         name: "a part on a later row",
-        job: b"         PROGRAM
-         CONVERT
-         EXIT
-         PEND
-NAME          T
+        job: &[
+            CONVERT,
+            b"NAME          T
 ROWS
  N  COST
  DL S         A         1
@@ -84,16 +78,15 @@ COLUMNS
     X         COST      1
 ENDATA
 ",
+        ],
         status: 12,
         listing: b"STOP 12 DECK FAULT 6 CARD 8\n",
     },
     Row {
         name: "a part twice",
-        job: b"         PROGRAM
-         CONVERT
-         EXIT
-         PEND
-NAME          T
+        job: &[
+            CONVERT,
+            b"NAME          T
 ROWS
  N  COST
  L  A
@@ -103,16 +96,15 @@ COLUMNS
     X         COST      1
 ENDATA
 ",
+        ],
         status: 12,
         listing: b"STOP 12 DECK FAULT 7 CARD 10\n",
     },
     Row {
         name: "another type for a combination",
-        job: b"         PROGRAM
-         CONVERT
-         EXIT
-         PEND
-NAME          T
+        job: &[
+            CONVERT,
+            b"NAME          T
 ROWS
  N  COST
  L  A
@@ -122,16 +114,15 @@ COLUMNS
     X         COST      1
 ENDATA
 ",
+        ],
         status: 12,
         listing: b"STOP 12 DECK FAULT 4 CARD 10\n",
     },
     Row {
         name: "a plain row with a part",
-        job: b"         PROGRAM
-         CONVERT
-         EXIT
-         PEND
-NAME          T
+        job: &[
+            CONVERT,
+            b"NAME          T
 ROWS
  N  COST
  L  A         COST      1
@@ -139,16 +130,15 @@ COLUMNS
     X         COST      1
 ENDATA
 ",
+        ],
         status: 12,
         listing: b"STOP 12 DECK FAULT 20 CARD 8\n",
     },
     Row {
         name: "a part without a number",
-        job: b"         PROGRAM
-         CONVERT
-         EXIT
-         PEND
-NAME          T
+        job: &[
+            CONVERT,
+            b"NAME          T
 ROWS
  N  COST
  DL S         COST
@@ -156,32 +146,30 @@ COLUMNS
     X         COST      1
 ENDATA
 ",
+        ],
         status: 12,
         listing: b"STOP 12 DECK FAULT 8 CARD 8 NUMBER 1\n",
     },
     Row {
         name: "a part without a row",
-        job: b"         PROGRAM
-         CONVERT
-         EXIT
-         PEND
-NAME          T
+        job: &[
+            CONVERT,
+            b"NAME          T
 ROWS
  N  COST
  DL S                   2
 COLUMNS
 ENDATA
 ",
+        ],
         status: 12,
         listing: b"STOP 12 DECK FAULT 15 CARD 8\n",
     },
     Row {
         name: "a combination after another row",
-        job: b"         PROGRAM
-         CONVERT
-         EXIT
-         PEND
-NAME          T
+        job: &[
+            CONVERT,
+            b"NAME          T
 ROWS
  N  COST
  DL S         COST      1
@@ -191,180 +179,97 @@ COLUMNS
     X         COST      1
 ENDATA
 ",
+        ],
         status: 12,
         listing: b"STOP 12 DECK FAULT 4 CARD 10\n",
     },
     Row {
         name: "a part on a row that comes later",
-        job: b"         PROGRAM
-         CONVERT
-         REVISE
-         EXIT
-         PEND
-NAME          T
-ROWS
- N  COST
- L  A
- L  B
- DL S         A         1              B         1
-COLUMNS
-    X         COST      -1             A         1
-    Y         COST      -1             B         1
-RHS
-    B         A         3              B         3
-    B         S         4
-ENDATA
-NAME          NEXT
+        job: &[
+            REVISE,
+            SUM,
+            b"NAME          NEXT
 ROWS
  BEFORE       B
  DL U         B         1
 ENDATA
 ",
+        ],
         status: 12,
         listing: b"CONVERT T        ROWS 4 COLUMNS 2 ENTRIES 4\nSTOP 12 DECK FAULT 6 CARD 22\n",
     },
     Row {
         name: "a plain type for a combination",
-        job: b"         PROGRAM
-         CONVERT
-         REVISE
-         EXIT
-         PEND
-NAME          T
-ROWS
- N  COST
- L  A
- L  B
- DL S         A         1              B         1
-COLUMNS
-    X         COST      -1             A         1
-    Y         COST      -1             B         1
-RHS
-    B         A         3              B         3
-    B         S         4
-ENDATA
-NAME          NEXT
+        job: &[
+            REVISE,
+            SUM,
+            b"NAME          NEXT
 ROWS
  MODIFY
  L  S
 ENDATA
 ",
+        ],
         status: 12,
         listing: b"CONVERT T        ROWS 4 COLUMNS 2 ENTRIES 4\nSTOP 12 DECK FAULT 3 CARD 22\n",
     },
     Row {
         name: "a combination's type for a plain row",
-        job: b"         PROGRAM
-         CONVERT
-         REVISE
-         EXIT
-         PEND
-NAME          T
-ROWS
- N  COST
- L  A
- L  B
- DL S         A         1              B         1
-COLUMNS
-    X         COST      -1             A         1
-    Y         COST      -1             B         1
-RHS
-    B         A         3              B         3
-    B         S         4
-ENDATA
-NAME          NEXT
+        job: &[
+            REVISE,
+            SUM,
+            b"NAME          NEXT
 ROWS
  MODIFY
  DL A         COST      1
 ENDATA
 ",
+        ],
         status: 12,
         listing: b"CONVERT T        ROWS 4 COLUMNS 2 ENTRIES 4\nSTOP 12 DECK FAULT 3 CARD 22\n",
     },
     Row {
         name: "a row without a name modified",
-        job: b"         PROGRAM
-         CONVERT
-         REVISE
-         EXIT
-         PEND
-NAME          T
-ROWS
- N  COST
- L  A
- L  B
- DL S         A         1              B         1
-COLUMNS
-    X         COST      -1             A         1
-    Y         COST      -1             B         1
-RHS
-    B         A         3              B         3
-    B         S         4
-ENDATA
-NAME          NEXT
+        job: &[
+            REVISE,
+            SUM,
+            b"NAME          NEXT
 ROWS
  MODIFY
  Q
 ENDATA
 ",
+        ],
         status: 12,
         listing: b"CONVERT T        ROWS 4 COLUMNS 2 ENTRIES 4\nSTOP 12 DECK FAULT 15 CARD 22\n",
     },
     Row {
         name: "an unknown row of an unknown type",
-        job: b"         PROGRAM
-         CONVERT
-         REVISE
-         EXIT
-         PEND
-NAME          T
-ROWS
- N  COST
- L  A
- L  B
- DL S         A         1              B         1
-COLUMNS
-    X         COST      -1             A         1
-    Y         COST      -1             B         1
-RHS
-    B         A         3              B         3
-    B         S         4
-ENDATA
-NAME          NEXT
+        job: &[
+            REVISE,
+            SUM,
+            b"NAME          NEXT
 ROWS
  MODIFY
  Q  NOROW
 ENDATA
 ",
+        ],
         status: 12,
         listing: b"CONVERT T        ROWS 4 COLUMNS 2 ENTRIES 4\nSTOP 12 DECK FAULT 24 CARD 22\n",
     },
     Row {
         name: "an entry put on a combination",
-        job: b"         PROGRAM
-         CONVERT
-         REVISE
-         EXIT
-         PEND
-NAME          T
-ROWS
- N  COST
- L  A
- L  B
- DL S         A         1              B         1
-COLUMNS
-    X         COST      -1             A         1
-    Y         COST      -1             B         1
-RHS
-    B         A         3              B         3
-    B         S         4
-ENDATA
-NAME          NEXT
+        job: &[
+            REVISE,
+            SUM,
+            b"NAME          NEXT
 COLUMNS
  MODIFY
     X         S         1
 ENDATA
 ",
+        ],
         status: 12,
         listing: b"CONVERT T        ROWS 4 COLUMNS 2 ENTRIES 4\nSTOP 12 DECK FAULT 28 CARD 22\n",
     },
@@ -374,34 +279,16 @@ ENDATA
 pub const REVISIONS: [DeckRow; 5] = [
     DeckRow {
         name: "a part replaced and another type",
-        job: b"         PROGRAM
-         CONVERT
-         REVISE
-         SETUP
-         PRIMAL
-         SOLUTION
-         BCDOUT
-         EXIT
-         PEND
-NAME          T
-ROWS
- N  COST
- L  A
- L  B
- DL S         A         1              B         1
-COLUMNS
-    X         COST      -1             A         1
-    Y         COST      -1             B         1
-RHS
-    B         A         3              B         3
-    B         S         4
-ENDATA
-NAME          NEXT
+        job: &[
+            REVISE_AND_SOLVE,
+            SUM,
+            b"NAME          NEXT
 ROWS
  MODIFY
  DG S         A         2
 ENDATA
 ",
+        ],
         status: 0,
         listing: b"CONVERT T        ROWS 4 COLUMNS 2 ENTRIES 4
 REVISE  NEXT     ROWS 4 COLUMNS 2 ENTRIES 4
@@ -442,7 +329,8 @@ ENDATA
     },
     DeckRow {
         name: "a part's row deleted",
-        job: b"         PROGRAM
+        job: &[
+            b"         PROGRAM
          CONVERT
          REVISE
          SETUP
@@ -450,25 +338,15 @@ ENDATA
          BCDOUT
          EXIT
          PEND
-NAME          T
-ROWS
- N  COST
- L  A
- L  B
- DL S         A         1              B         1
-COLUMNS
-    X         COST      -1             A         1
-    Y         COST      -1             B         1
-RHS
-    B         A         3              B         3
-    B         S         4
-ENDATA
-NAME          NEXT
+",
+            SUM,
+            b"NAME          NEXT
 ROWS
  DELETE
     A
 ENDATA
 ",
+        ],
         status: 2,
         listing: b"CONVERT T        ROWS 4 COLUMNS 2 ENTRIES 4
 REVISE  NEXT     ROWS 3 COLUMNS 2 ENTRIES 3
@@ -485,35 +363,17 @@ END 2
     },
     DeckRow {
         name: "a combination inserted on two cards",
-        job: b"         PROGRAM
-         CONVERT
-         REVISE
-         SETUP
-         PRIMAL
-         SOLUTION
-         BCDOUT
-         EXIT
-         PEND
-NAME          T
-ROWS
- N  COST
- L  A
- L  B
- DL S         A         1              B         1
-COLUMNS
-    X         COST      -1             A         1
-    Y         COST      -1             B         1
-RHS
-    B         A         3              B         3
-    B         S         4
-ENDATA
-NAME          NEXT
+        job: &[
+            REVISE_AND_SOLVE,
+            SUM,
+            b"NAME          NEXT
 ROWS
  BEFORE       B
  DL U         A         1
  DL U         COST      0
 ENDATA
 ",
+        ],
         status: 0,
         listing: b"CONVERT T        ROWS 4 COLUMNS 2 ENTRIES 4
 REVISE  NEXT     ROWS 5 COLUMNS 2 ENTRIES 4
@@ -557,29 +417,10 @@ ENDATA
     },
     DeckRow {
         name: "no parts left",
-        job: b"         PROGRAM
-         CONVERT
-         REVISE
-         SETUP
-         PRIMAL
-         SOLUTION
-         BCDOUT
-         EXIT
-         PEND
-NAME          T
-ROWS
- N  COST
- L  A
- L  B
- DL S         A         1              B         1
-COLUMNS
-    X         COST      -1             A         1
-    Y         COST      -1             B         1
-RHS
-    B         A         3              B         3
-    B         S         4
-ENDATA
-NAME          NEXT
+        job: &[
+            REVISE_AND_SOLVE,
+            SUM,
+            b"NAME          NEXT
 ROWS
  DELETE
     A
@@ -590,6 +431,7 @@ COLUMNS
     Y         COST      1
 ENDATA
 ",
+        ],
         status: 0,
         listing: b"CONVERT T        ROWS 4 COLUMNS 2 ENTRIES 4
 REVISE  NEXT     ROWS 2 COLUMNS 2 ENTRIES 2
@@ -621,7 +463,8 @@ ENDATA
     },
     DeckRow {
         name: "written and converted again",
-        job: b"         PROGRAM
+        job: &[
+            b"         PROGRAM
          CONVERT
          BCDOUT
          REVISE
@@ -652,6 +495,7 @@ COLUMNS
     X         A
 ENDATA
 ",
+        ],
         status: 0,
         listing: b"CONVERT T        ROWS 5 COLUMNS 2 ENTRIES 2
 BCDOUT  T        CARDS 17

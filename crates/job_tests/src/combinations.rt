@@ -1,21 +1,36 @@
 // Combination rows: plans over them, and the sums that are refused.
 use crate::combination_decks::{FAULTS, REVISIONS};
+use crate::problems::{CHAIRS, GREAT_PRODUCT, NESTED};
+use crate::programs::{SOLVE, SOLVE_MAX, SOLVE_RANGE};
 use crate::rows::Row;
 use crate::runs::{first_unpunched, first_unreported, is_begun};
 use std::test::Fail;
+
+// The listing of a combination that is the sum of two rows, solved.
+const SUM_SOLVED: &[u8] = b"CONVERT T        ROWS 4 COLUMNS 2 ENTRIES 4
+SETUP   T        MIN
+PRIMAL OPTIMAL STEPS 2 OBJECTIVE -4 CHECKED
+SOLUTION OPTIMAL
+SECTION 1 - ROWS
+NUMBER ROW AT ACTIVITY SLACK LOWER UPPER DUAL
+    1 COST     BS -4 4 NONE NONE 0
+    2 A        UL 3 0 NONE 3 0
+    3 B        BS 1 2 NONE 3 0
+    4 S        UL 4 0 NONE 4 -1
+SECTION 2 - COLUMNS
+NUMBER COLUMN AT ACTIVITY COST LOWER UPPER REDUCED
+    5 X        BS 3 -1 0 NONE 0
+    6 Y        BS 1 -1 0 NONE 0
+END 0
+";
 
 // Plans over combinations.
 const PLANS: [Row; 10] = [
     Row {
         name: "a combination row",
-        job: b"         PROGRAM
-         CONVERT
-         SETUP
-         PRIMAL
-         SOLUTION
-         EXIT
-         PEND
-NAME          T
+        job: &[
+            SOLVE,
+            b"NAME          T
 ROWS
  N  COST
  L  A
@@ -32,50 +47,13 @@ RHS
     B1        S         4
 ENDATA
 ",
+        ],
         status: 0,
-        listing: b"CONVERT T        ROWS 4 COLUMNS 2 ENTRIES 4
-SETUP   T        MIN
-PRIMAL OPTIMAL STEPS 2 OBJECTIVE -4 CHECKED
-SOLUTION OPTIMAL
-SECTION 1 - ROWS
-NUMBER ROW AT ACTIVITY SLACK LOWER UPPER DUAL
-    1 COST     BS -4 4 NONE NONE 0
-    2 A        UL 3 0 NONE 3 0
-    3 B        BS 1 2 NONE 3 0
-    4 S        UL 4 0 NONE 4 -1
-SECTION 2 - COLUMNS
-NUMBER COLUMN AT ACTIVITY COST LOWER UPPER REDUCED
-    5 X        BS 3 -1 0 NONE 0
-    6 Y        BS 1 -1 0 NONE 0
-END 0
-",
+        listing: SUM_SOLVED,
     },
     Row {
         name: "a combination of a combination",
-        job: b"         PROGRAM
-         CONVERT
-         SETUP
-         PRIMAL
-         SOLUTION
-         EXIT
-         PEND
-NAME          T
-ROWS
- N  COST
- G  A
- L  B
- DL S         A         .5             B         -.25
- DG U         S         4              A         -1
- DN Z         U         1
-COLUMNS
-    X         COST      1              A         3
-    Y         COST      2              A         1
-    Y         B         2
-RHS
-    B         A         2              B         9
-    B         S         1              U         2
-ENDATA
-",
+        job: &[SOLVE, NESTED],
         status: 0,
         listing: b"CONVERT T        ROWS 6 COLUMNS 2 ENTRIES 5
 SETUP   T        MIN
@@ -98,7 +76,8 @@ END 0
     },
     Row {
         name: "parts that cancel",
-        job: b"         PROGRAM
+        job: &[
+            b"         PROGRAM
          CONVERT
          SETUP
          PRIMAL
@@ -118,6 +97,7 @@ RHS
     B         D         0
 ENDATA
 ",
+        ],
         status: 0,
         listing: b"CONVERT T        ROWS 4 COLUMNS 1 ENTRIES 2
 SETUP   T        MIN
@@ -136,14 +116,9 @@ END 0
     },
     Row {
         name: "a range on a combination",
-        job: b"         PROGRAM
-         CONVERT
-         SETUP('RANGE','R')
-         PRIMAL
-         SOLUTION
-         EXIT
-         PEND
-NAME          T
+        job: &[
+            SOLVE_RANGE,
+            b"NAME          T
 ROWS
  N  COST
  N  A
@@ -158,6 +133,7 @@ RANGES
     R         S         -1
 ENDATA
 ",
+        ],
         status: 0,
         listing: b"CONVERT T        ROWS 4 COLUMNS 2 ENTRIES 4
 SETUP   T        MIN
@@ -178,7 +154,8 @@ END 0
     },
     Row {
         name: "a combination as objective",
-        job: b"         PROGRAM
+        job: &[
+            b"         PROGRAM
          CONVERT
          SETUP
          MOVE(XOBJ,'OBJ')
@@ -198,6 +175,7 @@ RHS
     B         A         3              B         1
 ENDATA
 ",
+        ],
         status: 0,
         listing: b"CONVERT T        ROWS 3 COLUMNS 2 ENTRIES 3
 SETUP   T        MIN
@@ -217,7 +195,8 @@ END 0
     },
     Row {
         name: "a combination as change row",
-        job: b"         PROGRAM
+        job: &[
+            b"         PROGRAM
          CONVERT
          SETUP
          MOVE(XCHROW,'CHG')
@@ -236,6 +215,7 @@ RHS
     B         A         3
 ENDATA
 ",
+        ],
         status: 0,
         listing: b"CONVERT T        ROWS 3 COLUMNS 1 ENTRIES 2
 SETUP   T        MIN
@@ -251,28 +231,7 @@ END 0
     },
     Row {
         name: "total hours and a share",
-        job: b"         PROGRAM
-         CONVERT
-         SETUP('MAX')
-         PRIMAL
-         SOLUTION
-         EXIT
-         PEND
-NAME          PLAN
-ROWS
- N  PROFIT
- L  NORTH
- L  SOUTH
- DL HOURS     NORTH     1              SOUTH     1
- DG SHARE     NORTH     1              HOURS     -.4
-COLUMNS
-    CHAIRN    PROFIT    20             NORTH     2
-    CHAIRS    PROFIT    18             SOUTH     1.5
-RHS
-    B         NORTH     60             SOUTH     60
-    B         HOURS     100
-ENDATA
-",
+        job: &[SOLVE_MAX, CHAIRS],
         status: 0,
         listing: b"CONVERT PLAN     ROWS 5 COLUMNS 2 ENTRIES 4
 SETUP   PLAN     MAX
@@ -294,7 +253,8 @@ END 0
     },
     Row {
         name: "one objective after another",
-        job: b"         PROGRAM
+        job: &[
+            b"         PROGRAM
          CONVERT
          SETUP
          PRIMAL
@@ -307,23 +267,9 @@ END 0
          SOLUTION
          EXIT
          PEND
-NAME          T
-ROWS
- N  COST
- G  A
- L  B
- DL S         A         .5             B         -.25
- DG U         S         4              A         -1
- DN Z         U         1
-COLUMNS
-    X         COST      1              A         3
-    Y         COST      2              A         1
-    Y         B         2
-RHS
-    B         A         2              B         9
-    B         S         1              U         2
-ENDATA
 ",
+            NESTED,
+        ],
         status: 0,
         listing: b"CONVERT T        ROWS 6 COLUMNS 2 ENTRIES 5
 SETUP   T        MIN
@@ -362,14 +308,9 @@ END 0
     },
     Row {
         name: "parts by words",
-        job: b"         PROGRAM
-         CONVERT
-         SETUP
-         PRIMAL
-         SOLUTION
-         EXIT
-         PEND
-NAME          T         FREE
+        job: &[
+            SOLVE,
+            b"NAME          T         FREE
 ROWS
  N COST
  L A
@@ -384,34 +325,15 @@ RHS
  B S 4
 ENDATA
 ",
+        ],
         status: 0,
-        listing: b"CONVERT T        ROWS 4 COLUMNS 2 ENTRIES 4
-SETUP   T        MIN
-PRIMAL OPTIMAL STEPS 2 OBJECTIVE -4 CHECKED
-SOLUTION OPTIMAL
-SECTION 1 - ROWS
-NUMBER ROW AT ACTIVITY SLACK LOWER UPPER DUAL
-    1 COST     BS -4 4 NONE NONE 0
-    2 A        UL 3 0 NONE 3 0
-    3 B        BS 1 2 NONE 3 0
-    4 S        UL 4 0 NONE 4 -1
-SECTION 2 - COLUMNS
-NUMBER COLUMN AT ACTIVITY COST LOWER UPPER REDUCED
-    5 X        BS 3 -1 0 NONE 0
-    6 Y        BS 1 -1 0 NONE 0
-END 0
-",
+        listing: SUM_SOLVED,
     },
     Row {
         name: "a combination without parts",
-        job: b"         PROGRAM
-         CONVERT
-         SETUP
-         PRIMAL
-         SOLUTION
-         EXIT
-         PEND
-NAME          T
+        job: &[
+            SOLVE,
+            b"NAME          T
 ROWS
  N  COST
  G  A
@@ -422,6 +344,7 @@ RHS
     B         A         2              S         -1
 ENDATA
 ",
+        ],
         status: 1,
         listing: b"CONVERT T        ROWS 3 COLUMNS 1 ENTRIES 2
 SETUP   T        MIN
@@ -436,22 +359,7 @@ END 1
 const OVERFLOWS: [Row; 2] = [
     Row {
         name: "a product of a combination",
-        job: b"         PROGRAM
-         CONVERT
-         SETUP
-         PRIMAL
-         SOLUTION
-         EXIT
-         PEND
-NAME          T
-ROWS
- N  COST
- L  A
- DL S         A         999999999E18
-COLUMNS
-    X         COST      1              A         999999999E18
-ENDATA
-",
+        job: &[SOLVE, GREAT_PRODUCT],
         status: 20,
         listing: b"CONVERT T        ROWS 3 COLUMNS 1 ENTRIES 2
 STOP 20 OVERFLOW F19 MUL 999999999000000000000000000 999999999000000000000000000 P 0 Q 0 I 3 J 4 TERM 0 THETA 0 CARD 3
@@ -461,14 +369,9 @@ WAY NONE
     },
     Row {
         name: "a sum of a combination",
-        job: b"         PROGRAM
-         CONVERT
-         SETUP
-         PRIMAL
-         SOLUTION
-         EXIT
-         PEND
-NAME          T
+        job: &[
+            SOLVE,
+            b"NAME          T
 ROWS
  N  COST
  L  A
@@ -481,6 +384,7 @@ COLUMNS
     X         B         999999999E18
 ENDATA
 ",
+        ],
         status: 20,
         listing: b"CONVERT T        ROWS 5 COLUMNS 1 ENTRIES 3
 STOP 20 OVERFLOW F19 ADD 169999999830000000000000000000000000000 169999999830000000000000000000000000000 P 0 Q 0 I 5 J 6 TERM 1 THETA 0 CARD 3

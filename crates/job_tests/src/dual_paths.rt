@@ -1,39 +1,24 @@
 // Paths that the dual simplex method follows.
+use crate::problems::{CONFLICT, ENDATA, ENDLESS, PLAN, TESTPROB_CARDS};
+use crate::programs::{DUAL, DUAL_BND};
 use crate::rows::DeckRow;
 
 /// Programs of DUAL, with their listings.
 pub const DUAL_PATHS: [DeckRow; 14] = [
     DeckRow {
         name: "dual testprob",
-        job: b"         PROGRAM
+        job: &[
+            b"         PROGRAM
          CONVERT
          SETUP('BOUND','BND1')
          DUAL
          SOLUTION
          EXIT
          PEND
-NAME          TESTPROB
-ROWS
- N  COST
- L  LIM1
- G  LIM2
- E  MYEQN
-COLUMNS
-    XONE      COST      1              LIM1      1
-    XONE      LIM2      1
-    YTWO      COST      4              LIM1      1
-    YTWO      MYEQN     -1
-    ZTHREE    COST      9              LIM2      1
-    ZTHREE    MYEQN     1
-RHS
-    RHS       LIM1      5              LIM2      10
-    RHS       MYEQN     7
-BOUNDS
- UP BND1      XONE      4
- LO BND1      YTWO      -1
- UP BND1      YTWO      1
-ENDATA
 ",
+            TESTPROB_CARDS,
+            ENDATA,
+        ],
         status: 0,
         listing: b"CONVERT TESTPROB ROWS 4 COLUMNS 3 ENTRIES 9
 SETUP   TESTPROB MIN
@@ -56,27 +41,7 @@ END 0
     },
     DeckRow {
         name: "dual infeasible",
-        job: b"         PROGRAM
-         CONVERT
-         SETUP
-         DUAL
-         SOLUTION
-         EXIT
-         PEND
-NAME          T
-ROWS
- N  COST
- G  LOW
- L  HIGH
-COLUMNS
-    X         COST      1
-    X         LOW       1
-    X         HIGH      1
-RHS
-    B         LOW       3
-    B         HIGH      2
-ENDATA
-",
+        job: &[DUAL, CONFLICT],
         status: 1,
         listing: b"CONVERT T        ROWS 3 COLUMNS 1 ENTRIES 3
 SETUP   T        MIN
@@ -89,20 +54,7 @@ END 1
     },
     DeckRow {
         name: "dual wrong prices",
-        job: b"         PROGRAM
-         CONVERT
-         SETUP
-         DUAL
-         SOLUTION
-         EXIT
-         PEND
-NAME          T
-ROWS
- N  COST
-COLUMNS
-    X         COST      -1
-ENDATA
-",
+        job: &[DUAL, ENDLESS],
         status: 10,
         listing: b"CONVERT T        ROWS 1 COLUMNS 1 ENTRIES 1
 SETUP   T        MIN
@@ -112,44 +64,7 @@ STOP 10 VERB FAULT 16 CARD 4 VARIABLE 2
     },
     DeckRow {
         name: "dual of a plan",
-        job: b"         PROGRAM
-         CONVERT
-         SETUP('BOUND','BND')
-         DUAL
-         SOLUTION
-         EXIT
-         PEND
-NAME          PLAN
-ROWS
- N  COST
- G  A
- G  B
- L  C
-COLUMNS
-    X         COST      3
-    X         A         1
-    X         B         2
-    X         C         1
-    Y         COST      2
-    Y         A         1
-    Y         B         1
-    Y         C         1
-    Z         COST      4
-    Z         A         2
-    Z         B         1
-    Z         C         3
-RHS
-    R         A         4
-    R         B         5
-    R         C         6
-    S         A         3
-    S         B         8
-    S         C         6
-BOUNDS
- UP BND       X         2
- UP BND       Z         1
-ENDATA
-",
+        job: &[DUAL_BND, PLAN],
         status: 0,
         listing: b"CONVERT PLAN     ROWS 4 COLUMNS 3 ENTRIES 12
 SETUP   PLAN     MIN
@@ -172,7 +87,8 @@ END 0
     },
     DeckRow {
         name: "dual and primal at an optimal basis",
-        job: b"         PROGRAM
+        job: &[
+            b"         PROGRAM
          CONVERT
          SETUP('BOUND','BND')
          DUAL
@@ -180,37 +96,9 @@ END 0
          PRIMAL
          EXIT
          PEND
-NAME          PLAN
-ROWS
- N  COST
- G  A
- G  B
- L  C
-COLUMNS
-    X         COST      3
-    X         A         1
-    X         B         2
-    X         C         1
-    Y         COST      2
-    Y         A         1
-    Y         B         1
-    Y         C         1
-    Z         COST      4
-    Z         A         2
-    Z         B         1
-    Z         C         3
-RHS
-    R         A         4
-    R         B         5
-    R         C         6
-    S         A         3
-    S         B         8
-    S         C         6
-BOUNDS
- UP BND       X         2
- UP BND       Z         1
-ENDATA
 ",
+            PLAN,
+        ],
         status: 0,
         listing: b"CONVERT PLAN     ROWS 4 COLUMNS 3 ENTRIES 12
 SETUP   PLAN     MIN
@@ -223,44 +111,17 @@ END 0
     },
     DeckRow {
         name: "dual past its limit",
-        job: b"         PROGRAM
+        job: &[
+            b"         PROGRAM
          CONVERT
          SETUP('BOUND','BND')
          MOVE(XITERLIM,1)
          DUAL
          EXIT
          PEND
-NAME          PLAN
-ROWS
- N  COST
- G  A
- G  B
- L  C
-COLUMNS
-    X         COST      3
-    X         A         1
-    X         B         2
-    X         C         1
-    Y         COST      2
-    Y         A         1
-    Y         B         1
-    Y         C         1
-    Z         COST      4
-    Z         A         2
-    Z         B         1
-    Z         C         3
-RHS
-    R         A         4
-    R         B         5
-    R         C         6
-    S         A         3
-    S         B         8
-    S         C         6
-BOUNDS
- UP BND       X         2
- UP BND       Z         1
-ENDATA
 ",
+            PLAN,
+        ],
         status: 16,
         listing: b"CONVERT PLAN     ROWS 4 COLUMNS 3 ENTRIES 12
 SETUP   PLAN     MIN
@@ -270,44 +131,17 @@ STOP 16 ITERATION LIMIT 1 CARD 5
     },
     DeckRow {
         name: "dual at its limit",
-        job: b"         PROGRAM
+        job: &[
+            b"         PROGRAM
          CONVERT
          SETUP('BOUND','BND')
          MOVE(XITERLIM,2)
          DUAL
          EXIT
          PEND
-NAME          PLAN
-ROWS
- N  COST
- G  A
- G  B
- L  C
-COLUMNS
-    X         COST      3
-    X         A         1
-    X         B         2
-    X         C         1
-    Y         COST      2
-    Y         A         1
-    Y         B         1
-    Y         C         1
-    Z         COST      4
-    Z         A         2
-    Z         B         1
-    Z         C         3
-RHS
-    R         A         4
-    R         B         5
-    R         C         6
-    S         A         3
-    S         B         8
-    S         C         6
-BOUNDS
- UP BND       X         2
- UP BND       Z         1
-ENDATA
 ",
+            PLAN,
+        ],
         status: 0,
         listing: b"CONVERT PLAN     ROWS 4 COLUMNS 3 ENTRIES 12
 SETUP   PLAN     MIN
@@ -318,7 +152,8 @@ END 0
     },
     DeckRow {
         name: "dual after another right hand side",
-        job: b"         PROGRAM
+        job: &[
+            b"         PROGRAM
          CONVERT
          SETUP('BOUND','BND')
          PRIMAL
@@ -327,37 +162,9 @@ END 0
          SOLUTION
          EXIT
          PEND
-NAME          PLAN
-ROWS
- N  COST
- G  A
- G  B
- L  C
-COLUMNS
-    X         COST      3
-    X         A         1
-    X         B         2
-    X         C         1
-    Y         COST      2
-    Y         A         1
-    Y         B         1
-    Y         C         1
-    Z         COST      4
-    Z         A         2
-    Z         B         1
-    Z         C         3
-RHS
-    R         A         4
-    R         B         5
-    R         C         6
-    S         A         3
-    S         B         8
-    S         C         6
-BOUNDS
- UP BND       X         2
- UP BND       Z         1
-ENDATA
 ",
+            PLAN,
+        ],
         status: 0,
         listing: b"CONVERT PLAN     ROWS 4 COLUMNS 3 ENTRIES 12
 SETUP   PLAN     MIN
@@ -381,14 +188,9 @@ END 0
     },
     DeckRow {
         name: "ties of the ratio test",
-        job: b"         PROGRAM
-         CONVERT
-         SETUP
-         DUAL
-         SOLUTION
-         EXIT
-         PEND
-NAME          T
+        job: &[
+            DUAL,
+            b"NAME          T
 ROWS
  N  COST
  G  A
@@ -401,6 +203,7 @@ RHS
     B         A         4
 ENDATA
 ",
+        ],
         status: 0,
         listing: b"CONVERT T        ROWS 2 COLUMNS 2 ENTRIES 4
 SETUP   T        MIN
@@ -420,7 +223,8 @@ END 0
     },
     DeckRow {
         name: "dual maximises",
-        job: b"         PROGRAM
+        job: &[
+            b"         PROGRAM
          CONVERT
          SETUP('MAX')
          DUAL
@@ -444,6 +248,7 @@ RHS
     B         B         1
 ENDATA
 ",
+        ],
         status: 0,
         listing: b"CONVERT T        ROWS 3 COLUMNS 2 ENTRIES 6
 SETUP   T        MAX
@@ -464,14 +269,9 @@ END 0
     },
     DeckRow {
         name: "free and fixed columns",
-        job: b"         PROGRAM
-         CONVERT
-         SETUP('BOUND','BND')
-         DUAL
-         SOLUTION
-         EXIT
-         PEND
-NAME          T
+        job: &[
+            DUAL_BND,
+            b"NAME          T
 ROWS
  N  COST
  G  A
@@ -486,6 +286,7 @@ BOUNDS
  FR BND       W
 ENDATA
 ",
+        ],
         status: 0,
         listing: b"CONVERT T        ROWS 2 COLUMNS 2 ENTRIES 3
 SETUP   T        MIN
@@ -505,7 +306,8 @@ END 0
     },
     DeckRow {
         name: "dual with a range",
-        job: b"         PROGRAM
+        job: &[
+            b"         PROGRAM
          CONVERT
          SETUP('RANGE','RG')
          DUAL
@@ -525,6 +327,7 @@ RANGES
     RG        A         2
 ENDATA
 ",
+        ],
         status: 0,
         listing: b"CONVERT T        ROWS 2 COLUMNS 1 ENTRIES 2
 SETUP   T        MIN
@@ -543,14 +346,9 @@ END 0
     },
     DeckRow {
         name: "dual with crossed limits",
-        job: b"         PROGRAM
-         CONVERT
-         SETUP('BOUND','BND')
-         DUAL
-         SOLUTION
-         EXIT
-         PEND
-NAME          T
+        job: &[
+            DUAL_BND,
+            b"NAME          T
 ROWS
  N  COST
  G  A
@@ -563,6 +361,7 @@ BOUNDS
  UP BND       X         -1
 ENDATA
 ",
+        ],
         status: 1,
         listing: b"CONVERT T        ROWS 2 COLUMNS 1 ENTRIES 2
 SETUP   T        MIN
@@ -573,7 +372,8 @@ END 1
     },
     DeckRow {
         name: "dual and a demand",
-        job: b"         PROGRAM
+        job: &[
+            b"         PROGRAM
          CONVERT
          SETUP
          MVADR(XDONFS,L)
@@ -582,20 +382,9 @@ END 1
 L        SOLUTION
          EXIT
          PEND
-NAME          T
-ROWS
- N  COST
- G  LOW
- L  HIGH
-COLUMNS
-    X         COST      1
-    X         LOW       1
-    X         HIGH      1
-RHS
-    B         LOW       3
-    B         HIGH      2
-ENDATA
 ",
+            CONFLICT,
+        ],
         status: 0,
         listing: b"CONVERT T        ROWS 3 COLUMNS 1 ENTRIES 3
 SETUP   T        MIN

@@ -1,7 +1,9 @@
 // The machine over more than one engine: the listing and the status of a job do not depend on what keeps the rates.
+use crate::jobs::joined;
 use crate::no_memory::Starved;
 use crate::parametric_runs::PARAMETRIC;
 use crate::plans::PLANS;
+use crate::problems::ONE;
 use crate::ranges::RANGES;
 use crate::rows::Row;
 use card_reader::read_job;
@@ -20,9 +22,10 @@ struct Run {
     print: MemorySink,
 }
 
-// Runs the program of a job, with the rates of an engine.
-fn run_of<E: Engine>(alloc: Global, job: &[u8]) -> Result<Run, Fail> {
-    let mut source = MemorySource::new(alloc, job, &[])?;
+// Runs the program of the job of these parts, with the rates of an engine.
+fn run_of<E: Engine>(alloc: Global, parts: &[&[u8]]) -> Result<Run, Fail> {
+    let job = joined(alloc, parts)?;
+    let mut source = MemorySource::new(alloc, &job, &[])?;
     let cards = read_job(alloc, &mut source)?;
     let program = compile(alloc, &cards)?;
     let mut print = MemorySink::new(alloc, &[])?;
@@ -69,23 +72,16 @@ fn the_engine_of_runs_runs_jobs(rt: HostRuntime) -> Result<(), Fail> {
 fn an_engine_without_memory_ends_the_run(rt: HostRuntime) -> Result<(), Fail> {
     let run = run_of::<Starved>(
         rt.alloc(),
-        b"         PROGRAM
+        &[
+            b"         PROGRAM
          CONVERT
          SETUP
          PRIMAL
          EXIT
          PEND
-NAME          ONE
-ROWS
- N  COST
- G  LOW
-COLUMNS
-    X         COST      1
-    X         LOW       1
-RHS
-    B         LOW       1
-ENDATA
 ",
+            ONE,
+        ],
     )?;
     assert_eq!(rt; run.status, RunStatus::Memory);
     let listing: &[u8] =

@@ -1,5 +1,7 @@
 // Free decks: decks whose cards between others are changed, as CONVERT reads them and BCDOUT writes them out.
-use crate::jobs::answer_of;
+use crate::jobs::{answer_of, joined};
+use crate::problems::ENDATA;
+use crate::sections::{COLUMNS, NAME_ONE, RHS, ROWS};
 use std::alloc::Global;
 use std::test::Fail;
 
@@ -9,25 +11,25 @@ pub struct Faulty {
     pub line: &'static [u8],
 }
 
-/// Cards with which a deck has no fault, the lines of the listing that tell sizes, and the deck that is written out.
+/// Cards with which a deck has no fault, the lines of the listing that tell sizes, and the deck that is written out, in parts.
 pub struct Lawful {
     pub cards: &'static str,
     pub lines: &'static [u8],
-    pub deck: &'static [u8],
+    pub deck: &'static [&'static [u8]],
 }
 
-/// What stands before the cards of a case, what the listing has before its line, and what stands after the cards.
+/// The parts before the cards of a case, what the listing has before its line, and the parts after the cards.
 pub struct Around {
-    pub before: &'static [u8],
+    pub before: &'static [&'static [u8]],
     pub listing: &'static [u8],
-    pub after: &'static [u8],
+    pub after: &'static [&'static [u8]],
 }
 
 // The job of a case.
 fn job_of(alloc: Global, around: &Around, cards: &str) -> Result<Vec<u8>, Fail> {
-    let mut job = Vec::from_slice(alloc, around.before)?;
+    let mut job = joined(alloc, around.before)?;
     job.extend_from_slice(cards.as_bytes())?;
-    job.extend_from_slice(around.after)?;
+    job.extend_from_slice(&joined(alloc, around.after)?)?;
     Ok(job)
 }
 
@@ -63,30 +65,37 @@ pub fn first_misread(
     for case in cases {
         let answer = answer_of(alloc, &job_of(alloc, around, case.cards)?)?;
         let listing = listing_of(alloc, around, case.lines, b"END 0\n")?;
-        if !answer.is_punched(0, &listing, case.deck) {
+        if !answer.is_punched(0, &listing, &joined(alloc, case.deck)?) {
             return Ok(Some(case.cards));
         }
     }
     Ok(None)
 }
 
-// A card of COLUMNS, card 13 of the job.
-const ENTRY_AROUND: Around = Around {
-    before: b"* A free deck, with one card or two changed.
+// Reads a problem and writes it out.
+const BCDOUT: &[u8] = b"* A free deck, with one card or two changed.
 *
          PROGRAM
          CONVERT
          BCDOUT
          EXIT
          PEND
-NAME          ONE       FREE
-ROWS
- N COST
- G LOW
-COLUMNS
-",
+";
+
+// The NAME card of the free deck, and its three sections.
+const FREE_NAME: &[u8] = b"NAME          ONE       FREE\n";
+
+const FREE_ROWS: &[u8] = b"ROWS\n N COST\n G LOW\n";
+
+const FREE_COLUMNS: &[u8] = b"COLUMNS\n X COST 1 LOW 1\n";
+
+const FREE_RHS: &[u8] = b"RHS\n LOW 1\n";
+
+// A card of COLUMNS, card 13 of the job.
+const ENTRY_AROUND: Around = Around {
+    before: &[BCDOUT, FREE_NAME, FREE_ROWS, b"COLUMNS\n"],
     listing: b"",
-    after: b"RHS\n LOW 1\nENDATA\n",
+    after: &[FREE_RHS, ENDATA],
 };
 
 const ENTRY_FAULTS: [Faulty; 18] = [
@@ -168,56 +177,26 @@ const ENTRY_DECKS: [Lawful; 2] = [
     Lawful {
         cards: " EIGHTLET COST 123456789012 LOW 1\n",
         lines: b"CONVERT ONE      ROWS 2 COLUMNS 1 ENTRIES 2\nBCDOUT  ONE      CARDS 10\n",
-        deck: b"NAME          ONE
-ROWS
- N  COST
- G  LOW
-COLUMNS
-    EIGHTLET  COST      123456789012
-    EIGHTLET  LOW       1
-RHS
-              LOW       1
-ENDATA
-",
+        deck: &[
+            NAME_ONE,
+            ROWS,
+            b"COLUMNS\n    EIGHTLET  COST      123456789012\n    EIGHTLET  LOW       1\n",
+            RHS,
+            ENDATA,
+        ],
     },
     Lawful {
         cards: "                                                            X COST 1 LOW 1\n",
         lines: b"CONVERT ONE      ROWS 2 COLUMNS 1 ENTRIES 2\nBCDOUT  ONE      CARDS 10\n",
-        deck: b"NAME          ONE
-ROWS
- N  COST
- G  LOW
-COLUMNS
-    X         COST      1
-    X         LOW       1
-RHS
-              LOW       1
-ENDATA
-",
+        deck: &[NAME_ONE, ROWS, COLUMNS, RHS, ENDATA],
     },
 ];
 
 // A third card of ROWS, card 12.
 const ROW_AROUND: Around = Around {
-    before: b"* A free deck, with one card or two changed.
-*
-         PROGRAM
-         CONVERT
-         BCDOUT
-         EXIT
-         PEND
-NAME          ONE       FREE
-ROWS
- N COST
- G LOW
-",
+    before: &[BCDOUT, FREE_NAME, FREE_ROWS],
     listing: b"",
-    after: b"COLUMNS
- X COST 1 LOW 1
-RHS
- LOW 1
-ENDATA
-",
+    after: &[FREE_COLUMNS, FREE_RHS, ENDATA],
 };
 
 const ROW_FAULTS: [Faulty; 16] = [
@@ -291,61 +270,32 @@ const ROW_DECKS: [Lawful; 2] = [
     Lawful {
         cards: " L A\n",
         lines: b"CONVERT ONE      ROWS 3 COLUMNS 1 ENTRIES 2\nBCDOUT  ONE      CARDS 11\n",
-        deck: b"NAME          ONE
-ROWS
- N  COST
- G  LOW
- L  A
-COLUMNS
-    X         COST      1
-    X         LOW       1
-RHS
-              LOW       1
-ENDATA
-",
+        deck: &[NAME_ONE, ROWS, b" L  A\n", COLUMNS, RHS, ENDATA],
     },
     Lawful {
         cards: " DN S\n DL T COST 1\n DG U COST 1 LOW -2\n DG U T 3\n",
         lines: b"CONVERT ONE      ROWS 5 COLUMNS 1 ENTRIES 2\nBCDOUT  ONE      CARDS 15\n",
-        deck: b"NAME          ONE
-ROWS
- N  COST
- G  LOW
- DN S
+        deck: &[
+            NAME_ONE,
+            ROWS,
+            b" DN S
  DL T         COST      1
  DG U         COST      1
  DG U         LOW       -2
  DG U         T         3
-COLUMNS
-    X         COST      1
-    X         LOW       1
-RHS
-              LOW       1
-ENDATA
 ",
+            COLUMNS,
+            RHS,
+            ENDATA,
+        ],
     },
 ];
 
 // A section between RHS and ENDATA, whose first data card is card 17.
 const SET_AROUND: Around = Around {
-    before: b"* A free deck, with one card or two changed.
-*
-         PROGRAM
-         CONVERT
-         BCDOUT
-         EXIT
-         PEND
-NAME          ONE       FREE
-ROWS
- N COST
- G LOW
-COLUMNS
- X COST 1 LOW 1
-RHS
- LOW 1
-",
+    before: &[BCDOUT, FREE_NAME, FREE_ROWS, FREE_COLUMNS, FREE_RHS],
     listing: b"",
-    after: b"ENDATA\n",
+    after: &[ENDATA],
 };
 
 const SET_FAULTS: [Faulty; 12] = [
@@ -403,127 +353,82 @@ const SET_DECKS: [Lawful; 6] = [
     Lawful {
         cards: "BOUNDS\n FR X\n",
         lines: b"CONVERT ONE      ROWS 2 COLUMNS 1 ENTRIES 2\nBCDOUT  ONE      CARDS 12\n",
-        deck: b"NAME          ONE
-ROWS
- N  COST
- G  LOW
-COLUMNS
-    X         COST      1
-    X         LOW       1
-RHS
-              LOW       1
-BOUNDS
- FR           X
-ENDATA
-",
+        deck: &[
+            NAME_ONE,
+            ROWS,
+            COLUMNS,
+            RHS,
+            b"BOUNDS\n FR           X\n",
+            ENDATA,
+        ],
     },
     Lawful {
         cards: "BOUNDS\n FR B X\n",
         lines: b"CONVERT ONE      ROWS 2 COLUMNS 1 ENTRIES 2\nBCDOUT  ONE      CARDS 12\n",
-        deck: b"NAME          ONE
-ROWS
- N  COST
- G  LOW
-COLUMNS
-    X         COST      1
-    X         LOW       1
-RHS
-              LOW       1
-BOUNDS
- FR B         X
-ENDATA
-",
+        deck: &[
+            NAME_ONE,
+            ROWS,
+            COLUMNS,
+            RHS,
+            b"BOUNDS\n FR B         X\n",
+            ENDATA,
+        ],
     },
     Lawful {
         cards: "BOUNDS\n UP X 1\n",
         lines: b"CONVERT ONE      ROWS 2 COLUMNS 1 ENTRIES 2\nBCDOUT  ONE      CARDS 12\n",
-        deck: b"NAME          ONE
-ROWS
- N  COST
- G  LOW
-COLUMNS
-    X         COST      1
-    X         LOW       1
-RHS
-              LOW       1
-BOUNDS
- UP           X         1
-ENDATA
-",
+        deck: &[
+            NAME_ONE,
+            ROWS,
+            COLUMNS,
+            RHS,
+            b"BOUNDS\n UP           X         1\n",
+            ENDATA,
+        ],
     },
     Lawful {
         cards: "BOUNDS\n UP B X 1\n",
         lines: b"CONVERT ONE      ROWS 2 COLUMNS 1 ENTRIES 2\nBCDOUT  ONE      CARDS 12\n",
-        deck: b"NAME          ONE
-ROWS
- N  COST
- G  LOW
-COLUMNS
-    X         COST      1
-    X         LOW       1
-RHS
-              LOW       1
-BOUNDS
- UP B         X         1
-ENDATA
-",
+        deck: &[
+            NAME_ONE,
+            ROWS,
+            COLUMNS,
+            RHS,
+            b"BOUNDS\n UP B         X         1\n",
+            ENDATA,
+        ],
     },
     Lawful {
         cards: "RANGES\n LOW 1\n",
         lines: b"CONVERT ONE      ROWS 2 COLUMNS 1 ENTRIES 2\nBCDOUT  ONE      CARDS 12\n",
-        deck: b"NAME          ONE
-ROWS
- N  COST
- G  LOW
-COLUMNS
-    X         COST      1
-    X         LOW       1
-RHS
-              LOW       1
-RANGES
-              LOW       1
-ENDATA
-",
+        deck: &[
+            NAME_ONE,
+            ROWS,
+            COLUMNS,
+            RHS,
+            b"RANGES\n              LOW       1\n",
+            ENDATA,
+        ],
     },
     Lawful {
         cards: "RANGES\n R LOW 1\n",
         lines: b"CONVERT ONE      ROWS 2 COLUMNS 1 ENTRIES 2\nBCDOUT  ONE      CARDS 12\n",
-        deck: b"NAME          ONE
-ROWS
- N  COST
- G  LOW
-COLUMNS
-    X         COST      1
-    X         LOW       1
-RHS
-              LOW       1
-RANGES
-    R         LOW       1
-ENDATA
-",
+        deck: &[
+            NAME_ONE,
+            ROWS,
+            COLUMNS,
+            RHS,
+            b"RANGES\n    R         LOW       1\n",
+            ENDATA,
+        ],
     },
 ];
 
 // The NAME card, card 8: it begins a free deck, or a fixed one, of which card 10 has a fault.
 const NAME_AROUND: Around = Around {
-    before: b"* A free deck, with one card or two changed.
-*
-         PROGRAM
-         CONVERT
-         BCDOUT
-         EXIT
-         PEND
-",
+    before: &[BCDOUT],
     listing: b"",
-    after: b"ROWS
- N COST
- G LOW
-COLUMNS
- X COST 1 LOW 1
-RHS
- LOW 1
-ENDATA
-",
+    after: &[FREE_ROWS, FREE_COLUMNS, FREE_RHS, ENDATA],
 };
 
 const NAME_FAULTS: [Faulty; 9] = [
@@ -569,32 +474,12 @@ const NAME_DECKS: [Lawful; 2] = [
     Lawful {
         cards: "NAME          A NAME    FREE\n",
         lines: b"CONVERT A NAME   ROWS 2 COLUMNS 1 ENTRIES 2\nBCDOUT  A NAME   CARDS 10\n",
-        deck: b"NAME          A NAME
-ROWS
- N  COST
- G  LOW
-COLUMNS
-    X         COST      1
-    X         LOW       1
-RHS
-              LOW       1
-ENDATA
-",
+        deck: &[b"NAME          A NAME\n", ROWS, COLUMNS, RHS, ENDATA],
     },
     Lawful {
         cards: "NAME                    FREE\n",
         lines: b"CONVERT          ROWS 2 COLUMNS 1 ENTRIES 2\nBCDOUT           CARDS 10\n",
-        deck: b"NAME
-ROWS
- N  COST
- G  LOW
-COLUMNS
-    X         COST      1
-    X         LOW       1
-RHS
-              LOW       1
-ENDATA
-",
+        deck: &[b"NAME\n", ROWS, COLUMNS, RHS, ENDATA],
     },
 ];
 

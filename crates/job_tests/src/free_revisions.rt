@@ -1,10 +1,13 @@
 // Free revisions: revisions whose cards between others are changed, as REVISE reads them and BCDOUT writes the problem out.
 use crate::free_decks::{Around, Faulty, Lawful, first_misread, first_unrefused};
+use crate::problems::{ENDATA, RANGED_ONE};
+use crate::sections::{BOUNDS, COLUMNS, NAME_NEXT, RANGES, RHS, ROWS};
 use std::test::Fail;
 
 // A free revision of a fixed deck: its cards from card 23 on.
 const REVISION_AROUND: Around = Around {
-    before: b"* A free revision.
+    before: &[
+        b"* A free revision.
 *
          PROGRAM
          CONVERT
@@ -12,23 +15,12 @@ const REVISION_AROUND: Around = Around {
          BCDOUT
          EXIT
          PEND
-NAME          ONE
-ROWS
- N  COST
- G  LOW
-COLUMNS
-    X         COST      1              LOW       1
-RHS
-              LOW       1
-RANGES
-    R         LOW       2
-BOUNDS
- UP BND       X         9
-ENDATA
-NAME          NEXT      FREE
 ",
+        RANGED_ONE,
+        b"NAME          NEXT      FREE\n",
+    ],
     listing: b"CONVERT ONE      ROWS 2 COLUMNS 1 ENTRIES 2\n",
-    after: b"ENDATA\n",
+    after: &[ENDATA],
 };
 
 const REVISION_FAULTS_1: [Faulty; 25] = [
@@ -161,371 +153,208 @@ const REVISION_DECKS: [Lawful; 20] = [
     Lawful {
         cards: "ROWS\n MODIFY\n L LOW\n",
         lines: b"REVISE  NEXT     ROWS 2 COLUMNS 1 ENTRIES 2\nBCDOUT  NEXT     CARDS 14\n",
-        deck: b"NAME          NEXT
-ROWS
- N  COST
- L  LOW
-COLUMNS
-    X         COST      1
-    X         LOW       1
-RHS
-              LOW       1
-RANGES
-    R         LOW       2
-BOUNDS
- UP BND       X         9
-ENDATA
-",
+        deck: &[
+            NAME_NEXT,
+            b"ROWS\n N  COST\n L  LOW\n",
+            COLUMNS,
+            RHS,
+            RANGES,
+            BOUNDS,
+            ENDATA,
+        ],
     },
     Lawful {
         cards: "ROWS\n MODIFY LONGNAME9\n L LOW\n",
         lines: b"REVISE  NEXT     ROWS 2 COLUMNS 1 ENTRIES 2\nBCDOUT  NEXT     CARDS 14\n",
-        deck: b"NAME          NEXT
-ROWS
- N  COST
- L  LOW
-COLUMNS
-    X         COST      1
-    X         LOW       1
-RHS
-              LOW       1
-RANGES
-    R         LOW       2
-BOUNDS
- UP BND       X         9
-ENDATA
-",
+        deck: &[
+            NAME_NEXT,
+            b"ROWS\n N  COST\n L  LOW\n",
+            COLUMNS,
+            RHS,
+            RANGES,
+            BOUNDS,
+            ENDATA,
+        ],
     },
     Lawful {
         cards: "ROWS\n DELETE\n LOW\n",
         lines: b"REVISE  NEXT     ROWS 1 COLUMNS 1 ENTRIES 1\nBCDOUT  NEXT     CARDS 8\n",
-        deck: b"NAME          NEXT
-ROWS
- N  COST
-COLUMNS
-    X         COST      1
-BOUNDS
- UP BND       X         9
-ENDATA
-",
+        deck: &[
+            NAME_NEXT,
+            b"ROWS\n N  COST\nCOLUMNS\n    X         COST      1\n",
+            BOUNDS,
+            ENDATA,
+        ],
     },
     Lawful {
         cards: "ROWS\n BEFORE LOW\n L CAP\n",
         lines: b"REVISE  NEXT     ROWS 3 COLUMNS 1 ENTRIES 2\nBCDOUT  NEXT     CARDS 15\n",
-        deck: b"NAME          NEXT
-ROWS
- N  COST
- L  CAP
- G  LOW
-COLUMNS
-    X         COST      1
-    X         LOW       1
-RHS
-              LOW       1
-RANGES
-    R         LOW       2
-BOUNDS
- UP BND       X         9
-ENDATA
-",
+        deck: &[
+            NAME_NEXT,
+            b"ROWS\n N  COST\n L  CAP\n G  LOW\n",
+            COLUMNS,
+            RHS,
+            RANGES,
+            BOUNDS,
+            ENDATA,
+        ],
     },
     Lawful {
         cards: "ROWS\n   AFTER\n L CAP\n",
         lines: b"REVISE  NEXT     ROWS 3 COLUMNS 1 ENTRIES 2\nBCDOUT  NEXT     CARDS 15\n",
-        deck: b"NAME          NEXT
-ROWS
- N  COST
- G  LOW
- L  CAP
-COLUMNS
-    X         COST      1
-    X         LOW       1
-RHS
-              LOW       1
-RANGES
-    R         LOW       2
-BOUNDS
- UP BND       X         9
-ENDATA
-",
+        deck: &[
+            NAME_NEXT,
+            ROWS,
+            b" L  CAP\n",
+            COLUMNS,
+            RHS,
+            RANGES,
+            BOUNDS,
+            ENDATA,
+        ],
     },
     Lawful {
         cards: "COLUMNS\n MODIFY\n X COST 2\n",
         lines: b"REVISE  NEXT     ROWS 2 COLUMNS 1 ENTRIES 2\nBCDOUT  NEXT     CARDS 14\n",
-        deck: b"NAME          NEXT
-ROWS
- N  COST
- G  LOW
-COLUMNS
-    X         COST      2
-    X         LOW       1
-RHS
-              LOW       1
-RANGES
-    R         LOW       2
-BOUNDS
- UP BND       X         9
-ENDATA
-",
+        deck: &[
+            NAME_NEXT,
+            ROWS,
+            b"COLUMNS\n    X         COST      2\n    X         LOW       1\n",
+            RHS,
+            RANGES,
+            BOUNDS,
+            ENDATA,
+        ],
     },
     Lawful {
         cards: "COLUMNS\n DELETE\n X\n",
         lines: b"REVISE  NEXT     ROWS 2 COLUMNS 0 ENTRIES 0\nBCDOUT  NEXT     CARDS 10\n",
-        deck: b"NAME          NEXT
-ROWS
- N  COST
- G  LOW
-COLUMNS
-RHS
-              LOW       1
-RANGES
-    R         LOW       2
-ENDATA
-",
+        deck: &[NAME_NEXT, ROWS, b"COLUMNS\n", RHS, RANGES, ENDATA],
     },
     Lawful {
         cards: "COLUMNS\n DELETE\n X LOW\n",
         lines: b"REVISE  NEXT     ROWS 2 COLUMNS 1 ENTRIES 1\nBCDOUT  NEXT     CARDS 13\n",
-        deck: b"NAME          NEXT
-ROWS
- N  COST
- G  LOW
-COLUMNS
-    X         COST      1
-RHS
-              LOW       1
-RANGES
-    R         LOW       2
-BOUNDS
- UP BND       X         9
-ENDATA
-",
+        deck: &[
+            NAME_NEXT,
+            ROWS,
+            b"COLUMNS\n    X         COST      1\n",
+            RHS,
+            RANGES,
+            BOUNDS,
+            ENDATA,
+        ],
     },
     Lawful {
         cards: "COLUMNS\n AFTER\n Y COST 1\n Y LOW 2\n",
         lines: b"REVISE  NEXT     ROWS 2 COLUMNS 2 ENTRIES 4\nBCDOUT  NEXT     CARDS 16\n",
-        deck: b"NAME          NEXT
-ROWS
- N  COST
- G  LOW
-COLUMNS
-    X         COST      1
-    X         LOW       1
-    Y         COST      1
-    Y         LOW       2
-RHS
-              LOW       1
-RANGES
-    R         LOW       2
-BOUNDS
- UP BND       X         9
-ENDATA
-",
+        deck: &[
+            NAME_NEXT,
+            ROWS,
+            COLUMNS,
+            b"    Y         COST      1\n    Y         LOW       2\n",
+            RHS,
+            RANGES,
+            BOUNDS,
+            ENDATA,
+        ],
     },
     Lawful {
         cards: "RHS\n MODIFY\n LOW 3\n",
         lines: b"REVISE  NEXT     ROWS 2 COLUMNS 1 ENTRIES 2\nBCDOUT  NEXT     CARDS 14\n",
-        deck: b"NAME          NEXT
-ROWS
- N  COST
- G  LOW
-COLUMNS
-    X         COST      1
-    X         LOW       1
-RHS
-              LOW       3
-RANGES
-    R         LOW       2
-BOUNDS
- UP BND       X         9
-ENDATA
-",
+        deck: &[
+            NAME_NEXT,
+            ROWS,
+            COLUMNS,
+            b"RHS\n              LOW       3\n",
+            RANGES,
+            BOUNDS,
+            ENDATA,
+        ],
     },
     Lawful {
         cards: "RHS\n MODIFY\n B LOW 3 COST 1\n",
         lines: b"REVISE  NEXT     ROWS 2 COLUMNS 1 ENTRIES 2\nBCDOUT  NEXT     CARDS 16\n",
-        deck: b"NAME          NEXT
-ROWS
- N  COST
- G  LOW
-COLUMNS
-    X         COST      1
-    X         LOW       1
-RHS
-              LOW       1
-    B         LOW       3
-    B         COST      1
-RANGES
-    R         LOW       2
-BOUNDS
- UP BND       X         9
-ENDATA
-",
+        deck: &[
+            NAME_NEXT,
+            ROWS,
+            COLUMNS,
+            RHS,
+            b"    B         LOW       3\n    B         COST      1\n",
+            RANGES,
+            BOUNDS,
+            ENDATA,
+        ],
     },
     Lawful {
         cards: "RANGES\n MODIFY\n R LOW 3\n",
         lines: b"REVISE  NEXT     ROWS 2 COLUMNS 1 ENTRIES 2\nBCDOUT  NEXT     CARDS 14\n",
-        deck: b"NAME          NEXT
-ROWS
- N  COST
- G  LOW
-COLUMNS
-    X         COST      1
-    X         LOW       1
-RHS
-              LOW       1
-RANGES
-    R         LOW       3
-BOUNDS
- UP BND       X         9
-ENDATA
-",
+        deck: &[
+            NAME_NEXT,
+            ROWS,
+            COLUMNS,
+            RHS,
+            b"RANGES\n    R         LOW       3\n",
+            BOUNDS,
+            ENDATA,
+        ],
     },
     Lawful {
         cards: "RANGES\n DELETE\n R\n",
         lines: b"REVISE  NEXT     ROWS 2 COLUMNS 1 ENTRIES 2\nBCDOUT  NEXT     CARDS 12\n",
-        deck: b"NAME          NEXT
-ROWS
- N  COST
- G  LOW
-COLUMNS
-    X         COST      1
-    X         LOW       1
-RHS
-              LOW       1
-BOUNDS
- UP BND       X         9
-ENDATA
-",
+        deck: &[NAME_NEXT, ROWS, COLUMNS, RHS, BOUNDS, ENDATA],
     },
     Lawful {
         cards: "RANGES\n DELETE\n R LOW\n",
         lines: b"REVISE  NEXT     ROWS 2 COLUMNS 1 ENTRIES 2\nBCDOUT  NEXT     CARDS 12\n",
-        deck: b"NAME          NEXT
-ROWS
- N  COST
- G  LOW
-COLUMNS
-    X         COST      1
-    X         LOW       1
-RHS
-              LOW       1
-BOUNDS
- UP BND       X         9
-ENDATA
-",
+        deck: &[NAME_NEXT, ROWS, COLUMNS, RHS, BOUNDS, ENDATA],
     },
     Lawful {
         cards: "BOUNDS\n MODIFY\n LO BND X 1\n",
         lines: b"REVISE  NEXT     ROWS 2 COLUMNS 1 ENTRIES 2\nBCDOUT  NEXT     CARDS 15\n",
-        deck: b"NAME          NEXT
-ROWS
- N  COST
- G  LOW
-COLUMNS
-    X         COST      1
-    X         LOW       1
-RHS
-              LOW       1
-RANGES
-    R         LOW       2
-BOUNDS
- UP BND       X         9
- LO BND       X         1
-ENDATA
-",
+        deck: &[
+            NAME_NEXT,
+            ROWS,
+            COLUMNS,
+            RHS,
+            RANGES,
+            BOUNDS,
+            b" LO BND       X         1\n",
+            ENDATA,
+        ],
     },
     Lawful {
         cards: "BOUNDS\n MODIFY\n FR X\n",
         lines: b"REVISE  NEXT     ROWS 2 COLUMNS 1 ENTRIES 2\nBCDOUT  NEXT     CARDS 15\n",
-        deck: b"NAME          NEXT
-ROWS
- N  COST
- G  LOW
-COLUMNS
-    X         COST      1
-    X         LOW       1
-RHS
-              LOW       1
-RANGES
-    R         LOW       2
-BOUNDS
- UP BND       X         9
- FR           X
-ENDATA
-",
+        deck: &[
+            NAME_NEXT,
+            ROWS,
+            COLUMNS,
+            RHS,
+            RANGES,
+            BOUNDS,
+            b" FR           X\n",
+            ENDATA,
+        ],
     },
     Lawful {
         cards: "BOUNDS\n DELETE\n BND\n",
         lines: b"REVISE  NEXT     ROWS 2 COLUMNS 1 ENTRIES 2\nBCDOUT  NEXT     CARDS 12\n",
-        deck: b"NAME          NEXT
-ROWS
- N  COST
- G  LOW
-COLUMNS
-    X         COST      1
-    X         LOW       1
-RHS
-              LOW       1
-RANGES
-    R         LOW       2
-ENDATA
-",
+        deck: &[NAME_NEXT, ROWS, COLUMNS, RHS, RANGES, ENDATA],
     },
     Lawful {
         cards: "BOUNDS\n DELETE\n BND X\n",
         lines: b"REVISE  NEXT     ROWS 2 COLUMNS 1 ENTRIES 2\nBCDOUT  NEXT     CARDS 12\n",
-        deck: b"NAME          NEXT
-ROWS
- N  COST
- G  LOW
-COLUMNS
-    X         COST      1
-    X         LOW       1
-RHS
-              LOW       1
-RANGES
-    R         LOW       2
-ENDATA
-",
+        deck: &[NAME_NEXT, ROWS, COLUMNS, RHS, RANGES, ENDATA],
     },
     Lawful {
         cards: "RHS\n MODIFY 3\n",
         lines: b"REVISE  NEXT     ROWS 2 COLUMNS 1 ENTRIES 2\nBCDOUT  NEXT     CARDS 14\n",
-        deck: b"NAME          NEXT
-ROWS
- N  COST
- G  LOW
-COLUMNS
-    X         COST      1
-    X         LOW       1
-RHS
-              LOW       1
-RANGES
-    R         LOW       2
-BOUNDS
- UP BND       X         9
-ENDATA
-",
+        deck: &[NAME_NEXT, ROWS, COLUMNS, RHS, RANGES, BOUNDS, ENDATA],
     },
     Lawful {
         cards: "RHS\n MODIFY\n MODIFY 3\n",
         lines: b"REVISE  NEXT     ROWS 2 COLUMNS 1 ENTRIES 2\nBCDOUT  NEXT     CARDS 14\n",
-        deck: b"NAME          NEXT
-ROWS
- N  COST
- G  LOW
-COLUMNS
-    X         COST      1
-    X         LOW       1
-RHS
-              LOW       1
-RANGES
-    R         LOW       2
-BOUNDS
- UP BND       X         9
-ENDATA
-",
+        deck: &[NAME_NEXT, ROWS, COLUMNS, RHS, RANGES, BOUNDS, ENDATA],
     },
 ];
 

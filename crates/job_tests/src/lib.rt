@@ -30,6 +30,10 @@ mod parametric_runs;
 #[cfg(test)]
 mod plans;
 #[cfg(test)]
+mod problems;
+#[cfg(test)]
+mod programs;
+#[cfg(test)]
 mod punched;
 #[cfg(test)]
 mod ranges;
@@ -39,6 +43,8 @@ mod revisions;
 mod rows;
 #[cfg(test)]
 mod runs;
+#[cfg(test)]
+mod sections;
 #[cfg(test)]
 mod verdicts;
 #[cfg(test)]

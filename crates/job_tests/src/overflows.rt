@@ -1,18 +1,15 @@
 // Worked jobs in which a number grows too large.
+use crate::problems::{FAR_RANGE, GREAT_SLACK};
+use crate::programs::{SOLVE, SOLVE_BND, SOLVE_RANGE};
 use crate::rows::Row;
 
 /// Jobs in which a number grows too large: what their listings begin with. Which operation is refused first is free.
 pub const OVERFLOWS: [Row; 6] = [
     Row {
         name: "opening point overflow",
-        job: b"         PROGRAM
-         CONVERT
-         SETUP('BOUND','BND')
-         PRIMAL
-         SOLUTION
-         EXIT
-         PEND
-NAME          BIG
+        job: &[
+            SOLVE_BND,
+            b"NAME          BIG
 ROWS
  N  COST
  L  BIG
@@ -23,6 +20,7 @@ BOUNDS
  LO BND       X         999999999E18
 ENDATA
 ",
+        ],
         status: 20,
         listing: b"CONVERT BIG      ROWS 2 COLUMNS 1 ENTRIES 2
 SETUP   BIG      MIN
@@ -30,50 +28,13 @@ STOP 20 OVERFLOW F10\x20",
     },
     Row {
         name: "range sum overflow",
-        job: b"         PROGRAM
-         CONVERT
-         SETUP('RANGE','R')
-         PRIMAL
-         SOLUTION
-         EXIT
-         PEND
-NAME          T
-ROWS
- N  COST
- L  LIM
-COLUMNS
-    X         LIM       1
-RHS
-    B         LIM       999999999E18
-RANGES
-    R         LIM       .1E-18
-ENDATA
-",
+        job: &[SOLVE_RANGE, FAR_RANGE],
         status: 20,
         listing: b"CONVERT T        ROWS 2 COLUMNS 1 ENTRIES 1\nSTOP 20 OVERFLOW F13 ",
     },
     Row {
         name: "slack overflow",
-        job: b"         PROGRAM
-         CONVERT
-         SETUP('BOUND','BND')
-         PRIMAL
-         SOLUTION
-         EXIT
-         PEND
-NAME          T
-ROWS
- N  COST
- L  LIM
-COLUMNS
-    X         COST      1
-    X         LIM       1
-RHS
-    B         LIM       999999999E18
-BOUNDS
- LO BND       X         .1E-18
-ENDATA
-",
+        job: &[SOLVE_BND, GREAT_SLACK],
         status: 20,
         listing: b"CONVERT T        ROWS 2 COLUMNS 1 ENTRIES 2
 SETUP   T        MIN
@@ -82,14 +43,9 @@ STOP 20 OVERFLOW F6\x20",
     },
     Row {
         name: "step overflow",
-        job: b"         PROGRAM
-         CONVERT
-         SETUP
-         PRIMAL
-         SOLUTION
-         EXIT
-         PEND
-NAME          T
+        job: &[
+            SOLVE,
+            b"NAME          T
 ROWS
  N  COST
  L  LIM
@@ -100,6 +56,7 @@ RHS
     B         LIM       999999999E18
 ENDATA
 ",
+        ],
         status: 20,
         listing: b"CONVERT T        ROWS 2 COLUMNS 1 ENTRIES 2
 SETUP   T        MIN
@@ -107,14 +64,9 @@ STOP 20 OVERFLOW F7\x20",
     },
     Row {
         name: "objective overflow",
-        job: b"         PROGRAM
-         CONVERT
-         SETUP
-         PRIMAL
-         SOLUTION
-         EXIT
-         PEND
-NAME          T
+        job: &[
+            SOLVE,
+            b"NAME          T
 ROWS
  N  COST
  L  LIM
@@ -125,6 +77,7 @@ RHS
     B         LIM       999999999E18
 ENDATA
 ",
+        ],
         status: 20,
         listing: b"CONVERT T        ROWS 2 COLUMNS 1 ENTRIES 2
 SETUP   T        MIN
@@ -132,14 +85,9 @@ STOP 20 OVERFLOW F",
     },
     Row {
         name: "price overflow",
-        job: b"         PROGRAM
-         CONVERT
-         SETUP
-         PRIMAL
-         SOLUTION
-         EXIT
-         PEND
-NAME          T
+        job: &[
+            SOLVE,
+            b"NAME          T
 ROWS
  N  COST
  G  LOW
@@ -150,6 +98,7 @@ RHS
     B         LOW       .1E-18
 ENDATA
 ",
+        ],
         status: 20,
         listing: b"CONVERT T        ROWS 2 COLUMNS 1 ENTRIES 2
 SETUP   T        MIN

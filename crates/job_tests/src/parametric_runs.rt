@@ -1,11 +1,14 @@
 // Worked jobs with parametric runs, with the status and the listing of each.
+use crate::problems::{BOUNDED_ONE, ENDLESS_UP_TO_1, ONE, TWO, TWO_SOURCES};
+use crate::programs::{PARAOBJ_TO_5, PARARHS_TO_5};
 use crate::rows::Row;
 
 /// Parametric runs, to their last value or past a breakpoint, and those that are refused.
 pub const PARAMETRIC: [Row; 8] = [
     Row {
         name: "paraobj two intervals",
-        job: b"         PROGRAM
+        job: &[
+            b"         PROGRAM
          CONVERT
          SETUP('BOUND','BND')
          MOVE(XCHROW,'CHG')
@@ -13,23 +16,9 @@ pub const PARAMETRIC: [Row; 8] = [
          PARAOBJ
          EXIT
          PEND
-NAME          TWO
-ROWS
- N  COST
- N  CHG
- L  LIM
-COLUMNS
-    X         COST      -1
-    X         CHG       -1
-    X         LIM       1
-    Y         COST      -2
-    Y         LIM       1
-RHS
-    B         LIM       4
-BOUNDS
- UP BND       X         3
-ENDATA
 ",
+            TWO,
+        ],
         status: 0,
         listing: b"CONVERT TWO      ROWS 3 COLUMNS 2 ENTRIES 5
 SETUP   TWO      MIN
@@ -52,15 +41,9 @@ END 0
     },
     Row {
         name: "paraobj unbounded past",
-        job: b"         PROGRAM
-         CONVERT
-         SETUP
-         MOVE(XCHROW,'CHG')
-         MOVE(XPARMAX,5)
-         PARAOBJ
-         EXIT
-         PEND
-NAME          T
+        job: &[
+            PARAOBJ_TO_5,
+            b"NAME          T
 ROWS
  N  COST
  N  CHG
@@ -69,6 +52,7 @@ COLUMNS
     X         CHG       -1
 ENDATA
 ",
+        ],
         status: 0,
         listing: b"CONVERT T        ROWS 2 COLUMNS 1 ENTRIES 2
 SETUP   T        MIN
@@ -86,23 +70,7 @@ END 0
     },
     Row {
         name: "paraobj unbounded opening",
-        job: b"         PROGRAM
-         CONVERT
-         SETUP
-         MOVE(XCHROW,'CHG')
-         MOVE(XPARMAX,5)
-         PARAOBJ
-         EXIT
-         PEND
-NAME          T
-ROWS
- N  COST
- N  CHG
-COLUMNS
-    X         COST      -1
-    X         CHG       1
-ENDATA
-",
+        job: &[PARAOBJ_TO_5, ENDLESS_UP_TO_1],
         status: 2,
         listing: b"CONVERT T        ROWS 2 COLUMNS 1 ENTRIES 2
 SETUP   T        MIN
@@ -115,24 +83,17 @@ END 2
     },
     Row {
         name: "paraobj parmax below",
-        job: b"         PROGRAM
+        job: &[
+            b"         PROGRAM
          CONVERT
          SETUP
          MOVE(XCHROW,'COST')
          MOVE(XPARMAX,-1)
          PARAOBJ
          PEND
-NAME          ONE
-ROWS
- N  COST
- G  LOW
-COLUMNS
-    X         COST      1
-    X         LOW       1
-RHS
-    B         LOW       1
-ENDATA
 ",
+            ONE,
+        ],
         status: 10,
         listing: b"CONVERT ONE      ROWS 2 COLUMNS 1 ENTRIES 2
 SETUP   ONE      MIN
@@ -141,30 +102,7 @@ STOP 10 VERB FAULT 9 CARD 6
     },
     Row {
         name: "pararhs two intervals",
-        job: b"         PROGRAM
-         CONVERT
-         SETUP('BOUND','BND')
-         MOVE(XCHCOL,'C')
-         MOVE(XPARMAX,5)
-         PARARHS
-         EXIT
-         PEND
-NAME          T
-ROWS
- N  COST
- G  LOW
-COLUMNS
-    X         COST      1
-    X         LOW       1
-    Y         COST      2
-    Y         LOW       1
-RHS
-    B         LOW       1
-    C         LOW       1
-BOUNDS
- UP BND       X         3
-ENDATA
-",
+        job: &[PARARHS_TO_5, TWO_SOURCES],
         status: 0,
         listing: b"CONVERT T        ROWS 2 COLUMNS 2 ENTRIES 4
 SETUP   T        MIN
@@ -185,28 +123,7 @@ END 0
     },
     Row {
         name: "pararhs infeasible past",
-        job: b"         PROGRAM
-         CONVERT
-         SETUP('BOUND','BND')
-         MOVE(XCHCOL,'C')
-         MOVE(XPARMAX,5)
-         PARARHS
-         EXIT
-         PEND
-NAME          ONE
-ROWS
- N  COST
- G  LOW
-COLUMNS
-    X         COST      1
-    X         LOW       1
-RHS
-    B         LOW       1
-    C         LOW       1
-BOUNDS
- UP BND       X         3
-ENDATA
-",
+        job: &[PARARHS_TO_5, BOUNDED_ONE],
         status: 0,
         listing: b"CONVERT ONE      ROWS 2 COLUMNS 1 ENTRIES 2
 SETUP   ONE      MIN
@@ -223,7 +140,8 @@ END 0
     },
     Row {
         name: "pararhs point interval",
-        job: b"         PROGRAM
+        job: &[
+            b"         PROGRAM
          CONVERT
          SETUP('BOUND','BND')
          MOVE(XCHCOL,'C')
@@ -231,20 +149,9 @@ END 0
          PARARHS
          EXIT
          PEND
-NAME          ONE
-ROWS
- N  COST
- G  LOW
-COLUMNS
-    X         COST      1
-    X         LOW       1
-RHS
-    B         LOW       1
-    C         LOW       1
-BOUNDS
- UP BND       X         3
-ENDATA
 ",
+            BOUNDED_ONE,
+        ],
         status: 0,
         listing: b"CONVERT ONE      ROWS 2 COLUMNS 1 ENTRIES 2
 SETUP   ONE      MIN
@@ -259,23 +166,16 @@ END 0
     },
     Row {
         name: "pararhs no change set",
-        job: b"         PROGRAM
+        job: &[
+            b"         PROGRAM
          CONVERT
          SETUP
          MOVE(XCHCOL,'Z')
          PARARHS
          PEND
-NAME          ONE
-ROWS
- N  COST
- G  LOW
-COLUMNS
-    X         COST      1
-    X         LOW       1
-RHS
-    B         LOW       1
-ENDATA
 ",
+            ONE,
+        ],
         status: 10,
         listing: b"CONVERT ONE      ROWS 2 COLUMNS 1 ENTRIES 2
 SETUP   ONE      MIN

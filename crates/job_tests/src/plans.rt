@@ -1,41 +1,10 @@
 // Worked jobs whose plans are solved.
+use crate::problems::{BEALE, CROSSED, ENDATA, ENDLESS, GREAT_SLACK, ONE, TESTPROB_CARDS};
+use crate::programs::{SOLVE, SOLVE_BND, SOLVE_BND1, SOLVE_IN_NO_STEP, SOLVE_MAX, SOLVE_RANGE};
 use crate::rows::Row;
 
-/// Plans that are solved, and programs that come to their end.
-pub const PLANS: [Row; 17] = [
-    Row {
-        name: "testprob primal",
-        job: b"         PROGRAM
-         CONVERT
-         SETUP('BOUND','BND1')
-         PRIMAL
-         SOLUTION
-         EXIT
-         PEND
-NAME          TESTPROB
-ROWS
- N  COST
- L  LIM1
- G  LIM2
- E  MYEQN
-COLUMNS
-    XONE      COST      1              LIM1      1
-    XONE      LIM2      1
-    YTWO      COST      4              LIM1      1
-    YTWO      MYEQN     -1
-    ZTHREE    COST      9              LIM2      1
-    ZTHREE    MYEQN     1
-RHS
-    RHS       LIM1      5              LIM2      10
-    RHS       MYEQN     7
-BOUNDS
- UP BND1      XONE      4
- LO BND1      YTWO      -1
- UP BND1      YTWO      1
-ENDATA
-",
-        status: 0,
-        listing: b"CONVERT TESTPROB ROWS 4 COLUMNS 3 ENTRIES 9
+// The listing of TESTPROB, solved.
+const TESTPROB_SOLVED: &[u8] = b"CONVERT TESTPROB ROWS 4 COLUMNS 3 ENTRIES 9
 SETUP   TESTPROB MIN
 PRIMAL OPTIMAL STEPS 3 OBJECTIVE 54 CHECKED
 SOLUTION OPTIMAL
@@ -51,29 +20,10 @@ NUMBER COLUMN AT ACTIVITY COST LOWER UPPER REDUCED
     6 YTWO     LL -1 4 -1 1 12
     7 ZTHREE   BS 6 9 0 NONE 0
 END 0
-",
-    },
-    Row {
-        name: "free deck",
-        job: b"         PROGRAM
-         CONVERT
-         SETUP
-         PRIMAL
-         SOLUTION
-         EXIT
-         PEND
-NAME          ONE       FREE
-ROWS
- N COST
- G LOW
-COLUMNS
- X COST 1 LOW 1
-RHS
- LOW 1
-ENDATA
-",
-        status: 0,
-        listing: b"CONVERT ONE      ROWS 2 COLUMNS 1 ENTRIES 2
+";
+
+// The listing of ONE, solved.
+const ONE_SOLVED: &[u8] = b"CONVERT ONE      ROWS 2 COLUMNS 1 ENTRIES 2
 SETUP   ONE      MIN
 PRIMAL OPTIMAL STEPS 1 OBJECTIVE 1 CHECKED
 SOLUTION OPTIMAL
@@ -85,43 +35,10 @@ SECTION 2 - COLUMNS
 NUMBER COLUMN AT ACTIVITY COST LOWER UPPER REDUCED
     3 X        BS 1 1 0 NONE 0
 END 0
-",
-    },
-    Row {
-        name: "beale cycling",
-        job: b"         PROGRAM
-         CONVERT
-         SETUP
-         PRIMAL
-         SOLUTION
-         EXIT
-         PEND
-NAME          BEALE
-ROWS
- N  COST
- L  R1
- L  R2
- L  R3
-COLUMNS
-    X1        COST      -.75
-    X1        R1        .25
-    X1        R2        .5
-    X2        COST      150
-    X2        R1        -60
-    X2        R2        -90
-    X3        COST      -.02
-    X3        R1        -.04
-    X3        R2        -.02
-    X3        R3        1
-    X4        COST      6
-    X4        R1        9
-    X4        R2        3
-RHS
-    B         R3        1
-ENDATA
-",
-        status: 0,
-        listing: b"CONVERT BEALE    ROWS 4 COLUMNS 4 ENTRIES 13
+";
+
+// The listing of Beale's problem, solved.
+const BEALE_SOLVED: &[u8] = b"CONVERT BEALE    ROWS 4 COLUMNS 4 ENTRIES 13
 SETUP   BEALE    MIN
 PRIMAL OPTIMAL STEPS 6 OBJECTIVE -1/20 CHECKED
 SOLUTION OPTIMAL
@@ -138,11 +55,44 @@ NUMBER COLUMN AT ACTIVITY COST LOWER UPPER REDUCED
     7 X3       BS 1 -1/50 0 NONE 0
     8 X4       LL 0 6 0 NONE 21/2
 END 0
+";
+
+/// Plans that are solved, and programs that come to their end.
+pub const PLANS: [Row; 17] = [
+    Row {
+        name: "testprob primal",
+        job: &[SOLVE_BND1, TESTPROB_CARDS, ENDATA],
+        status: 0,
+        listing: TESTPROB_SOLVED,
+    },
+    Row {
+        name: "free deck",
+        job: &[
+            SOLVE,
+            b"NAME          ONE       FREE
+ROWS
+ N COST
+ G LOW
+COLUMNS
+ X COST 1 LOW 1
+RHS
+ LOW 1
+ENDATA
 ",
+        ],
+        status: 0,
+        listing: ONE_SOLVED,
+    },
+    Row {
+        name: "beale cycling",
+        job: &[SOLVE, BEALE],
+        status: 0,
+        listing: BEALE_SOLVED,
     },
     Row {
         name: "no iteration limit",
-        job: b"         PROGRAM
+        job: &[
+            b"         PROGRAM
          CONVERT
          SETUP
          MOVE(XITERLIM,'NONE')
@@ -150,65 +100,23 @@ END 0
          SOLUTION
          EXIT
          PEND
-NAME          BEALE
-ROWS
- N  COST
- L  R1
- L  R2
- L  R3
-COLUMNS
-    X1        COST      -.75
-    X1        R1        .25
-    X1        R2        .5
-    X2        COST      150
-    X2        R1        -60
-    X2        R2        -90
-    X3        COST      -.02
-    X3        R1        -.04
-    X3        R2        -.02
-    X3        R3        1
-    X4        COST      6
-    X4        R1        9
-    X4        R2        3
-RHS
-    B         R3        1
-ENDATA
 ",
+            BEALE,
+        ],
         status: 0,
-        listing: b"CONVERT BEALE    ROWS 4 COLUMNS 4 ENTRIES 13
-SETUP   BEALE    MIN
-PRIMAL OPTIMAL STEPS 6 OBJECTIVE -1/20 CHECKED
-SOLUTION OPTIMAL
-SECTION 1 - ROWS
-NUMBER ROW AT ACTIVITY SLACK LOWER UPPER DUAL
-    1 COST     BS -1/20 1/20 NONE NONE 0
-    2 R1       BS -3/100 3/100 NONE 0 0
-    3 R2       UL 0 0 NONE 0 -3/2
-    4 R3       UL 1 0 NONE 1 -1/20
-SECTION 2 - COLUMNS
-NUMBER COLUMN AT ACTIVITY COST LOWER UPPER REDUCED
-    5 X1       BS 1/25 -3/4 0 NONE 0
-    6 X2       LL 0 150 0 NONE 15
-    7 X3       BS 1 -1/50 0 NONE 0
-    8 X4       LL 0 6 0 NONE 21/2
-END 0
-",
+        listing: BEALE_SOLVED,
     },
     Row {
         name: "no columns",
-        job: b"         PROGRAM
-         CONVERT
-         SETUP
-         PRIMAL
-         SOLUTION
-         EXIT
-         PEND
-NAME          NIL
+        job: &[
+            SOLVE,
+            b"NAME          NIL
 ROWS
  N  COST
 COLUMNS
 ENDATA
 ",
+        ],
         status: 0,
         listing: b"CONVERT NIL      ROWS 1 COLUMNS 0 ENTRIES 0
 SETUP   NIL      MIN
@@ -224,7 +132,8 @@ END 0
     },
     Row {
         name: "unbounded demand solution",
-        job: b"         PROGRAM
+        job: &[
+            b"         PROGRAM
          CONVERT
          SETUP
          MVADR(XDOUNB,LAB)
@@ -233,13 +142,9 @@ END 0
 LAB      SOLUTION
          EXIT
          PEND
-NAME          T
-ROWS
- N  COST
-COLUMNS
-    X         COST      -1
-ENDATA
 ",
+            ENDLESS,
+        ],
         status: 0,
         listing: b"CONVERT T        ROWS 1 COLUMNS 1 ENTRIES 1
 SETUP   T        MIN
@@ -258,7 +163,8 @@ END 0
     },
     Row {
         name: "crossed demand solution",
-        job: b"         PROGRAM
+        job: &[
+            b"         PROGRAM
          CONVERT
          SETUP('BOUND','BND')
          MVADR(XDONFS,LAB)
@@ -267,15 +173,9 @@ END 0
 LAB      SOLUTION
          EXIT
          PEND
-NAME          T
-ROWS
- N  COST
-COLUMNS
-    X         COST      1
-BOUNDS
- UP BND       X         -1
-ENDATA
 ",
+            CROSSED,
+        ],
         status: 0,
         listing: b"CONVERT T        ROWS 1 COLUMNS 1 ENTRIES 1
 SETUP   T        MIN
@@ -292,14 +192,9 @@ END 0
     },
     Row {
         name: "negative range on equality",
-        job: b"         PROGRAM
-         CONVERT
-         SETUP('RANGE','R')
-         PRIMAL
-         SOLUTION
-         EXIT
-         PEND
-NAME          T
+        job: &[
+            SOLVE_RANGE,
+            b"NAME          T
 ROWS
  N  COST
  E  BAND
@@ -312,6 +207,7 @@ RANGES
     R         BAND      -3
 ENDATA
 ",
+        ],
         status: 0,
         listing: b"CONVERT T        ROWS 2 COLUMNS 1 ENTRIES 2
 SETUP   T        MIN
@@ -329,42 +225,24 @@ END 0
     },
     Row {
         name: "card with trailing blanks",
-        job: b"         PROGRAM
+        job: &[
+            b"         PROGRAM
          CONVERT
          SETUP                                                                 X                   \x20
          PRIMAL
          SOLUTION
          EXIT
          PEND
-NAME          ONE
-ROWS
- N  COST
- G  LOW
-COLUMNS
-    X         COST      1
-    X         LOW       1
-RHS
-    B         LOW       1
-ENDATA
 ",
+            ONE,
+        ],
         status: 0,
-        listing: b"CONVERT ONE      ROWS 2 COLUMNS 1 ENTRIES 2
-SETUP   ONE      MIN
-PRIMAL OPTIMAL STEPS 1 OBJECTIVE 1 CHECKED
-SOLUTION OPTIMAL
-SECTION 1 - ROWS
-NUMBER ROW AT ACTIVITY SLACK LOWER UPPER DUAL
-    1 COST     BS 1 -1 NONE NONE 0
-    2 LOW      LL 1 0 1 NONE 1
-SECTION 2 - COLUMNS
-NUMBER COLUMN AT ACTIVITY COST LOWER UPPER REDUCED
-    3 X        BS 1 1 0 NONE 0
-END 0
-",
+        listing: ONE_SOLVED,
     },
     Row {
         name: "right hand side moved",
-        job: b"         PROGRAM
+        job: &[
+            b"         PROGRAM
          CONVERT
          SETUP
          PRIMAL
@@ -384,6 +262,7 @@ RHS
     C         LOW       2
 ENDATA
 ",
+        ],
         status: 0,
         listing: b"CONVERT ONE      ROWS 2 COLUMNS 1 ENTRIES 2
 SETUP   ONE      MIN
@@ -394,7 +273,8 @@ END 0
     },
     Row {
         name: "iteration limit 3",
-        job: b"         PROGRAM
+        job: &[
+            b"         PROGRAM
          CONVERT
          SETUP('BOUND','BND1')
          MOVE(XITERLIM,3)
@@ -402,57 +282,18 @@ END 0
          SOLUTION
          EXIT
          PEND
-NAME          TESTPROB
-ROWS
- N  COST
- L  LIM1
- G  LIM2
- E  MYEQN
-COLUMNS
-    XONE      COST      1              LIM1      1
-    XONE      LIM2      1
-    YTWO      COST      4              LIM1      1
-    YTWO      MYEQN     -1
-    ZTHREE    COST      9              LIM2      1
-    ZTHREE    MYEQN     1
-RHS
-    RHS       LIM1      5              LIM2      10
-    RHS       MYEQN     7
-BOUNDS
- UP BND1      XONE      4
- LO BND1      YTWO      -1
- UP BND1      YTWO      1
-ENDATA
 ",
+            TESTPROB_CARDS,
+            ENDATA,
+        ],
         status: 0,
-        listing: b"CONVERT TESTPROB ROWS 4 COLUMNS 3 ENTRIES 9
-SETUP   TESTPROB MIN
-PRIMAL OPTIMAL STEPS 3 OBJECTIVE 54 CHECKED
-SOLUTION OPTIMAL
-SECTION 1 - ROWS
-NUMBER ROW AT ACTIVITY SLACK LOWER UPPER DUAL
-    1 COST     BS 54 -54 NONE NONE 0
-    2 LIM1     BS 3 2 NONE 5 0
-    3 LIM2     LL 10 0 10 NONE 1
-    4 MYEQN    EQ 7 0 7 7 8
-SECTION 2 - COLUMNS
-NUMBER COLUMN AT ACTIVITY COST LOWER UPPER REDUCED
-    5 XONE     BS 4 1 0 4 0
-    6 YTWO     LL -1 4 -1 1 12
-    7 ZTHREE   BS 6 9 0 NONE 0
-END 0
-",
+        listing: TESTPROB_SOLVED,
     },
     Row {
         name: "maximise",
-        job: b"         PROGRAM
-         CONVERT
-         SETUP('MAX')
-         PRIMAL
-         SOLUTION
-         EXIT
-         PEND
-NAME          T
+        job: &[
+            SOLVE_MAX,
+            b"NAME          T
 ROWS
  N  COST
  L  LIM
@@ -463,6 +304,7 @@ RHS
     B         LIM       4
 ENDATA
 ",
+        ],
         status: 0,
         listing: b"CONVERT T        ROWS 2 COLUMNS 1 ENTRIES 2
 SETUP   T        MAX
@@ -480,15 +322,9 @@ END 0
     },
     Row {
         name: "plain first",
-        job: b"         PROGRAM
-         CONVERT
-         SETUP
-         MOVE(XITERLIM,0)
-         PRIMAL
-         SOLUTION
-         EXIT
-         PEND
-NAME          FIRST
+        job: &[
+            SOLVE_IN_NO_STEP,
+            b"NAME          FIRST
 ROWS
  N  COST
  L  LIM
@@ -499,6 +335,7 @@ RHS
     B         LIM       4
 ENDATA
 ",
+        ],
         status: 0,
         listing: b"CONVERT FIRST    ROWS 2 COLUMNS 1 ENTRIES 2
 SETUP   FIRST    MIN
@@ -516,14 +353,9 @@ END 0
     },
     Row {
         name: "lower bound",
-        job: b"         PROGRAM
-         CONVERT
-         SETUP('BOUND','BND')
-         PRIMAL
-         SOLUTION
-         EXIT
-         PEND
-NAME          T
+        job: &[
+            SOLVE_BND,
+            b"NAME          T
 ROWS
  N  COST
 COLUMNS
@@ -532,6 +364,7 @@ BOUNDS
  LO BND       X         2
 ENDATA
 ",
+        ],
         status: 0,
         listing: b"CONVERT T        ROWS 1 COLUMNS 1 ENTRIES 1
 SETUP   T        MIN
@@ -548,74 +381,22 @@ END 0
     },
     Row {
         name: "without last byte",
-        job: b"         PROGRAM
-         CONVERT
-         SETUP('BOUND','BND1')
-         PRIMAL
-         SOLUTION
-         EXIT
-         PEND
-NAME          TESTPROB
-ROWS
- N  COST
- L  LIM1
- G  LIM2
- E  MYEQN
-COLUMNS
-    XONE      COST      1              LIM1      1
-    XONE      LIM2      1
-    YTWO      COST      4              LIM1      1
-    YTWO      MYEQN     -1
-    ZTHREE    COST      9              LIM2      1
-    ZTHREE    MYEQN     1
-RHS
-    RHS       LIM1      5              LIM2      10
-    RHS       MYEQN     7
-BOUNDS
- UP BND1      XONE      4
- LO BND1      YTWO      -1
- UP BND1      YTWO      1
-ENDATA",
+        job: &[SOLVE_BND1, TESTPROB_CARDS, b"ENDATA"],
         status: 0,
-        listing: b"CONVERT TESTPROB ROWS 4 COLUMNS 3 ENTRIES 9
-SETUP   TESTPROB MIN
-PRIMAL OPTIMAL STEPS 3 OBJECTIVE 54 CHECKED
-SOLUTION OPTIMAL
-SECTION 1 - ROWS
-NUMBER ROW AT ACTIVITY SLACK LOWER UPPER DUAL
-    1 COST     BS 54 -54 NONE NONE 0
-    2 LIM1     BS 3 2 NONE 5 0
-    3 LIM2     LL 10 0 10 NONE 1
-    4 MYEQN    EQ 7 0 7 7 8
-SECTION 2 - COLUMNS
-NUMBER COLUMN AT ACTIVITY COST LOWER UPPER REDUCED
-    5 XONE     BS 4 1 0 4 0
-    6 YTWO     LL -1 4 -1 1 12
-    7 ZTHREE   BS 6 9 0 NONE 0
-END 0
-",
+        listing: TESTPROB_SOLVED,
     },
     Row {
         name: "slack not printed",
-        job: b"         PROGRAM
+        job: &[
+            b"         PROGRAM
          CONVERT
          SETUP('BOUND','BND')
          PRIMAL
          EXIT
          PEND
-NAME          T
-ROWS
- N  COST
- L  LIM
-COLUMNS
-    X         COST      1
-    X         LIM       1
-RHS
-    B         LIM       999999999E18
-BOUNDS
- LO BND       X         .1E-18
-ENDATA
 ",
+            GREAT_SLACK,
+        ],
         status: 0,
         listing: b"CONVERT T        ROWS 2 COLUMNS 1 ENTRIES 2
 SETUP   T        MIN
@@ -625,13 +406,15 @@ END 0
     },
     Row {
         name: "title and label",
-        job: b"         PROGRAM
+        job: &[
+            b"         PROGRAM
          TITLE('FIRST RUN')
          GOTO(LAST)
          SETUP
 LAST     EXIT
          PEND
 ",
+        ],
         status: 0,
         listing: b"TITLE FIRST RUN\nEND 0\n",
     },

@@ -1,43 +1,28 @@
 // Worked jobs that punch decks.
+use crate::problems::{ONE, RANGED_ONE};
 use crate::rows::DeckRow;
 
 /// Programs that punch decks.
 pub const DECKS: [DeckRow; 2] = [
     DeckRow {
         name: "bcdout one",
-        job: b"         PROGRAM
+        job: &[
+            b"         PROGRAM
          CONVERT
          BCDOUT
          EXIT
          PEND
-NAME          ONE
-ROWS
- N  COST
- G  LOW
-COLUMNS
-    X         COST      1
-    X         LOW       1
-RHS
-    B         LOW       1
-ENDATA
 ",
+            ONE,
+        ],
         status: 0,
         listing: b"CONVERT ONE      ROWS 2 COLUMNS 1 ENTRIES 2\nBCDOUT  ONE      CARDS 10\nEND 0\n",
-        cards: b"NAME          ONE
-ROWS
- N  COST
- G  LOW
-COLUMNS
-    X         COST      1
-    X         LOW       1
-RHS
-    B         LOW       1
-ENDATA
-",
+        cards: ONE,
     },
     DeckRow {
         name: "free revision",
-        job: b"         PROGRAM
+        job: &[
+            b"         PROGRAM
          CONVERT
          REVISE
          SETUP('BOUND','BND')
@@ -46,20 +31,9 @@ ENDATA
          BCDOUT
          EXIT
          PEND
-NAME          ONE
-ROWS
- N  COST
- G  LOW
-COLUMNS
-    X         COST      1              LOW       1
-RHS
-              LOW       1
-RANGES
-    R         LOW       2
-BOUNDS
- UP BND       X         9
-ENDATA
-NAME          NEXT      FREE
+",
+            RANGED_ONE,
+            b"NAME          NEXT      FREE
 ROWS
  AFTER LOW
  L CAP
@@ -80,6 +54,7 @@ BOUNDS
  UP BND X 1
 ENDATA
 ",
+        ],
         status: 0,
         listing: b"CONVERT ONE      ROWS 2 COLUMNS 1 ENTRIES 2
 REVISE  NEXT     ROWS 3 COLUMNS 2 ENTRIES 4

@@ -1,34 +1,22 @@
 // Worked jobs that ask for intervals.
+use crate::problems::{ENDATA, ENDLESS, ONE, TESTPROB_CARDS, TWO};
 use crate::rows::Row;
 
 /// Intervals in which a plan stays the best, and statements that ask for them too soon.
 pub const RANGES: [Row; 5] = [
     Row {
         name: "range two",
-        job: b"         PROGRAM
+        job: &[
+            b"         PROGRAM
          CONVERT
          SETUP('BOUND','BND')
          PRIMAL
          RANGE
          EXIT
          PEND
-NAME          TWO
-ROWS
- N  COST
- N  CHG
- L  LIM
-COLUMNS
-    X         COST      -1
-    X         CHG       -1
-    X         LIM       1
-    Y         COST      -2
-    Y         LIM       1
-RHS
-    B         LIM       4
-BOUNDS
- UP BND       X         3
-ENDATA
 ",
+            TWO,
+        ],
         status: 0,
         listing: b"CONVERT TWO      ROWS 3 COLUMNS 2 ENTRIES 5
 SETUP   TWO      MIN
@@ -47,35 +35,18 @@ END 0
     },
     Row {
         name: "range testprob",
-        job: b"         PROGRAM
+        job: &[
+            b"         PROGRAM
          CONVERT
          SETUP('BOUND','BND1')
          PRIMAL
          RANGE
          EXIT
          PEND
-NAME          TESTPROB
-ROWS
- N  COST
- L  LIM1
- G  LIM2
- E  MYEQN
-COLUMNS
-    XONE      COST      1              LIM1      1
-    XONE      LIM2      1
-    YTWO      COST      4              LIM1      1
-    YTWO      MYEQN     -1
-    ZTHREE    COST      9              LIM2      1
-    ZTHREE    MYEQN     1
-RHS
-    RHS       LIM1      5              LIM2      10
-    RHS       MYEQN     7
-BOUNDS
- UP BND1      XONE      4
- LO BND1      YTWO      -1
- UP BND1      YTWO      1
-ENDATA
 ",
+            TESTPROB_CARDS,
+            ENDATA,
+        ],
         status: 0,
         listing: b"CONVERT TESTPROB ROWS 4 COLUMNS 3 ENTRIES 9
 SETUP   TESTPROB MIN
@@ -96,7 +67,8 @@ END 0
     },
     Row {
         name: "unbounded demand range",
-        job: b"         PROGRAM
+        job: &[
+            b"         PROGRAM
          CONVERT
          SETUP
          MVADR(XDOUNB,LAB)
@@ -105,13 +77,9 @@ END 0
 LAB      RANGE
          EXIT
          PEND
-NAME          T
-ROWS
- N  COST
-COLUMNS
-    X         COST      -1
-ENDATA
 ",
+            ENDLESS,
+        ],
         status: 10,
         listing: b"CONVERT T        ROWS 1 COLUMNS 1 ENTRIES 1
 SETUP   T        MIN
@@ -123,44 +91,30 @@ STOP 10 VERB FAULT 5 CARD 7
     },
     Row {
         name: "range without a setup",
-        job: b"         PROGRAM
+        job: &[
+            b"         PROGRAM
          CONVERT
          RANGE
          EXIT
          PEND
-NAME          ONE
-ROWS
- N  COST
- G  LOW
-COLUMNS
-    X         COST      1
-    X         LOW       1
-RHS
-    B         LOW       1
-ENDATA
 ",
+            ONE,
+        ],
         status: 10,
         listing: b"CONVERT ONE      ROWS 2 COLUMNS 1 ENTRIES 2\nSTOP 10 VERB FAULT 3 CARD 3\n",
     },
     Row {
         name: "range without a mark",
-        job: b"         PROGRAM
+        job: &[
+            b"         PROGRAM
          CONVERT
          SETUP
          RANGE
          EXIT
          PEND
-NAME          ONE
-ROWS
- N  COST
- G  LOW
-COLUMNS
-    X         COST      1
-    X         LOW       1
-RHS
-    B         LOW       1
-ENDATA
 ",
+            ONE,
+        ],
         status: 10,
         listing: b"CONVERT ONE      ROWS 2 COLUMNS 1 ENTRIES 2
 SETUP   ONE      MIN

@@ -1,11 +1,14 @@
 // Worked jobs that revise a problem.
+use crate::problems::{ONE, REVISED_SIDE};
+use crate::programs::REVISE;
 use crate::rows::Row;
 
 /// Revisions, with their faults.
 pub const REVISIONS: [Row; 10] = [
     Row {
         name: "revise right hand side",
-        job: b"         PROGRAM
+        job: &[
+            b"         PROGRAM
          CONVERT
          SETUP
          PRIMAL
@@ -15,22 +18,10 @@ pub const REVISIONS: [Row; 10] = [
          PRIMAL
          EXIT
          PEND
-NAME          ONE
-ROWS
- N  COST
- G  LOW
-COLUMNS
-    X         COST      1
-    X         LOW       1
-RHS
-    B         LOW       1
-ENDATA
-NAME          REV
-RHS
- MODIFY
-    B         LOW       2
-ENDATA
 ",
+            ONE,
+            REVISED_SIDE,
+        ],
         status: 0,
         listing: b"CONVERT ONE      ROWS 2 COLUMNS 1 ENTRIES 2
 SETUP   ONE      MIN
@@ -43,27 +34,16 @@ END 0
     },
     Row {
         name: "revise delete row",
-        job: b"         PROGRAM
-         CONVERT
-         REVISE
-         EXIT
-         PEND
-NAME          ONE
-ROWS
- N  COST
- G  LOW
-COLUMNS
-    X         COST      1
-    X         LOW       1
-RHS
-    B         LOW       1
-ENDATA
-NAME          REV
+        job: &[
+            REVISE,
+            ONE,
+            b"NAME          REV
 ROWS
  DELETE
  G  LOW
 ENDATA
 ",
+        ],
         status: 0,
         listing: b"CONVERT ONE      ROWS 2 COLUMNS 1 ENTRIES 2
 REVISE  REV      ROWS 1 COLUMNS 1 ENTRIES 1
@@ -72,59 +52,38 @@ END 0
     },
     Row {
         name: "revise delete missing",
-        job: b"         PROGRAM
-         CONVERT
-         REVISE
-         EXIT
-         PEND
-NAME          ONE
-ROWS
- N  COST
- G  LOW
-COLUMNS
-    X         COST      1
-    X         LOW       1
-RHS
-    B         LOW       1
-ENDATA
-NAME          REV
+        job: &[
+            REVISE,
+            ONE,
+            b"NAME          REV
 ROWS
  DELETE
  G  ZZ
 ENDATA
 ",
+        ],
         status: 12,
         listing: b"CONVERT ONE      ROWS 2 COLUMNS 1 ENTRIES 2\nSTOP 12 DECK FAULT 23 CARD 19\n",
     },
     Row {
         name: "revise unknown action",
-        job: b"         PROGRAM
-         CONVERT
-         REVISE
-         EXIT
-         PEND
-NAME          ONE
-ROWS
- N  COST
- G  LOW
-COLUMNS
-    X         COST      1
-    X         LOW       1
-RHS
-    B         LOW       1
-ENDATA
-NAME          REV
+        job: &[
+            REVISE,
+            ONE,
+            b"NAME          REV
 ROWS
  CHANGE
  G  LOW
 ENDATA
 ",
+        ],
         status: 12,
         listing: b"CONVERT ONE      ROWS 2 COLUMNS 1 ENTRIES 2\nSTOP 12 DECK FAULT 21 CARD 18\n",
     },
     Row {
         name: "revise keeps the old problem",
-        job: b"         PROGRAM
+        job: &[
+            b"         PROGRAM
          CONVERT
          REVISE
          MOVE(XPBNAME,'ONE')
@@ -132,22 +91,10 @@ ENDATA
          PRIMAL
          EXIT
          PEND
-NAME          ONE
-ROWS
- N  COST
- G  LOW
-COLUMNS
-    X         COST      1
-    X         LOW       1
-RHS
-    B         LOW       1
-ENDATA
-NAME          REV
-RHS
- MODIFY
-    B         LOW       2
-ENDATA
 ",
+            ONE,
+            REVISED_SIDE,
+        ],
         status: 0,
         listing: b"CONVERT ONE      ROWS 2 COLUMNS 1 ENTRIES 2
 REVISE  REV      ROWS 2 COLUMNS 1 ENTRIES 2
@@ -158,7 +105,8 @@ END 0
     },
     Row {
         name: "revise of an old name",
-        job: b"         PROGRAM
+        job: &[
+            b"         PROGRAM
          CONVERT
          REVISE
          MOVE(XOLDNAME,'ONE')
@@ -167,27 +115,16 @@ END 0
          PRIMAL
          EXIT
          PEND
-NAME          ONE
-ROWS
- N  COST
- G  LOW
-COLUMNS
-    X         COST      1
-    X         LOW       1
-RHS
-    B         LOW       1
-ENDATA
-NAME          REV
-RHS
- MODIFY
-    B         LOW       2
-ENDATA
-NAME          REV2
+",
+            ONE,
+            REVISED_SIDE,
+            b"NAME          REV2
 COLUMNS
  MODIFY
     X         COST      5
 ENDATA
 ",
+        ],
         status: 0,
         listing: b"CONVERT ONE      ROWS 2 COLUMNS 1 ENTRIES 2
 REVISE  REV      ROWS 2 COLUMNS 1 ENTRIES 2
@@ -199,29 +136,18 @@ END 0
     },
     Row {
         name: "revise clears the setup",
-        job: b"         PROGRAM
+        job: &[
+            b"         PROGRAM
          CONVERT
          SETUP
          REVISE
          PRIMAL
          EXIT
          PEND
-NAME          ONE
-ROWS
- N  COST
- G  LOW
-COLUMNS
-    X         COST      1
-    X         LOW       1
-RHS
-    B         LOW       1
-ENDATA
-NAME          REV
-RHS
- MODIFY
-    B         LOW       2
-ENDATA
 ",
+            ONE,
+            REVISED_SIDE,
+        ],
         status: 10,
         listing: b"CONVERT ONE      ROWS 2 COLUMNS 1 ENTRIES 2
 SETUP   ONE      MIN
@@ -231,64 +157,36 @@ STOP 10 VERB FAULT 3 CARD 5
     },
     Row {
         name: "revise without a problem",
-        job: b"         PROGRAM
+        job: &[
+            b"         PROGRAM
          REVISE
          EXIT
          PEND
-NAME          REV
-RHS
- MODIFY
-    B         LOW       2
-ENDATA
 ",
+            REVISED_SIDE,
+        ],
         status: 10,
         listing: b"STOP 10 VERB FAULT 2 CARD 2\n",
     },
     Row {
         name: "revise of an unknown name",
-        job: b"         PROGRAM
+        job: &[
+            b"         PROGRAM
          CONVERT
          MOVE(XOLDNAME,'TWO')
          REVISE
          EXIT
          PEND
-NAME          ONE
-ROWS
- N  COST
- G  LOW
-COLUMNS
-    X         COST      1
-    X         LOW       1
-RHS
-    B         LOW       1
-ENDATA
-NAME          REV
-RHS
- MODIFY
-    B         LOW       2
-ENDATA
 ",
+            ONE,
+            REVISED_SIDE,
+        ],
         status: 10,
         listing: b"CONVERT ONE      ROWS 2 COLUMNS 1 ENTRIES 2\nSTOP 10 VERB FAULT 2 CARD 4\n",
     },
     Row {
         name: "revise without a deck",
-        job: b"         PROGRAM
-         CONVERT
-         REVISE
-         EXIT
-         PEND
-NAME          ONE
-ROWS
- N  COST
- G  LOW
-COLUMNS
-    X         COST      1
-    X         LOW       1
-RHS
-    B         LOW       1
-ENDATA
-",
+        job: &[REVISE, ONE],
         status: 10,
         listing: b"CONVERT ONE      ROWS 2 COLUMNS 1 ENTRIES 2\nSTOP 10 VERB FAULT 1 CARD 3\n",
     },

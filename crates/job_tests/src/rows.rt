@@ -4,7 +4,8 @@
 pub struct Row {
     /// What it shows.
     pub name: &'static str,
-    pub job: &'static [u8],
+    /// Its control program and its decks, one after another.
+    pub job: &'static [&'static [u8]],
     pub status: u8,
     pub listing: &'static [u8],
 }
@@ -13,7 +14,8 @@ pub struct Row {
 pub struct DeckRow {
     /// What it shows.
     pub name: &'static str,
-    pub job: &'static [u8],
+    /// Its control program and its decks, one after another.
+    pub job: &'static [&'static [u8]],
     pub status: u8,
     pub listing: &'static [u8],
     pub cards: &'static [u8],

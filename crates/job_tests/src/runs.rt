@@ -2,7 +2,7 @@
 use crate::bases::BASES;
 use crate::dual_paths::DUAL_PATHS;
 use crate::faults::{CONTROL_FAULTS, DECK_FAULTS, VERB_FAULTS};
-use crate::jobs::answer_of;
+use crate::jobs::{answer_of, answer_of_parts};
 use crate::overflows::OVERFLOWS;
 use crate::parametric_runs::PARAMETRIC;
 use crate::plans::PLANS;
@@ -16,12 +16,12 @@ use std::test::Fail;
 
 // Whether the job has this status and this listing.
 fn is_reported(alloc: Global, row: &Row) -> Result<bool, Fail> {
-    Ok(answer_of(alloc, row.job)?.is(row.status, row.listing))
+    Ok(answer_of_parts(alloc, row.job)?.is(row.status, row.listing))
 }
 
 /// Whether it has this status, and a listing that begins so.
 pub fn is_begun(alloc: Global, row: &Row) -> Result<bool, Fail> {
-    let answer = answer_of(alloc, row.job)?;
+    let answer = answer_of_parts(alloc, row.job)?;
     Ok(answer.status == row.status && answer.print.bytes().starts_with(row.listing))
 }
 
@@ -38,7 +38,7 @@ pub fn first_unreported(alloc: Global, rows: &[Row]) -> Result<Option<&'static s
 /// The name of the first of these jobs that has another status or listing, or punches other cards.
 pub fn first_unpunched(alloc: Global, rows: &[DeckRow]) -> Result<Option<&'static str>, Fail> {
     for row in rows {
-        if !answer_of(alloc, row.job)?.is_punched(row.status, row.listing, row.cards) {
+        if !answer_of_parts(alloc, row.job)?.is_punched(row.status, row.listing, row.cards) {
             return Ok(Some(row.name));
         }
     }

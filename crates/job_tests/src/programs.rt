@@ -1,0 +1,149 @@
+// Control programs that stand in several jobs.
+
+/// Reads a problem.
+pub const CONVERT: &[u8] = b"         PROGRAM
+         CONVERT
+         EXIT
+         PEND
+";
+
+/// Reads a problem and revises it.
+pub const REVISE: &[u8] = b"         PROGRAM
+         CONVERT
+         REVISE
+         EXIT
+         PEND
+";
+
+/// Solves a problem and shows its plan.
+pub const SOLVE: &[u8] = b"         PROGRAM
+         CONVERT
+         SETUP
+         PRIMAL
+         SOLUTION
+         EXIT
+         PEND
+";
+
+/// SOLVE, but the objective is maximised.
+pub const SOLVE_MAX: &[u8] = b"         PROGRAM
+         CONVERT
+         SETUP('MAX')
+         PRIMAL
+         SOLUTION
+         EXIT
+         PEND
+";
+
+/// SOLVE with the set BND of bounds.
+pub const SOLVE_BND: &[u8] = b"         PROGRAM
+         CONVERT
+         SETUP('BOUND','BND')
+         PRIMAL
+         SOLUTION
+         EXIT
+         PEND
+";
+
+/// SOLVE with the set BND1 of bounds.
+pub const SOLVE_BND1: &[u8] = b"         PROGRAM
+         CONVERT
+         SETUP('BOUND','BND1')
+         PRIMAL
+         SOLUTION
+         EXIT
+         PEND
+";
+
+/// SOLVE with the set R of ranges.
+pub const SOLVE_RANGE: &[u8] = b"         PROGRAM
+         CONVERT
+         SETUP('RANGE','R')
+         PRIMAL
+         SOLUTION
+         EXIT
+         PEND
+";
+
+/// SOLVE where no step may be made.
+pub const SOLVE_IN_NO_STEP: &[u8] = b"         PROGRAM
+         CONVERT
+         SETUP
+         MOVE(XITERLIM,0)
+         PRIMAL
+         SOLUTION
+         EXIT
+         PEND
+";
+
+/// Revises a problem, solves it, and writes it out.
+pub const REVISE_AND_SOLVE: &[u8] = b"         PROGRAM
+         CONVERT
+         REVISE
+         SETUP
+         PRIMAL
+         SOLUTION
+         BCDOUT
+         EXIT
+         PEND
+";
+
+/// Follows the dual path and shows the plan.
+pub const DUAL: &[u8] = b"         PROGRAM
+         CONVERT
+         SETUP
+         DUAL
+         SOLUTION
+         EXIT
+         PEND
+";
+
+/// DUAL with the set BND of bounds.
+pub const DUAL_BND: &[u8] = b"         PROGRAM
+         CONVERT
+         SETUP('BOUND','BND')
+         DUAL
+         SOLUTION
+         EXIT
+         PEND
+";
+
+/// Reads a problem and the deck of a basis.
+pub const INSERT: &[u8] = b"         PROGRAM
+         CONVERT
+         SETUP
+         INSERT
+         EXIT
+         PEND
+";
+
+/// INSERT with the set BND of bounds.
+pub const INSERT_BND: &[u8] = b"         PROGRAM
+         CONVERT
+         SETUP('BOUND','BND')
+         INSERT
+         EXIT
+         PEND
+";
+
+/// Follows the change CHG of the objective up to 5.
+pub const PARAOBJ_TO_5: &[u8] = b"         PROGRAM
+         CONVERT
+         SETUP
+         MOVE(XCHROW,'CHG')
+         MOVE(XPARMAX,5)
+         PARAOBJ
+         EXIT
+         PEND
+";
+
+/// Follows the change C of the right-hand side up to 5, with the set BND of bounds.
+pub const PARARHS_TO_5: &[u8] = b"         PROGRAM
+         CONVERT
+         SETUP('BOUND','BND')
+         MOVE(XCHCOL,'C')
+         MOVE(XPARMAX,5)
+         PARARHS
+         EXIT
+         PEND
+";
