@@ -23,6 +23,8 @@ mod punched;
 #[cfg(test)]
 mod ranges;
 #[cfg(test)]
+mod ratios;
+#[cfg(test)]
 mod texts;
 #[cfg(test)]
 mod transport;
