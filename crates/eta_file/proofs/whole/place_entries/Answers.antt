@@ -8,7 +8,7 @@ use Rattle.eta_file.specs.declared.eta.EtaEntry.{EtaEntry}
 use Rattle.eta_file.specs.Entries.{IsEntryWithin}
 use Rattle.eta_file.proofs.CarrySteps.{scaled_more, sum_next_other}
 use Rattle.eta_file.proofs.whole.place_entries.Goals as goal
-use Rattle.eta_file.proofs.whole.place_entries.Goals.{then-entry-p+in_ok-whole+in_ok-number+in_ok-put, else-entry-p}
+use Rattle.eta_file.proofs.whole.place_entries.Goals.{then-entry-p+in_ok-as_whole+in_ok-number+in_ok-put, else-entry-p}
 
 pub loop-entry-init : goal.loop-entry-init
 loop-entry-init c = record { places = search rules; each = λ k low high other. c.requires.zero k low ∙ sym (mul-zero one_ℚ) }
@@ -20,10 +20,10 @@ loop-entry-preserved c =
     (c.requires.within c.loop-entry.entry-index c.entry-item.result c.loop-entry-test.true) in
     let inside : IsEntryWithin (length c.loop-entry.out) c.entry-item.result = (within.0, omega (arith, within.1, c.loop-entry.invariant.places)) in
     elim c.if-entry-p.branch [
-      | then-entry-p+in_ok-whole+in_ok-number+in_ok-put w ↦
+      | then-entry-p+in_ok-as_whole+in_ok-number+in_ok-put w ↦
           let number : ℚ = whole (to_z w128 (of_z w128 w.in_ok-number.number)) in
           let is_number : number ≡ one_ℚ *ℚ c.entry-item.result.rate =
-          ap whole (to_z-of_z w128 w.in_ok-number.number (search rules)) ∙ w.in_ok-number.ensures.value ∙ w.in_ok-whole.ensures ∙ sym (one-mul c.entry-item.result.rate) in
+          ap whole (to_z-of_z w128 w.in_ok-number.number (search rules)) ∙ w.in_ok-number.ensures.value ∙ w.in_ok-as_whole.ensures ∙ sym (one-mul c.entry-item.result.rate) in
           rw w.out-is (record {
             places = w.put.ensures.places ∙ c.loop-entry.invariant.places;
             each = λ k low high other.

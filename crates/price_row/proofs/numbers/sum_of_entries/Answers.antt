@@ -7,7 +7,7 @@ pub loop-entry-preserved : goal.loop-entry-preserved
 loop-entry-preserved g c = record {
   total = λ p none.
       c.in_ok-sum.ensures.value
-      ∙ ap (λ y. g.N.Numbers.fraction c.loop-entry.sum +ℚ g.N.Numbers.fraction c.number_at-number.result *ℚ y) c.in_ok-whole.ensures
+      ∙ ap (λ y. g.N.Numbers.fraction c.loop-entry.sum +ℚ g.N.Numbers.fraction c.number_at-number.result *ℚ y) c.in_ok-as_whole.ensures
       ∙ ap₂ (λ s x. s +ℚ x *ℚ c.entry-item.result.rate) (c.loop-entry.invariant.total p none) c.number_at-number.ensures.value
       ∙ sym (weighted_next p (map g.N.Numbers.fraction c.args.numbers.now) c.args.entries.now c.loop-entry.entry-index c.entry-item.result
       (g.N.Numbers.fraction c.args.first) c.loop-entry-test.true c.entry-item.is none);
