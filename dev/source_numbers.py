@@ -2,7 +2,7 @@
 """The source in numbers: prints a row of a table for each. Lines are counted as docs/LAYERS.md counts them. A parameter is one of a function
 in src/, with self. A dependency points upward where a crate stands on one of a higher layer, or of its own layer but further down in
 crates.txt. With --duplicates it counts, by the command duplicates where that is there, the pairs of places in src/ and specs/ that share
-six or more lines.
+six or more lines: with all lines, and without imports, which that command passes over in Rust but not in the form `ghost use`.
 
 usage: source_numbers.py [--duplicates] [TREE]     TREE is a checkout, this one where none is given"""
 import os
@@ -74,7 +74,12 @@ def upward(crates: layers.Map) -> int:
     return sum(place[other] > place[crate] for crate in crates.order for other in crates.below[crate])
 
 
-def pairs(tree: Path) -> str | int:
+def without_imports(text: str) -> str:
+    "the text without its lines of imports for clauses"
+    return "".join(line for line in text.splitlines(keepends=True) if not line.lstrip().startswith("ghost use "))
+
+
+def pairs(tree: Path, with_imports: bool) -> str | int:
     "how many pairs of places the command duplicates finds; it reads .rs files, so the code is read under such names"
     if not shutil.which("duplicates"):
         return "no command duplicates"
@@ -83,7 +88,8 @@ def pairs(tree: Path) -> str | int:
             if "declared" not in path.parts:
                 copy = pathlib.Path(folder) / f"{path.relative_to(tree)}.rs"
                 copy.parent.mkdir(parents=True, exist_ok=True)
-                shutil.copyfile(path, copy)
+                text = path.read_text(encoding="utf-8")
+                copy.write_text(text if with_imports else without_imports(text), encoding="utf-8")
         said = subprocess.run(["duplicates", "--most", str(MOST_PAIRS), "--seconds", str(MOST_SECONDS)], cwd=folder, capture_output=True, text=True).stdout
     more = re.search(r"^\(\+(\d+) more pairs\)", said, re.MULTILINE)
     whole = "" if "incomplete:" not in said else " at least"
@@ -98,7 +104,8 @@ def rows(tree: Path, with_duplicates: bool) -> Iterator[tuple[str, int | str]]:
     yield "crates", len(crates.order)
     yield f"functions with {MANY} or more parameters", sum(count >= MANY for text in texts for count in functions(text))
     if with_duplicates:
-        yield "pairs of repeated runs of six or more lines", pairs(tree)
+        yield "pairs of repeated runs of six or more lines", pairs(tree, True)
+        yield "the same without imports", pairs(tree, False)
     yield "longest chain of crates", len(crates.longest())
     yield "upward dependencies", upward(crates)
     yield "must-fail edits", len(list(tree.glob("crates/*/must-fail/*.edit")))
