@@ -20,5 +20,6 @@ module _ {X : Type 0} (f : X → List ℕ) (xs : List X) (i : ℕ) where
   writes_next d inside so_far next = writes_same (one_more d inside) (writes_then so_far next)
 
   -- the texts of all items
-  pub writes_whole : {T : Type 0} {a b : SinkState} {r : Result T WriteStop} → length xs ≤ i → Writes a b r (flat_map f (take i xs)) → Writes a b r (flat_map f xs)
+  pub writes_whole : {T : Type 0} {a b : SinkState} {r : Result T WriteStop} → length xs ≤ i → Writes a b r (flat_map f (take i xs)) →
+      Writes a b r (flat_map f xs)
   writes_whole all = writes_same (ap (flat_map f) (take_all i xs all))

@@ -307,7 +307,9 @@ pub fn put_value_section<P: Sink>(
     ensures { Writes (P.taken punch.old) (P.taken punch.new) result
         (section_lines word.now (entry_lines (map (λ row. row.name) rows.now)) sets.now) }
 {
-    put_section(punch, word, sets, |punch, set| put_value_set(punch, rows, set))
+    put_section(punch, word, sets, |punch, set| {
+        put_value_set(punch, rows, set)
+    })
 }
 
 /// Writes the section of the bounds, if there is a set.
@@ -319,5 +321,7 @@ pub fn put_bound_section<P: Sink>(
     ensures { Writes (P.taken punch.old) (P.taken punch.new) result
         (section_lines (codes "BOUNDS") (bound_lines (group_names columns.now)) sets.now) }
 {
-    put_section(punch, b"BOUNDS", sets, |punch, set| put_bound_set(punch, columns, set))
+    put_section(punch, b"BOUNDS", sets, |punch, set| {
+        put_bound_set(punch, columns, set)
+    })
 }
