@@ -1,5 +1,7 @@
 -- The lines of a written deck, by the numbers of rows and columns.
-use Rattle.std.specs.Prelude.{ℕ, ◌+◌, length, sum_by, List, [], ◌∷◌, ◌++◌, codes, if◌then◌else◌, map, Option, Some, None, is_none, unwrap_or, option_map}
+use denote.Bor.{Bor}
+use Rattle.std.specs.Borrow.{MutBor}
+use Rattle.std.specs.Prelude.{ℕ, ◌+◌, length, sum_by, List, [], ◌∷◌, ◌++◌, codes, if◌then◌else◌, map, Option, Some, None, is_none, unwrap_or, option_map, Result}
 use Rattle.std.specs.List.{flat_map, find}
 use Rattle.std.specs.Option.{option_to_list}
 use Rattle.card_definitions.specs.Words.{is_empty, padded}
@@ -8,6 +10,9 @@ use Rattle.problem_definitions.specs.Names.{Name, name_at}
 use Rattle.problem_definitions.specs.Problem.{Row, Entry, Bound, Group}
 use Rattle.deck_definitions.specs.DataCards.{combination_text}
 use Rattle.deck_definitions.specs.Written.{data_card, row_kind_text, bound_kind_text}
+use Rattle.job_devices.specs.States.{SinkState}
+use Rattle.job_devices.specs.Text.{Writes}
+use Rattle.job_devices.specs.declared.device.WriteStop.{WriteStop}
 
 -- a card with its line feed
 abbrev pub line : List ℕ → List ℕ
@@ -81,3 +86,9 @@ section_count sets = if is_empty sets then 0 else 1 + sum_by (λ set. length set
 -- a printed count goes no further than this
 abbrev pub max_counted : ℕ
 max_counted = 4294967295
+
+-- what is asked of calls that write something: each writes these lines of it
+abbrev pub WritesEach : {P X : Type 0} → (P → SinkState) → (MutBor P → Bor X → Result (Unit {0}) WriteStop → MutBor P → Type 0) → (X → List ℕ) → Type 0
+WritesEach taken puts lines =
+    (before : MutBor _) (x : Bor _) (result : Result (Unit {0}) WriteStop) (after : MutBor _) → puts before x result after →
+    Writes (taken before.now) (taken after.now) result (lines x.now)

@@ -1,12 +1,12 @@
 // The sections of a deck.
-ghost use Rattle.std.specs.Prelude.{◌≡◌, ◌≤◌, ◌++◌, codes, map, length};
+ghost use Rattle.std.specs.Prelude.{◌≡◌, ◌≤◌, ◌++◌, ℕ, List, codes, map, length};
 ghost use Rattle.std.specs.List.{flat_map};
 ghost use Rattle.std.specs.Option.{option_copied, option_to_list};
 ghost use Rattle.problem_definitions.specs.Names.{name_at};
 ghost use Rattle.problem_definitions.specs.Problem.{group_names};
 ghost use Rattle.deck_definitions.specs.Written.{row_kind_text, bound_kind_text};
 ghost use Rattle.job_devices.specs.Text.{Writes};
-ghost use Rattle.bcd_out.specs.Lines.{line, bare_line, item_line, combination_lines, row_lines, first_plain, zero_line, entry_lines, column_lines, bound_line, number_text, bound_lines, section_lines};
+ghost use Rattle.bcd_out.specs.Lines.{WritesEach, line, bare_line, item_line, combination_lines, row_lines, first_plain, zero_line, entry_lines, column_lines, bound_line, number_text, bound_lines, section_lines};
 
 use crate::card::{WrittenCard, put_card};
 use deck_fields::combination_word;
@@ -66,6 +66,56 @@ pub fn column_name(columns: &[ColumnDecl], number: u32) -> &[u8]
     }
 }
 
+// Writes what a function writes of each of these, one after the other.
+fn put_in_turn<P: Sink, T, F: Fn(&mut P, &T) -> Result<(), WriteStop>>(
+    punch: &mut P,
+    items: &[T],
+    put: F,
+) -> Result<(), WriteStop>
+    requires { F.IsAlwaysCallable put }
+    ensures { (lines : T → List ℕ) → WritesEach P.taken (F.post put) lines →
+        Writes (P.taken punch.old) (P.taken punch.new) result (flat_map lines items.now) }
+{
+    for item in items {
+        put(punch, item)?;
+    }
+    Ok(())
+}
+
+// Writes the card of a section, and what a function writes of each of these.
+fn put_under<P: Sink, T, F: Fn(&mut P, &T) -> Result<(), WriteStop>>(
+    punch: &mut P,
+    word: &'static [u8],
+    items: &[T],
+    put: F,
+) -> Result<(), WriteStop>
+    requires { F.IsAlwaysCallable put }
+    ensures { (lines : T → List ℕ) → WritesEach P.taken (F.post put) lines →
+        Writes (P.taken punch.old) (P.taken punch.new) result
+        (line word.now ++ flat_map lines items.now) }
+{
+    put_each(punch, &[word, b"\n"])?;
+    put_in_turn(punch, items, put)
+}
+
+// Writes a section, if there is something in it.
+fn put_section<P: Sink, T, F: Fn(&mut P, &T) -> Result<(), WriteStop>>(
+    punch: &mut P,
+    word: &'static [u8],
+    items: &[T],
+    put: F,
+) -> Result<(), WriteStop>
+    requires { F.IsAlwaysCallable put }
+    ensures { (lines : T → List ℕ) → WritesEach P.taken (F.post put) lines →
+        Writes (P.taken punch.old) (P.taken punch.new) result
+        (section_lines word.now lines items.now) }
+{
+    if items.is_empty() {
+        return put_all(punch, b"");
+    }
+    put_under(punch, word, items, put)
+}
+
 // A row without parts, by the word of its type.
 fn put_bare_row<P: Sink>(punch: &mut P, word: &[u8], name: Name) -> Result<(), WriteStop>
     requires { length word.now ≤ 2 }
@@ -112,10 +162,9 @@ fn put_items<P: Sink>(
     ensures { Writes (P.taken punch.old) (P.taken punch.new) result
         (flat_map (item_line (map (λ row. row.name) rows.now) word.now name) items.now) }
 {
-    for item in items {
-        put_item(punch, rows, word, name, *item)?;
-    }
-    Ok(())
+    put_in_turn(punch, items, |punch, item| {
+        put_item(punch, rows, word, name, *item)
+    })
 }
 
 fn put_combination<P: Sink>(
@@ -143,16 +192,6 @@ fn put_row<P: Sink>(punch: &mut P, rows: &[RowDecl], row: &RowDecl) -> Result<()
         None => put_bare_row(punch, row_kind_word(row.kind), row.name),
         Some(parts) => put_combination(punch, rows, row.kind, row.name, parts),
     }
-}
-
-fn put_row_cards<P: Sink>(punch: &mut P, rows: &[RowDecl]) -> Result<(), WriteStop>
-    ensures { Writes (P.taken punch.old) (P.taken punch.new) result
-        (flat_map (row_lines (map (λ row. row.name) rows.now)) rows.now) }
-{
-    for row in rows {
-        put_row(punch, rows, row)?;
-    }
-    Ok(())
 }
 
 /// The first plain row, if there is one.
@@ -194,53 +233,11 @@ fn put_column<P: Sink>(
     }
 }
 
-fn put_column_cards<P: Sink>(
-    punch: &mut P,
-    rows: &[RowDecl],
-    columns: &[ColumnDecl],
-) -> Result<(), WriteStop>
-    ensures { Writes (P.taken punch.old) (P.taken punch.new) result
-        (flat_map (column_lines rows.now) columns.now) }
-{
-    for column in columns {
-        put_column(punch, rows, column)?;
-    }
-    Ok(())
-}
-
 fn put_value_set<P: Sink>(punch: &mut P, rows: &[RowDecl], set: &ValueSet) -> Result<(), WriteStop>
     ensures { Writes (P.taken punch.old) (P.taken punch.new) result
         (entry_lines (map (λ row. row.name) rows.now) set.now) }
 {
     put_items(punch, rows, b"", set.name, &set.entries)
-}
-
-fn put_value_sets<P: Sink>(
-    punch: &mut P,
-    rows: &[RowDecl],
-    sets: &[ValueSet],
-) -> Result<(), WriteStop>
-    ensures { Writes (P.taken punch.old) (P.taken punch.new) result
-        (flat_map (entry_lines (map (λ row. row.name) rows.now)) sets.now) }
-{
-    for set in sets {
-        put_value_set(punch, rows, set)?;
-    }
-    Ok(())
-}
-
-// The sets under the card of their section.
-fn put_values_under<P: Sink>(
-    punch: &mut P,
-    word: &'static [u8],
-    rows: &[RowDecl],
-    sets: &[ValueSet],
-) -> Result<(), WriteStop>
-    ensures { Writes (P.taken punch.old) (P.taken punch.new) result
-        (line word.now ++ flat_map (entry_lines (map (λ row. row.name) rows.now)) sets.now) }
-{
-    put_each(punch, &[word, b"\n"])?;
-    put_value_sets(punch, rows, sets)
 }
 
 fn put_bound<P: Sink>(
@@ -265,21 +262,6 @@ fn put_bound<P: Sink>(
     put_card(punch, card)
 }
 
-fn put_bounds<P: Sink>(
-    punch: &mut P,
-    columns: &[ColumnDecl],
-    name: Name,
-    bounds: &[BoundItem],
-) -> Result<(), WriteStop>
-    ensures { Writes (P.taken punch.old) (P.taken punch.new) result
-        (flat_map (bound_line (group_names columns.now) name) bounds.now) }
-{
-    for bound in bounds {
-        put_bound(punch, columns, name, *bound)?;
-    }
-    Ok(())
-}
-
 fn put_bound_set<P: Sink>(
     punch: &mut P,
     columns: &[ColumnDecl],
@@ -288,34 +270,9 @@ fn put_bound_set<P: Sink>(
     ensures { Writes (P.taken punch.old) (P.taken punch.new) result
         (bound_lines (group_names columns.now) set.now) }
 {
-    put_bounds(punch, columns, set.name, &set.items)
-}
-
-fn put_bound_sets<P: Sink>(
-    punch: &mut P,
-    columns: &[ColumnDecl],
-    sets: &[BoundSet],
-) -> Result<(), WriteStop>
-    ensures { Writes (P.taken punch.old) (P.taken punch.new) result
-        (flat_map (bound_lines (group_names columns.now)) sets.now) }
-{
-    for set in sets {
-        put_bound_set(punch, columns, set)?;
-    }
-    Ok(())
-}
-
-// The sets of bounds under the card of their section.
-fn put_bounds_under<P: Sink>(
-    punch: &mut P,
-    columns: &[ColumnDecl],
-    sets: &[BoundSet],
-) -> Result<(), WriteStop>
-    ensures { Writes (P.taken punch.old) (P.taken punch.new) result
-        (line (codes "BOUNDS") ++ flat_map (bound_lines (group_names columns.now)) sets.now) }
-{
-    put_all(punch, b"BOUNDS\n")?;
-    put_bound_sets(punch, columns, sets)
+    put_in_turn(punch, &set.items, |punch, bound| {
+        put_bound(punch, columns, set.name, *bound)
+    })
 }
 
 /// Writes the section of the rows.
@@ -323,8 +280,7 @@ pub fn put_rows<P: Sink>(punch: &mut P, rows: &[RowDecl]) -> Result<(), WriteSto
     ensures { Writes (P.taken punch.old) (P.taken punch.new) result
         (line (codes "ROWS") ++ flat_map (row_lines (map (λ row. row.name) rows.now)) rows.now) }
 {
-    put_all(punch, b"ROWS\n")?;
-    put_row_cards(punch, rows)
+    put_under(punch, b"ROWS", rows, |punch, row| put_row(punch, rows, row))
 }
 
 /// Writes the section of the columns.
@@ -336,8 +292,9 @@ pub fn put_columns<P: Sink>(
     ensures { Writes (P.taken punch.old) (P.taken punch.new) result
         (line (codes "COLUMNS") ++ flat_map (column_lines rows.now) columns.now) }
 {
-    put_all(punch, b"COLUMNS\n")?;
-    put_column_cards(punch, rows, columns)
+    put_under(punch, b"COLUMNS", columns, |punch, column| {
+        put_column(punch, rows, column)
+    })
 }
 
 /// Writes a section of right-hand sides or of ranges, if there is a set.
@@ -350,10 +307,9 @@ pub fn put_value_section<P: Sink>(
     ensures { Writes (P.taken punch.old) (P.taken punch.new) result
         (section_lines word.now (entry_lines (map (λ row. row.name) rows.now)) sets.now) }
 {
-    if sets.is_empty() {
-        return put_all(punch, b"");
-    }
-    put_values_under(punch, word, rows, sets)
+    put_section(punch, word, sets, |punch, set| {
+        put_value_set(punch, rows, set)
+    })
 }
 
 /// Writes the section of the bounds, if there is a set.
@@ -365,8 +321,7 @@ pub fn put_bound_section<P: Sink>(
     ensures { Writes (P.taken punch.old) (P.taken punch.new) result
         (section_lines (codes "BOUNDS") (bound_lines (group_names columns.now)) sets.now) }
 {
-    if sets.is_empty() {
-        return put_all(punch, b"");
-    }
-    put_bounds_under(punch, columns, sets)
+    put_section(punch, b"BOUNDS", sets, |punch, set| {
+        put_bound_set(punch, columns, set)
+    })
 }
