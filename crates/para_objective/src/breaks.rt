@@ -1,19 +1,21 @@
 //! Who moves at a breakpoint.
 
-ghost use Rattle.std.specs.Prelude.{◌≡◌, length, None};
+ghost use Rattle.std.specs.Prelude.{◌≡◌, length};
 ghost use Rattle.exact_values.specs.Rational.{zero_ℚ, ◌+ℚ◌, ◌*ℚ◌};
 ghost use Rattle.exact_values.specs.Tests.{eq_ℚ};
-ghost use Rattle.lp_definitions.specs.LinearProgram.{size, value_at, IsRow, IsVariable, IsLinearProgram};
-ghost use Rattle.lp_definitions.specs.Basis.{basics_of, ArePricesOf};
-ghost use Rattle.lp_model.specs.RatesCalls.{IsRowOf};
+ghost use Rattle.lp_definitions.specs.LinearProgram.{size, value_at, IsVariable};
 ghost use Rattle.simplex_definitions.specs.Moves.{least};
 ghost use Rattle.simplex_laws.specs.Laws.{IsNonsingularBasis};
+ghost use Rattle.parametric_run.specs.Standing.{IsWorkspaceOf};
 ghost use Rattle.para_objective.specs.Breaks.{is_entering_variable, IsFaceEnteringVariable};
+ghost use Rattle.para_objective.specs.Method.{objective_problem, FitsObjective};
 
 use crate::choices::worth;
+use crate::method::Objective;
 use basis_values::may_lower;
 use frac128::Frac;
 use lp_model::{Basis, Lp};
+use parametric_run::Workspace;
 
 /// Whether the combined rate is 0 at theta. A product that is refused isn't the opposite of a price, which fits: nothing stops this.
 fn is_zero_at(theta: Frac, price: Frac, rate: Frac) -> bool
@@ -59,25 +61,20 @@ fn entering_variable_by(
     None
 }
 
-/// The least-numbered nonbasic whose combined rate is 0 at theta and which may move so as to improve the row `row`. `prices` has the
-/// basis's prices, and `change` the rates of that row. Nothing stops this.
+/// The least-numbered nonbasic whose combined rate is 0 at theta and which may move so as to improve the change row. Nothing stops this.
 pub fn face_entering_variable(
-    lp: &Lp,
+    method: &Objective<'_>,
     basis: &Basis,
-    prices: &[Frac],
-    change: &[Frac],
-    row: u32,
+    workspace: &Workspace,
     theta: Frac,
 ) -> Option<u32>
-    requires lawful { IsLinearProgram lp.now }
-    requires no_change { lp.now.change ≡ None }
-    requires row { IsRow lp.now.matrix row }
-    requires basis { IsNonsingularBasis lp.now basis.now }
-    requires prices { ArePricesOf lp.now basis.now (value_at prices.now) }
-    requires change { IsRowOf lp.now.matrix (basics_of basis.now) row (value_at change.now) }
-    requires price_places { length prices.now ≡ size lp.now.matrix }
-    requires change_places { length change.now ≡ size lp.now.matrix }
-    ensures { IsFaceEnteringVariable lp.now row theta basis.now result }
+    requires fits { FitsObjective method.now.lp.now method.now.row }
+    requires basis { IsNonsingularBasis method.now.lp.now basis.now }
+    requires workspace { IsWorkspaceOf (objective_problem method.now.lp.now method.now.row)
+        basis.now workspace.now }
+    ensures { IsFaceEnteringVariable method.now.lp.now method.now.row theta basis.now result }
 {
-    entering_variable_by(lp, basis, prices, change, theta)
+    let prices = workspace.prices.as_slice();
+    let change = workspace.change.as_slice();
+    entering_variable_by(method.lp, basis, prices, change, theta)
 }

@@ -9,7 +9,5 @@ mod reaching;
 mod run;
 mod turns;
 
-pub use breaks::face_entering_variable;
 pub use parts::ParaObj;
-pub use reaching::reach;
 pub use run::para_obj;

@@ -83,14 +83,7 @@ impl<'a> Parametric for Objective<'a> {
         from: Frac,
         max: Frac,
     ) -> Result<ParaPart, Stop> {
-        let to = match reach(
-            self.lp,
-            basis,
-            &workspace.prices,
-            &workspace.change,
-            self.row,
-            max,
-        ) {
+        let to = match reach(self, basis, workspace, max) {
             Ok(to) => to,
             Err(evidence) => return Err(Stop::Overflow(evidence)),
         };
@@ -119,14 +112,7 @@ impl<'a> Parametric for Objective<'a> {
         theta: Frac,
         left: u32,
     ) -> Result<FaceStep, PrimalStop> {
-        let Some(q) = face_entering_variable(
-            self.lp,
-            basis,
-            &workspace.prices,
-            &workspace.change,
-            self.row,
-            theta,
-        ) else {
+        let Some(q) = face_entering_variable(self, basis, workspace, theta) else {
             return Ok(FaceStep::Done);
         };
         let up = rises(self.lp, workspace, q);

@@ -1,19 +1,21 @@
 //! How far a basis stays optimal.
 
-ghost use Rattle.std.specs.Prelude.{◌≡◌, ◌≢◌, length, IsTrue, None, IfOk, IfErr, OnErr};
+ghost use Rattle.std.specs.Prelude.{◌≡◌, ◌≢◌, length, IsTrue, IfOk, IfErr, OnErr};
 ghost use Rattle.exact_values.specs.Rational.{zero_ℚ, ◌≤ℚ◌};
 ghost use Rattle.frac128.specs.declared.Op.TheVariants.{Div};
-ghost use Rattle.lp_definitions.specs.LinearProgram.{size, value_at, IsRow, IsVariable, IsLinearProgram};
-ghost use Rattle.lp_definitions.specs.Basis.{basics_of, ArePricesOf};
-ghost use Rattle.lp_model.specs.RatesCalls.{IsRowOf};
+ghost use Rattle.lp_definitions.specs.LinearProgram.{size, value_at, IsVariable};
 ghost use Rattle.basis_values.specs.Formulas.{IsRefusal};
 ghost use Rattle.simplex_laws.specs.Laws.{IsNonsingularBasis};
+ghost use Rattle.parametric_run.specs.Standing.{IsWorkspaceOf};
+ghost use Rattle.para_objective.specs.Method.{objective_problem, FitsObjective};
 ghost use Rattle.para_objective.specs.Reach.{rate_formula, zero_at, meets, IsLeast, IsWithRate, IsReachOf, IsReachAbove, IsReachFromAny, RateRefused, EndRefused};
 
 use crate::choices::worth;
+use crate::method::Objective;
 use basis_values::{Formula, may_lower, plus_product};
 use frac128::Frac;
 use lp_model::{Basis, Evidence, Lp};
+use parametric_run::Workspace;
 
 /// Whether the combined rate hasn't passed 0 at the theta whose product with the rate this is.
 fn meets(product: Frac, price: Frac, rate: Frac) -> bool
@@ -150,29 +152,26 @@ fn least_computed(lp: &Lp, basis: &Basis, prices: &[Frac], change: &[Frac], max:
     best
 }
 
-/// The greatest theta up to `max` to which the basis stays optimal, from any theta at which it is, while theta times the row `row` is
-/// added to the objective. `prices` has the basis's prices, and `change` the rates of that row. Where an end can't be computed, the
-/// search begins again from the least of the others, which may show that it isn't needed. An overflow comes only with evidence of it at
-/// this basis.
+/// The greatest theta up to `max` to which the basis stays optimal, from any theta at which it is, while theta times the change row is
+/// added to the objective. Where an end can't be computed, the search begins again from the least of the others, which may show that it
+/// isn't needed. An overflow comes only with evidence of it at this basis.
 pub fn reach(
-    lp: &Lp,
+    method: &Objective<'_>,
     basis: &Basis,
-    prices: &[Frac],
-    change: &[Frac],
-    row: u32,
+    workspace: &Workspace,
     max: Frac,
 ) -> Result<Frac, Evidence>
-    requires lawful { IsLinearProgram lp.now }
-    requires no_change { lp.now.change ≡ None }
-    requires row { IsRow lp.now.matrix row }
-    requires basis { IsNonsingularBasis lp.now basis.now }
-    requires prices { ArePricesOf lp.now basis.now (value_at prices.now) }
-    requires change { IsRowOf lp.now.matrix (basics_of basis.now) row (value_at change.now) }
-    requires price_places { length prices.now ≡ size lp.now.matrix }
-    requires change_places { length change.now ≡ size lp.now.matrix }
-    ensures reaches { IfOk result (IsReachFromAny lp.now row basis.now max) }
-    ensures overflow { IfErr result (EndRefused lp.now row basis.now) }
+    requires fits { FitsObjective method.now.lp.now method.now.row }
+    requires basis { IsNonsingularBasis method.now.lp.now basis.now }
+    requires workspace { IsWorkspaceOf (objective_problem method.now.lp.now method.now.row)
+        basis.now workspace.now }
+    ensures reaches { IfOk result
+        (IsReachFromAny method.now.lp.now method.now.row basis.now max) }
+    ensures overflow { IfErr result (EndRefused method.now.lp.now method.now.row basis.now) }
 {
+    let lp = method.lp;
+    let prices = workspace.prices.as_slice();
+    let change = workspace.change.as_slice();
     match reach_from(lp, basis, prices, change, max) {
         Ok(to) => Ok(to),
         Err(_evidence) => {

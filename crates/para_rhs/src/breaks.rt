@@ -1,20 +1,24 @@
 //! Who leaves its limits at a breakpoint.
 
-ghost use Rattle.std.specs.Prelude.{◌≡◌, ◌≢◌, None, length, List, IfOk, IfErr, OnErr};
+ghost use Rattle.std.specs.Prelude.{◌≡◌, ◌≢◌, length, List, IfOk, IfErr, OnErr};
 ghost use Rattle.exact_values.specs.Rational.{◌*ℚ◌};
 ghost use Rattle.exact_values.specs.Tests.{eq_ℚ};
 ghost use Rattle.lp_definitions.specs.LinearProgram.{size, value_at, IsVariable, IsLinearProgram};
-ghost use Rattle.lp_definitions.specs.Basis.{Basics, IsPointOf};
+ghost use Rattle.lp_definitions.specs.Basis.{Basics};
 ghost use Rattle.simplex_laws.specs.Laws.{IsNonsingularBasis};
-ghost use Rattle.simplex_definitions.specs.RhsRun.{shift_of, IsSlope};
+ghost use Rattle.simplex_definitions.specs.RhsRun.{shift_of};
+ghost use Rattle.parametric_run.specs.Standing.{IsWorkspaceOf};
 ghost use Rattle.para_rhs.specs.Breaks.{leaving_side, IsLeaverOf, IsFaceLeaver};
+ghost use Rattle.para_rhs.specs.Method.{rhs_problem, FitsRhs};
 ghost use Rattle.para_rhs.specs.Reach.{VariableRefused, SomeVariableRefused};
 ghost use Rattle.para_rhs.specs.Refusals.{RunRefused};
 
 use crate::limits::Side;
+use crate::method::RightHandSide;
 use crate::reaching::approach_of;
 use frac128::Frac;
 use lp_model::{Basis, Evidence, Lp, Ratio};
+use parametric_run::Workspace;
 
 /// A basic that stands at a limit which it would break beyond the breakpoint.
 #[derive(Clone, Copy, Debug)]
@@ -85,28 +89,26 @@ fn leaver_by(
     Ok(None)
 }
 
-/// The least-numbered basic that stands at a limit at theta which it would break beyond. `value` has the basis's point at 0, and `slope`
-/// its slope. An overflow comes only with evidence of it at this basis.
+/// The least-numbered basic that stands at a limit at theta which it would break beyond. An overflow comes only with evidence of it at
+/// this basis.
 pub fn face_leaver(
-    lp: &Lp,
+    method: &RightHandSide<'_>,
     basis: &Basis,
-    value: &[Ratio],
-    slope: &[Frac],
-    shift: &[Frac],
+    workspace: &Workspace,
     theta: Frac,
 ) -> Result<Option<Leaver>, Evidence>
-    requires no_change { lp.now.change ≡ None }
-    requires basis { IsNonsingularBasis lp.now basis.now }
-    requires point { IsPointOf lp.now basis.now (value_at value.now) }
-    requires slope { IsSlope lp.now basis.now shift.now (value_at slope.now) }
-    requires shifts { length shift.now ≡ lp.now.rows }
-    requires values { length value.now ≡ size lp.now.matrix }
-    requires slopes { length slope.now ≡ size lp.now.matrix }
-    ensures leaver { IfOk result (IsFaceLeaver lp.now shift.now theta basis.now) }
+    requires fits { FitsRhs method.now.lp.now method.now.shift.now method.now.moving.now }
+    requires basis { IsNonsingularBasis method.now.lp.now basis.now }
+    requires workspace { IsWorkspaceOf (rhs_problem method.now.lp.now method.now.shift.now)
+        basis.now workspace.now }
+    ensures leaver { IfOk result
+        (IsFaceLeaver method.now.lp.now method.now.shift.now theta basis.now) }
     ensures overflow { IfErr result (λ e. (before : List Basics) (after : List Basics) → RunRefused
-        lp.now shift.now basis.now before after e) }
+        method.now.lp.now method.now.shift.now basis.now before after e) }
 {
-    match leaver_by(lp, shift, value, slope, theta) {
+    let value = workspace.point.as_slice();
+    let slope = workspace.change.as_slice();
+    match leaver_by(method.lp, method.shift, value, slope, theta) {
         Ok(found) => Ok(found),
         Err(evidence) => Err(evidence),
     }

@@ -12,9 +12,8 @@ mod run;
 mod slopes;
 mod turns;
 
-pub use breaks::{Leaver, face_leaver};
+pub use breaks::Leaver;
 pub use dual_step::cheapest;
 pub use limits::{Side, program_at};
 pub use parts::ParaRhs;
-pub use reaching::reach;
 pub use run::para_rhs;

@@ -88,14 +88,7 @@ impl<'a> Parametric for RightHandSide<'a> {
         from: Frac,
         max: Frac,
     ) -> Result<ParaPart, Stop> {
-        let to = match reach(
-            self.lp,
-            basis,
-            &workspace.point,
-            &workspace.change,
-            self.shift,
-            max,
-        ) {
+        let to = match reach(self, basis, workspace, max) {
             Ok(to) => to,
             Err(evidence) => return Err(Stop::Overflow(evidence)),
         };
@@ -124,14 +117,7 @@ impl<'a> Parametric for RightHandSide<'a> {
         theta: Frac,
         left: u32,
     ) -> Result<FaceStep, PrimalStop> {
-        let found = match face_leaver(
-            self.lp,
-            basis,
-            &workspace.point,
-            &workspace.change,
-            self.shift,
-            theta,
-        ) {
+        let found = match face_leaver(self, basis, workspace, theta) {
             Ok(found) => found,
             Err(evidence) => return Err(PrimalStop::Overflow(evidence)),
         };

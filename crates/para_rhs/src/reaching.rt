@@ -1,23 +1,27 @@
 //! How far a basis stays optimal.
 
-ghost use Rattle.std.specs.Prelude.{◌≡◌, ◌≢◌, None, length, List, IsSome, IfOk, IfErr, OnErr};
+ghost use Rattle.std.specs.Prelude.{◌≡◌, ◌≢◌, length, List, IsSome, IfOk, IfErr, OnErr};
 ghost use Rattle.exact_values.specs.Rational.{zero_ℚ};
 ghost use Rattle.affine_laws.specs.Ends.{IsTightened};
 ghost use Rattle.frac128.specs.declared.Op.TheVariants.{Div};
 ghost use Rattle.lp_definitions.specs.LinearProgram.{size, value_at, IsVariable, IsLinearProgram};
-ghost use Rattle.lp_definitions.specs.Basis.{Basics, IsPointOf};
+ghost use Rattle.lp_definitions.specs.Basis.{Basics};
 ghost use Rattle.simplex_laws.specs.Laws.{IsNonsingularBasis};
-ghost use Rattle.simplex_definitions.specs.RhsRun.{shift_of, IsSlope};
+ghost use Rattle.simplex_definitions.specs.RhsRun.{shift_of};
 ghost use Rattle.basis_values.specs.Formulas.{IsRefusal};
+ghost use Rattle.parametric_run.specs.Standing.{IsWorkspaceOf};
 ghost use Rattle.para_rhs.specs.Limits.{number_of};
+ghost use Rattle.para_rhs.specs.Method.{rhs_problem, FitsRhs};
 ghost use Rattle.para_rhs.specs.Reach.{side_ahead, bound_of, IsApproachOf, limit_sides, IsNarrowed, high_of, IsReachOf, IsReachFromAny, basic_formula, VariableRefused, SomeVariableRefused};
 ghost use Rattle.para_rhs.specs.Refusals.{RunRefused};
 
 use crate::limits::{Side, is_upper, limit_on, number_of, shift_of};
+use crate::method::RightHandSide;
 use affine_laws::{Endpoint, Ends, ProductBound, tightened};
 use basis_values::Formula;
 use frac128::Frac;
 use lp_model::{Basis, Evidence, Lp, Ratio};
+use parametric_run::Workspace;
 
 /// Formula 6 or 18 of the basic `i`.
 fn formula(number: u8, i: u32, term: u32) -> Formula
@@ -183,28 +187,26 @@ fn ends_by(
     Ok(ends)
 }
 
-/// The greatest theta up to `max` to which the basis stays optimal, from any theta at which it is. `value` has the basis's point at 0,
-/// and `slope` its slope. An overflow comes only with evidence of it at this basis.
+/// The greatest theta up to `max` to which the basis stays optimal, from any theta at which it is. An overflow comes only with evidence
+/// of it at this basis.
 pub fn reach(
-    lp: &Lp,
+    method: &RightHandSide<'_>,
     basis: &Basis,
-    value: &[Ratio],
-    slope: &[Frac],
-    shift: &[Frac],
+    workspace: &Workspace,
     max: Frac,
 ) -> Result<Frac, Evidence>
-    requires no_change { lp.now.change ≡ None }
-    requires basis { IsNonsingularBasis lp.now basis.now }
-    requires point { IsPointOf lp.now basis.now (value_at value.now) }
-    requires slope { IsSlope lp.now basis.now shift.now (value_at slope.now) }
-    requires shifts { length shift.now ≡ lp.now.rows }
-    requires values { length value.now ≡ size lp.now.matrix }
-    requires slopes { length slope.now ≡ size lp.now.matrix }
-    ensures reaches { IfOk result (IsReachFromAny lp.now shift.now basis.now max) }
+    requires fits { FitsRhs method.now.lp.now method.now.shift.now method.now.moving.now }
+    requires basis { IsNonsingularBasis method.now.lp.now basis.now }
+    requires workspace { IsWorkspaceOf (rhs_problem method.now.lp.now method.now.shift.now)
+        basis.now workspace.now }
+    ensures reaches { IfOk result
+        (IsReachFromAny method.now.lp.now method.now.shift.now basis.now max) }
     ensures overflow { IfErr result (λ e. (before : List Basics) (after : List Basics) → RunRefused
-        lp.now shift.now basis.now before after e) }
+        method.now.lp.now method.now.shift.now basis.now before after e) }
 {
-    match ends_by(lp, shift, value, slope, max) {
+    let value = workspace.point.as_slice();
+    let slope = workspace.change.as_slice();
+    match ends_by(method.lp, method.shift, value, slope, max) {
         Ok(ends) => Ok(high_end(&ends, max)),
         Err(evidence) => Err(evidence),
     }

@@ -32,26 +32,26 @@ pub fn at_limit(basis: &Basis, k: u32) -> bool
     }
 }
 
-/// Whether the nonbasic `k` may rise from where it stands.
-pub fn rises(lp: &Lp, basis: &Basis, k: u32) -> bool
-    requires variable { IsVariable lp.now.matrix k }
-    requires counted { length basis.now ≡ size lp.now.matrix }
-    ensures { result ≡ may_rise lp.now basis.now k }
-{
-    match basis.status(k) {
-        Status::Ll | Status::Fr => !lp.is_fixed(k),
-        Status::Bs | Status::Ul => false,
-    }
+/// Which ways a nonbasic may move from where it stands.
+#[derive(Clone, Copy)]
+pub struct Ways {
+    pub up: bool,
+    pub down: bool,
 }
 
-/// Whether the nonbasic `k` may fall from where it stands.
-pub fn falls(lp: &Lp, basis: &Basis, k: u32) -> bool
+/// Which ways the nonbasic `k` may move from where it stands.
+pub fn ways_of(lp: &Lp, basis: &Basis, k: u32) -> Ways
     requires variable { IsVariable lp.now.matrix k }
     requires counted { length basis.now ≡ size lp.now.matrix }
-    ensures { result ≡ may_fall lp.now basis.now k }
+    ensures up { result.up ≡ may_rise lp.now basis.now k }
+    ensures down { result.down ≡ may_fall lp.now basis.now k }
 {
-    match basis.status(k) {
-        Status::Ul | Status::Fr => !lp.is_fixed(k),
-        Status::Bs | Status::Ll => false,
-    }
+    let free = !lp.is_fixed(k);
+    let (up, down) = match basis.status(k) {
+        Status::Bs => (false, false),
+        Status::Ll => (free, false),
+        Status::Ul => (false, free),
+        Status::Fr => (free, free),
+    };
+    Ways { up, down }
 }

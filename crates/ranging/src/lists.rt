@@ -3,22 +3,24 @@
 ghost use Rattle.std.specs.Prelude.{◌≡◌, ◌↔◌, ◌<◌, ◌≤◌, ◌-◌, ◌&&◌, not, nat_eq, None, length, IfOk, IfErr};
 ghost use Rattle.exact_values.specs.Rational.{ℚ};
 ghost use Rattle.ranging.specs.Intervals.{IsIn, taken_from, DifferenceRefused};
-ghost use Rattle.lp_definitions.specs.LinearProgram.{size, value_at, cost, IsColumn, IsVariable};
+ghost use Rattle.lp_definitions.specs.LinearProgram.{size, cost, IsColumn, IsVariable};
 ghost use Rattle.lp_definitions.specs.Basis.{is_basic, status_of, IsOptimalBasis};
 ghost use Rattle.lp_model.specs.RatesCalls.{IfOverflow};
 ghost use Rattle.simplex_definitions.specs.Moves.{may_rise, may_fall};
 ghost use Rattle.simplex_definitions.specs.Ranges.{with_row, with_cost, with_limit, at_limits, columns_of, intermediate_rows};
-ghost use Rattle.ranging.specs.Optima.{IsOptimum};
-ghost use Rattle.ranging.specs.Tables.{AllMet, AllFound};
+ghost use Rattle.ranging.specs.Optima.{IsOptimum, AreEndsOfRows, AreEndsOfLimits};
 ghost use Rattle.ranging.specs.Lists.{price_end, own_ends_of, ListsTo, RefusedAnywhere};
 
-use crate::choices::{at_limit, falls, rises, stands_basic};
+use crate::choices::{at_limit, stands_basic, ways_of};
 use crate::intervals::{cost_interval, limit_interval, row_interval};
 use crate::optimum::Optimum;
 use affine_laws::{Endpoint, Ends};
 use frac128::Frac;
 use lp_model::{Basis, Evidence, Interval, Lp, NoMemory, Sense, Stop};
 use std::alloc::Global;
+
+/// The items of a list: what changes, by its number, and the interval that it has.
+type ListItems = Vec<(u32, Interval)>;
 
 /// Whether `i` is a basic row other than the objective.
 fn is_intermediate(lp: &Lp, basis: &Basis, i: u32) -> bool
@@ -30,15 +32,9 @@ fn is_intermediate(lp: &Lp, basis: &Basis, i: u32) -> bool
 }
 
 /// The intervals of the multiples of the rows.
-pub fn row_list(
-    alloc: Global,
-    at: &Optimum<'_>,
-    found: &[Ends],
-) -> Result<Vec<(u32, Interval)>, NoMemory>
+pub fn row_list(alloc: Global, at: &Optimum<'_>, found: &[Ends]) -> Result<ListItems, NoMemory>
     requires optimum { IsOptimum at.now }
-    requires places { length found.now ≡ size at.now.lp.now.matrix }
-    requires found { AllFound at.now.lp.now at.now.basis.now (size at.now.lp.now.matrix)
-        found.now }
+    requires found { AreEndsOfRows at.now found.now }
     ensures { IfOk result (λ list. ListsTo (intermediate_rows at.now.lp.now at.now.basis.now)
         (λ i t. IsOptimalBasis (with_row at.now.lp.now i t) at.now.basis.now) list.items) }
 {
@@ -76,16 +72,15 @@ fn own_ends(lp: &Lp, basis: &Basis, price: Frac, k: u32) -> Ends
     ensures { result ≡ own_ends_of lp.now.sense (may_rise lp.now basis.now k)
         (may_fall lp.now basis.now k) price k }
 {
-    let up = rises(lp, basis, k);
-    let down = falls(lp, basis, k);
+    let ways = ways_of(lp, basis, k);
     match lp.sense {
         Sense::Min => Ends {
-            low: end_at(down, price, k),
-            high: end_at(up, price, k),
+            low: end_at(ways.down, price, k),
+            high: end_at(ways.up, price, k),
         },
         Sense::Max => Ends {
-            low: end_at(up, price, k),
-            high: end_at(down, price, k),
+            low: end_at(ways.up, price, k),
+            high: end_at(ways.down, price, k),
         },
     }
 }
@@ -112,9 +107,7 @@ fn nonbasic_cost(lp: &Lp, basis: &Basis, price: Frac, k: u32) -> Result<Interval
 /// The interval of the cost of the column that is the variable `k`.
 fn column_cost(at: &Optimum<'_>, found: &[Ends], k: u32) -> Result<Interval, Evidence>
     requires optimum { IsOptimum at.now }
-    requires found_places { length found.now ≡ size at.now.lp.now.matrix }
-    requires found { AllFound at.now.lp.now at.now.basis.now (size at.now.lp.now.matrix)
-        found.now }
+    requires found { AreEndsOfRows at.now found.now }
     requires variable { IsVariable at.now.lp.now.matrix k }
     requires past { at.now.lp.now.rows < k }
     ensures interval { IfOk result (λ interval. (t : ℚ) → IsIn interval t ↔ IsOptimalBasis
@@ -131,15 +124,9 @@ fn column_cost(at: &Optimum<'_>, found: &[Ends], k: u32) -> Result<Interval, Evi
 }
 
 /// The intervals of the costs of the columns.
-pub fn cost_list(
-    alloc: Global,
-    at: &Optimum<'_>,
-    found: &[Ends],
-) -> Result<Vec<(u32, Interval)>, Stop>
+pub fn cost_list(alloc: Global, at: &Optimum<'_>, found: &[Ends]) -> Result<ListItems, Stop>
     requires optimum { IsOptimum at.now }
-    requires found_places { length found.now ≡ size at.now.lp.now.matrix }
-    requires found { AllFound at.now.lp.now at.now.basis.now (size at.now.lp.now.matrix)
-        found.now }
+    requires found { AreEndsOfRows at.now found.now }
     ensures list { IfOk result (λ list. ListsTo (columns_of at.now.lp.now)
         (λ k t. IsOptimalBasis (with_cost at.now.lp.now k t) at.now.basis.now) list.items) }
     ensures overflow { IfErr result
@@ -158,15 +145,9 @@ pub fn cost_list(
 }
 
 /// The intervals of the limits at which nonbasics stand.
-pub fn limit_list(
-    alloc: Global,
-    at: &Optimum<'_>,
-    ends: &[Ends],
-) -> Result<Vec<(u32, Interval)>, Stop>
+pub fn limit_list(alloc: Global, at: &Optimum<'_>, ends: &[Ends]) -> Result<ListItems, Stop>
     requires optimum { IsOptimum at.now }
-    requires end_places { length ends.now ≡ size at.now.lp.now.matrix }
-    requires met { AllMet at.now.lp.now at.now.basis.now (value_at at.now.point.now)
-        (size at.now.lp.now.matrix) ends.now }
+    requires ends { AreEndsOfLimits at.now ends.now }
     ensures list { IfOk result (λ list. ListsTo (at_limits at.now.lp.now at.now.basis.now)
         (λ k t. IsOptimalBasis (with_limit at.now.lp.now at.now.basis.now k t) at.now.basis.now)
         list.items) }

@@ -1,15 +1,13 @@
 //! The report of all intervals.
 
-ghost use Rattle.std.specs.Prelude.{◌≡◌, None, length, IfOk, IfErr};
-ghost use Rattle.lp_definitions.specs.LinearProgram.{size, value_at};
+ghost use Rattle.std.specs.Prelude.{◌≡◌, None, IfOk, IfErr};
 ghost use Rattle.lp_definitions.specs.Basis.{IsOptimalBasis};
 ghost use Rattle.simplex_definitions.specs.Ranges.{IsRangeReport};
 ghost use Rattle.basis_values.specs.Calls.{IsAtBasis, StaysAt};
 ghost use Rattle.basis_values.specs.Stops.{RangeOverflow};
 ghost use Rattle.lp_model.specs.RatesCalls.{IfOverflow};
 ghost use Rattle.ranging.specs.LimitEnds.{no_ends};
-ghost use Rattle.ranging.specs.Optima.{IsOptimum};
-ghost use Rattle.ranging.specs.Tables.{AllMet, AllFound};
+ghost use Rattle.ranging.specs.Optima.{IsOptimum, AreEndsOfRows, AreEndsOfLimits};
 ghost use Rattle.ranging.specs.Lists.{RefusedAnywhere, report_of};
 ghost use Rattle.ranging.specs.Complete.{HasNoEvidence, IsReportOrMemory};
 
@@ -30,12 +28,8 @@ fn report(
     ends: &[Ends],
 ) -> Result<RangeReport, Stop>
     requires optimum { IsOptimum at.now }
-    requires found_places { length found.now ≡ size at.now.lp.now.matrix }
-    requires end_places { length ends.now ≡ size at.now.lp.now.matrix }
-    requires met { AllMet at.now.lp.now at.now.basis.now (value_at at.now.point.now)
-        (size at.now.lp.now.matrix) ends.now }
-    requires found { AllFound at.now.lp.now at.now.basis.now (size at.now.lp.now.matrix)
-        found.now }
+    requires found { AreEndsOfRows at.now found.now }
+    requires ends { AreEndsOfLimits at.now ends.now }
     ensures report { IfOk result
         (λ report. IsRangeReport at.now.lp.now at.now.basis.now (report_of report)) }
     ensures overflow { IfErr result

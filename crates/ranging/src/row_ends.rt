@@ -9,7 +9,7 @@ ghost use Rattle.basis_values.specs.Formulas.{IsRefusal};
 ghost use Rattle.ranging.specs.Formulas.{ratio_formula};
 ghost use Rattle.ranging.specs.RowEnds.{rate_bound, keeps_below, sides_of, RatesStayTo, IsTightenedIf, IsWithRate, AreRowEnds, RatioRefused};
 
-use crate::choices::{falls, rises};
+use crate::choices::ways_of;
 use affine_laws::{Ends, ProductBound, tightened};
 use basis_values::Formula;
 use frac128::Frac;
@@ -102,8 +102,9 @@ impl PricedRate {
         if self.rate.is_zero() {
             return Ok(ends);
         }
-        let risen = self.with_bound(rises(lp, basis, self.nonbasic), ends, lp.sense, true)?;
-        self.with_bound(falls(lp, basis, self.nonbasic), risen, lp.sense, false)
+        let ways = ways_of(lp, basis, self.nonbasic);
+        let risen = self.with_bound(ways.up, ends, lp.sense, true)?;
+        self.with_bound(ways.down, risen, lp.sense, false)
     }
 }
 

@@ -25,7 +25,7 @@ returns-then-stands_basic-clause-interval c =
     let of_row : AreEndsOfRow c.args.at.now.lp.now c.args.at.now.basis.now c.args.k c.index-found-k.result =
     subst (AreEndsOfRow c.args.at.now.lp.now c.args.at.now.basis.now c.args.k)
     (sym (ends_read c.args.found.now c.args.k c.index-found-k.result (omega arith) c.index-found-k.is))
-    (c.requires.found c.args.k c.requires.variable.0 c.requires.variable.1 basic (λ e. absurd (omega (arith, e, row.1, past)))) in
+    (c.requires.found.each c.args.k c.requires.variable.0 c.requires.variable.1 basic (λ e. absurd (omega (arith, e, row.1, past)))) in
     IfOk-map c.cost_interval.result
     (λ interval is t. subst (λ i. IsIn i t ↔ IsOptimalBasis (with_cost c.args.at.now.lp.now c.args.k t) c.args.at.now.basis.now)
     (sym (is ∙ ap (λ v. taken_from v c.index-found-k.result) costs))
@@ -43,7 +43,7 @@ returns-then-stands_basic-clause-refused c =
     let of_row : AreEndsOfRow c.args.at.now.lp.now c.args.at.now.basis.now c.args.k c.index-found-k.result =
     subst (AreEndsOfRow c.args.at.now.lp.now c.args.at.now.basis.now c.args.k)
     (sym (ends_read c.args.found.now c.args.k c.index-found-k.result (omega arith) c.index-found-k.is))
-    (c.requires.found c.args.k c.requires.variable.0 c.requires.variable.1 basic (λ e. absurd (omega (arith, e, row.1, past)))) in
+    (c.requires.found.each c.args.k c.requires.variable.0 c.requires.variable.1 basic (λ e. absurd (omega (arith, e, row.1, past)))) in
     IfErr-map c.cost_interval.result
     (λ e h. basic_cost_refused c.args.at.now.lp.now c.args.at.now.basis.now c.requires.optimum.lawful c.requires.optimum.no_change c.requires.optimum.optimal c.args.k (c.requires.variable, basic) c.requires.past c.index-found-k.result of_row e
     (subst (λ v. DifferenceRefused v c.index-found-k.result c.args.k e) costs h)) c.cost_interval.ensures.refused

@@ -25,7 +25,7 @@ returns-in-Err-clause-overflow c before after =
     (c.loop-k.k + 1) c.index-ends-k.result =
     subst (AreLimitEnds c.args.at.now.lp.now c.args.at.now.basis.now (value_at c.args.at.now.point.now) (size c.args.at.now.lp.now.matrix) (c.loop-k.k + 1))
     (ends_next c.args.ends.now c.loop-k.k c.index-ends-k.result (omega arith) c.index-ends-k.is)
-    (c.requires.met (c.loop-k.k + 1) (omega arith, omega arith) passes) in
+    (c.requires.ends.each (c.loop-k.k + 1) (omega arith, omega arith) passes) in
     limit_sum_refused c.args.at.now.lp.now c.args.at.now.basis.now c.requires.optimum.lawful c.requires.optimum.no_change c.requires.optimum.optimal
     (value_at c.args.at.now.point.now) c.requires.optimum.point (c.loop-k.k + 1) (omega arith, omega arith) passes c.index-ends-k.result own
     c.index-point-k.result c.in-Err.evidence
@@ -40,7 +40,7 @@ loop-k-preserved c =
     (c.loop-k.k + 1) c.index-ends-k.result =
     subst (AreLimitEnds c.args.at.now.lp.now c.args.at.now.basis.now (value_at c.args.at.now.point.now) (size c.args.at.now.lp.now.matrix) (c.loop-k.k + 1))
     (ends_next c.args.ends.now c.loop-k.k c.index-ends-k.result (omega arith) c.index-ends-k.is)
-    (c.requires.met (c.loop-k.k + 1) (omega arith, omega arith) passes) in
+    (c.requires.ends.each (c.loop-k.k + 1) (omega arith, omega arith) passes) in
     subst (ListsTo (filter (λ k. stands_at_limit (status_of c.args.at.now.basis.now k)) (numbers_from 1 (c.loop-k.k + 1)))
     (λ k t. IsOptimalBasis (with_limit c.args.at.now.lp.now c.args.at.now.basis.now k t) c.args.at.now.basis.now)) (sym pushed)
     (listed_kept (λ k. stands_at_limit (status_of c.args.at.now.basis.now k)) c.loop-k.k

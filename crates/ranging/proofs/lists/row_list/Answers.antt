@@ -29,7 +29,7 @@ loop-k-preserved c =
     let own : AreEndsOfRow c.args.at.now.lp.now c.args.at.now.basis.now (c.loop-k.k + 1) c.index-found-k.result =
     subst (AreEndsOfRow c.args.at.now.lp.now c.args.at.now.basis.now (c.loop-k.k + 1))
     (ends_next c.args.found.now c.loop-k.k c.index-found-k.result (omega arith) c.index-found-k.is)
-    (c.requires.found (c.loop-k.k + 1) (omega arith) (omega arith) found.0 found.1) in
+    (c.requires.found.each (c.loop-k.k + 1) (omega arith) (omega arith) found.0 found.1) in
     subst (ListsTo
     (filter (λ i. is_basic (status_of c.args.at.now.basis.now i) && not (nat_eq i c.args.at.now.lp.now.objective)) (numbers_from 1 (c.loop-k.k + 1)))
     (λ i t. IsOptimalBasis (with_row c.args.at.now.lp.now i t) c.args.at.now.basis.now)) (sym pushed)

@@ -1,4 +1,5 @@
 use Rattle.std.proofs.Common.{◌≡◌, ◌-◌, rules, arith, sym, ap, ◌∙◌, subst, drop, length, replicate}
+use Rattle.std.proofs.lemmas.Grind.{common_steps}
 use Rattle.std.proofs.lemmas.List.{get_or-replicate}
 use Rattle.lp_definitions.specs.LinearProgram.{value_at, size}
 use Rattle.ranging.specs.LimitEnds.{no_ends, ends_at}
@@ -27,15 +28,21 @@ pass-requires-clause-begins g c =
     ∙ get_or-replicate c.number_of_variables-size.result (k - 1) c.without_ends-2.result no_ends (omega (arith, counted, is.0, is.1))
     ∙ c.without_ends-2.ensures)
 
-pub report-requires-clause-met : goal.report-requires-clause-met
-report-requires-clause-met g c =
+pub report-requires-clause-ends : goal.report-requires-clause-ends
+report-requires-clause-ends g c =
     let same : c.deref-2.result.now ≡ c.pass.new.ends =
     c.deref-2.ensures.value ∙ take_all c.pass.new.ends (drop (length c.pass.new.ends) c.in_ok-ends.ends.items) c.in_ok-ends.ends.len (omega arith) in
-    subst (AllMet c.args.at.now.lp.now c.args.at.now.basis.now (value_at c.args.at.now.point.now) (size c.args.at.now.lp.now.matrix))
-    (sym same) c.in_ok-pass.ensures.met
+    record {
+      places = grind (arith, common_steps);
+      each = subst (AllMet c.args.at.now.lp.now c.args.at.now.basis.now (value_at c.args.at.now.point.now) (size c.args.at.now.lp.now.matrix))
+          (sym same) c.in_ok-pass.ensures.met;
+    }
 
 pub report-requires-clause-found : goal.report-requires-clause-found
 report-requires-clause-found g c =
     let same : c.deref.result.now ≡ c.pass.new.found =
     c.deref.ensures.value ∙ take_all c.pass.new.found (drop (length c.pass.new.found) c.in_ok-found.found.items) c.in_ok-found.found.len (omega arith) in
-    subst (AllFound c.args.at.now.lp.now c.args.at.now.basis.now (size c.args.at.now.lp.now.matrix)) (sym same) c.in_ok-pass.ensures.found
+    record {
+      places = grind (arith, common_steps);
+      each = subst (AllFound c.args.at.now.lp.now c.args.at.now.basis.now (size c.args.at.now.lp.now.matrix)) (sym same) c.in_ok-pass.ensures.found;
+    }
