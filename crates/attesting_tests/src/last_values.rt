@@ -59,7 +59,7 @@ PARAOBJ UNBOUNDED STEPS 0 OBJECTIVE 0 CHECKED
 ";
 
 /// An objective or a right-hand side whose breakpoint is 1 over a number of more than 40 digits, and the statements behind it.
-pub const LAST_VALUES: [Row; 14] = [
+pub const LAST_VALUES: [Row; 5] = [
     Row {
         name: "the program's end",
         job: &[
@@ -164,6 +164,10 @@ END 0
         status: 40,
         line: b"WRONG LINE 13\n",
     },
+];
+
+/// The same where another run follows, or seems to.
+pub const FURTHER_RUNS: [Row; 9] = [
     Row {
         name: "MOVE to XPARAM",
         job: &[

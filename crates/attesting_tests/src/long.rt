@@ -1,5 +1,6 @@
 // What the checker of any length finds.
-use crate::last_values::LAST_VALUES;
+use crate::jobs::Row;
+use crate::last_values::{FURTHER_RUNS, LAST_VALUES};
 use crate::listings::{Edit, Listing, answer_to, edited, first_wrong, joined};
 use crate::long_plans::{CHAIN, CHAIN_OBJECTIVE, CHAIN_RHS, LONG_DIRECTION, LONG_RAY};
 use crate::parametric_runs::{
@@ -107,10 +108,13 @@ fn no_test_is_refused(rt: HostRuntime) -> Result<(), Fail> {
 // Where a parametric run ends at a value that no cell holds, the walk goes on, also with another run that begins there.
 #[test]
 fn long_last_values_are_left(rt: HostRuntime) -> Result<(), Fail> {
-    for row in &LAST_VALUES {
-        let listing = joined(rt.alloc(), row.listing)?;
-        let answer = answer_to::<OfAnyLength>(rt.alloc(), row.job, &listing)?;
-        assert!(rt; answer.is(row.status, row.line), "{}", row.name);
+    let tables: [&[Row]; 2] = [&LAST_VALUES, &FURTHER_RUNS];
+    for rows in tables {
+        for row in rows {
+            let listing = joined(rt.alloc(), row.listing)?;
+            let answer = answer_to::<OfAnyLength>(rt.alloc(), row.job, &listing)?;
+            assert!(rt; answer.is(row.status, row.line), "{}", row.name);
+        }
     }
     Ok(())
 }
