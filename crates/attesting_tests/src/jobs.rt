@@ -1,7 +1,7 @@
 // Jobs with one listing each.
-use crate::problems;
-use crate::programs::{SOLVE, SOLVE_MAX};
 use crate::store::{STORE_FROM_EXIT, STORE_SOLUTION, STORE_TO_PRIMAL, STORE_VERDICT};
+use test_decks::problems;
+use test_decks::programs::{SOLVE, SOLVE_MAX};
 
 /// A job, a listing, and what it is found to be.
 pub struct Row {
@@ -148,7 +148,8 @@ END 0
          EXIT
          PEND
 ",
-            problems::TESTPROB,
+            problems::TESTPROB_CARDS,
+            problems::ENDATA,
         ],
         listing: &[
             b"CONVERT TESTPROB ROWS 4 COLUMNS 3 ENTRIES 9

@@ -1,6 +1,6 @@
 // Jobs whose parametric run ends at a value that no cell holds, with one listing each.
 use crate::jobs::Row;
-use crate::problems;
+use test_decks::problems;
 
 // The control program down to the first run.
 const FIRST_RUN: &[u8] = b"         PROGRAM

@@ -22,10 +22,6 @@ mod parametric_runs;
 #[cfg(test)]
 mod plans;
 #[cfg(test)]
-mod problems;
-#[cfg(test)]
-mod programs;
-#[cfg(test)]
 mod refused;
 #[cfg(test)]
 mod store;

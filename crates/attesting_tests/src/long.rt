@@ -7,7 +7,6 @@ use crate::parametric_runs::{
     INFEASIBLE_PAST, LAMPS, MILK, RHS_INTERVALS, RHS_POINT, TWO_INTERVALS, UNBOUNDED_OPENING,
 };
 use crate::plans::{BLANKS, STORE, TIES, TWO_SOLUTIONS};
-use crate::programs::SOLVE;
 use crate::refused::{
     BAD_INSERT_REFUSED, FAR_POINT, GREAT, INSERT_REFUSED, RANGE_AFTER_PRIMAL, RANGE_REFUSED,
 };
@@ -19,6 +18,7 @@ use checks_of_128_bits::Of128Bits;
 use checks_of_any_length::OfAnyLength;
 use std::alloc::Global;
 use std::test::Fail;
+use test_decks::programs::SOLVE;
 
 #[test]
 fn long_numbers_are_tested(rt: HostRuntime) -> Result<(), Fail> {

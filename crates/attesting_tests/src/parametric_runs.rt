@@ -1,7 +1,7 @@
 // Parametric runs.
 use crate::listings::{Case, Edit, Listing};
-use crate::problems;
-use crate::programs::{PARAOBJ_TO_5, PARARHS_TO_5};
+use test_decks::problems;
+use test_decks::programs::{PARAOBJ_TO_5, PARARHS_TO_5};
 
 // The best point in the first interval.
 const FIRST_POINT: &[u8] = b"    1 COST     BS -8 0 0 0

@@ -1,8 +1,8 @@
 // Plans and their solutions.
 use crate::listings::{Case, Edit, Listing};
-use crate::problems;
-use crate::programs::{SOLVE, SOLVE_BND1};
 use crate::store::{STORE_FROM_EXIT, STORE_SOLUTION, STORE_TO_PRIMAL, STORE_VERDICT};
+use test_decks::problems;
+use test_decks::programs::{SOLVE, SOLVE_BND1};
 
 /// A plan of a store, and its listing changed.
 pub const STORE: Listing = Listing {
@@ -265,7 +265,7 @@ NUMBER COLUMN AT ACTIVITY COST LOWER UPPER REDUCED
 /// A problem with bounds.
 pub const TESTPROB: Listing = Listing {
     name: "testprob",
-    job: &[SOLVE_BND1, problems::TESTPROB],
+    job: &[SOLVE_BND1, problems::TESTPROB_CARDS, problems::ENDATA],
     text: &[TESTPROB_VERDICT, TESTPROB_SOLUTION, b"END 0\n"],
     status: 0,
     line: b"ATTESTED 4 REPORTS\n",
@@ -285,7 +285,8 @@ pub const TWO_SOLUTIONS: Listing = Listing {
          EXIT
          PEND
 ",
-        problems::TESTPROB,
+        problems::TESTPROB_CARDS,
+        problems::ENDATA,
     ],
     text: &[
         TESTPROB_VERDICT,

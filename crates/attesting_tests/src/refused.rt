@@ -1,7 +1,7 @@
 // Listings in whose tests an operation is refused.
 use crate::listings::{Case, Edit, Listing};
-use crate::problems;
-use crate::programs::SOLVE;
+use test_decks::problems;
+use test_decks::programs::SOLVE;
 
 /// A solution with numbers of 128 bits.
 pub const GREAT: Listing = Listing {

@@ -1,7 +1,7 @@
 // Verdicts that there is no best plan.
 use crate::listings::{Case, Edit, Listing};
-use crate::problems;
-use crate::programs::SOLVE;
+use test_decks::problems;
+use test_decks::programs::SOLVE;
 
 /// Limits that conflict.
 pub const CONFLICT: Listing = Listing {

@@ -1,7 +1,7 @@
 // Random plans with numbers of more than 128 bits, as they are.
 // Each job was made at random, and what is found of its listing came with it, from outside this repository.
 use crate::listings::Listing;
-use crate::programs::SOLVE_WIDE_TO_40;
+use test_decks::programs::SOLVE_WIDE_TO_40;
 
 /// A plan of a random job.
 pub const FIRST_PLAN: Listing = Listing {

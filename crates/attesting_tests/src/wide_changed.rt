@@ -1,7 +1,7 @@
 // Random plans with numbers of more than 128 bits, each with a change.
 // Each job was made at random, and what is found of its listing came with it, from outside this repository.
 use crate::listings::Listing;
-use crate::programs::SOLVE_WIDE_TO_1;
+use test_decks::programs::SOLVE_WIDE_TO_1;
 
 /// A digit stands for a letter in the line of CONVERT.
 pub const WRONG_LETTER: Listing = Listing {

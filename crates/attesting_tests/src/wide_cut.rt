@@ -1,7 +1,7 @@
 // Random plans with numbers of more than 128 bits, whose listings are cut off.
 // Each job was made at random, and what is found of its listing came with it, from outside this repository.
 use crate::listings::Listing;
-use crate::programs::{SOLVE_WIDE_TO_1, SOLVE_WIDE_TO_40};
+use test_decks::programs::{SOLVE_WIDE_TO_1, SOLVE_WIDE_TO_40};
 
 /// The verdict's line is cut off.
 pub const CUT_VERDICT: Listing = Listing {

@@ -1,7 +1,7 @@
 // Bases that go out as decks and come in again.
-use crate::problems::{ENDATA, SINGULAR, SMALL, TESTPROB_BASIS, TESTPROB_CARDS, TWINS};
-use crate::programs::{INSERT, INSERT_BND};
 use crate::rows::DeckRow;
+use test_decks::problems::{ENDATA, SINGULAR, SMALL, TESTPROB_BASIS, TESTPROB_CARDS, TWINS};
+use test_decks::programs::{INSERT, INSERT_BND};
 
 /// Programs of PUNCH and INSERT, with their listings and the cards that they punch.
 pub const BASES: [DeckRow; 17] = [

@@ -1,7 +1,7 @@
 // Combination rows: cards that are refused for one, and revisions that state them.
-use crate::problems::SUM;
-use crate::programs::{CONVERT, REVISE, REVISE_AND_SOLVE, SOLVE};
 use crate::rows::{DeckRow, Row};
+use test_decks::problems::SUM;
+use test_decks::programs::{CONVERT, REVISE, REVISE_AND_SOLVE, SOLVE};
 
 /// Cards that are refused for a combination.
 pub const FAULTS: [Row; 16] = [

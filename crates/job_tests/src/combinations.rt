@@ -1,10 +1,10 @@
 // Combination rows: plans over them, and the sums that are refused.
 use crate::combination_decks::{FAULTS, REVISIONS};
-use crate::problems::{CHAIRS, GREAT_PRODUCT, NESTED};
-use crate::programs::{SOLVE, SOLVE_MAX, SOLVE_RANGE};
 use crate::rows::Row;
 use crate::runs::{first_unpunched, first_unreported, is_begun};
 use std::test::Fail;
+use test_decks::problems::{CHAIRS, GREAT_PRODUCT, NESTED};
+use test_decks::programs::{SOLVE, SOLVE_MAX, SOLVE_RANGE};
 
 // The listing of a combination that is the sum of two rows, solved.
 const SUM_SOLVED: &[u8] = b"CONVERT T        ROWS 4 COLUMNS 2 ENTRIES 4

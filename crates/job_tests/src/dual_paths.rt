@@ -1,7 +1,7 @@
 // Paths that the dual simplex method follows.
-use crate::problems::{CONFLICT, ENDATA, ENDLESS, PLAN, TESTPROB_CARDS};
-use crate::programs::{DUAL, DUAL_BND};
 use crate::rows::DeckRow;
+use test_decks::problems::{CONFLICT, ENDATA, ENDLESS, PLAN, TESTPROB_CARDS};
+use test_decks::programs::{DUAL, DUAL_BND};
 
 /// Programs of DUAL, with their listings.
 pub const DUAL_PATHS: [DeckRow; 14] = [

@@ -3,7 +3,6 @@ use crate::jobs::joined;
 use crate::no_memory::Starved;
 use crate::parametric_runs::PARAMETRIC;
 use crate::plans::PLANS;
-use crate::problems::ONE;
 use crate::ranges::RANGES;
 use crate::rows::Row;
 use card_reader::read_job;
@@ -14,6 +13,7 @@ use lp_model::Engine;
 use rates_dense::Dense;
 use std::alloc::Global;
 use std::test::Fail;
+use test_decks::problems::ONE;
 
 /// What the program of a job is answered, over an engine.
 #[derive(Drop)]

@@ -1,7 +1,7 @@
 // Worked jobs that stop at a fault of their control cards, of a statement or of a deck.
-use crate::problems::{ONE, TESTPROB_CARDS};
-use crate::programs::{SOLVE, SOLVE_BND1};
 use crate::rows::Row;
+use test_decks::problems::{ONE, TESTPROB_CARDS};
+use test_decks::programs::{SOLVE, SOLVE_BND1};
 
 /// Jobs whose control cards are refused.
 pub const CONTROL_FAULTS: [Row; 8] = [

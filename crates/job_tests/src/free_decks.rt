@@ -1,9 +1,9 @@
 // Free decks: decks whose cards between others are changed, as CONVERT reads them and BCDOUT writes them out.
 use crate::jobs::{answer_of, joined};
-use crate::problems::ENDATA;
 use crate::sections::{COLUMNS, NAME_ONE, RHS, ROWS};
 use std::alloc::Global;
 use std::test::Fail;
+use test_decks::problems::ENDATA;
 
 /// Cards with which a deck has a fault, and the line on which the listing ends.
 pub struct Faulty {

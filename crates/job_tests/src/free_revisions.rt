@@ -1,8 +1,8 @@
 // Free revisions: revisions whose cards between others are changed, as REVISE reads them and BCDOUT writes the problem out.
 use crate::free_decks::{Around, Faulty, Lawful, first_misread, first_unrefused};
-use crate::problems::{ENDATA, RANGED_ONE};
 use crate::sections::{BOUNDS, COLUMNS, NAME_NEXT, RANGES, RHS, ROWS};
 use std::test::Fail;
+use test_decks::problems::{ENDATA, RANGED_ONE};
 
 // A free revision of a fixed deck: its cards from card 23 on.
 const REVISION_AROUND: Around = Around {

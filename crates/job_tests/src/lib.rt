@@ -30,10 +30,6 @@ mod parametric_runs;
 #[cfg(test)]
 mod plans;
 #[cfg(test)]
-mod problems;
-#[cfg(test)]
-mod programs;
-#[cfg(test)]
 mod punched;
 #[cfg(test)]
 mod ranges;

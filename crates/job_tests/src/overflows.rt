@@ -1,7 +1,7 @@
 // Worked jobs in which a number grows too large.
-use crate::problems::{FAR_RANGE, GREAT_SLACK};
-use crate::programs::{SOLVE, SOLVE_BND, SOLVE_RANGE};
 use crate::rows::Row;
+use test_decks::problems::{FAR_RANGE, GREAT_SLACK};
+use test_decks::programs::{SOLVE, SOLVE_BND, SOLVE_RANGE};
 
 /// Jobs in which a number grows too large: what their listings begin with. Which operation is refused first is free.
 pub const OVERFLOWS: [Row; 6] = [

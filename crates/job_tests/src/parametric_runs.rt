@@ -1,7 +1,7 @@
 // Worked jobs with parametric runs, with the status and the listing of each.
-use crate::problems::{BOUNDED_ONE, ENDLESS_UP_TO_1, ONE, TWO, TWO_SOURCES};
-use crate::programs::{PARAOBJ_TO_5, PARARHS_TO_5};
 use crate::rows::Row;
+use test_decks::problems::{BOUNDED_ONE, ENDLESS_UP_TO_1, ONE, TWO, TWO_SOURCES};
+use test_decks::programs::{PARAOBJ_TO_5, PARARHS_TO_5};
 
 /// Parametric runs, to their last value or past a breakpoint, and those that are refused.
 pub const PARAMETRIC: [Row; 8] = [

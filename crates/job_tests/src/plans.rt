@@ -1,7 +1,9 @@
 // Worked jobs whose plans are solved.
-use crate::problems::{BEALE, CROSSED, ENDATA, ENDLESS, GREAT_SLACK, ONE, TESTPROB_CARDS};
-use crate::programs::{SOLVE, SOLVE_BND, SOLVE_BND1, SOLVE_IN_NO_STEP, SOLVE_MAX, SOLVE_RANGE};
 use crate::rows::Row;
+use test_decks::problems::{BEALE, CROSSED, ENDATA, ENDLESS, GREAT_SLACK, ONE, TESTPROB_CARDS};
+use test_decks::programs::{
+    SOLVE, SOLVE_BND, SOLVE_BND1, SOLVE_IN_NO_STEP, SOLVE_MAX, SOLVE_RANGE,
+};
 
 // The listing of TESTPROB, solved.
 const TESTPROB_SOLVED: &[u8] = b"CONVERT TESTPROB ROWS 4 COLUMNS 3 ENTRIES 9

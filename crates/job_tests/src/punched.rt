@@ -1,6 +1,6 @@
 // Worked jobs that punch decks.
-use crate::problems::{ONE, RANGED_ONE};
 use crate::rows::DeckRow;
+use test_decks::problems::{ONE, RANGED_ONE};
 
 /// Programs that punch decks.
 pub const DECKS: [DeckRow; 2] = [

@@ -1,6 +1,6 @@
 // Worked jobs that ask for intervals.
-use crate::problems::{ENDATA, ENDLESS, ONE, TESTPROB_CARDS, TWO};
 use crate::rows::Row;
+use test_decks::problems::{ENDATA, ENDLESS, ONE, TESTPROB_CARDS, TWO};
 
 /// Intervals in which a plan stays the best, and statements that ask for them too soon.
 pub const RANGES: [Row; 5] = [

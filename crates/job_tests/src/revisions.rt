@@ -1,7 +1,7 @@
 // Worked jobs that revise a problem.
-use crate::problems::{ONE, REVISED_SIDE};
-use crate::programs::REVISE;
 use crate::rows::Row;
+use test_decks::problems::{ONE, REVISED_SIDE};
+use test_decks::programs::REVISE;
 
 /// Revisions, with their faults.
 pub const REVISIONS: [Row; 10] = [

@@ -1,7 +1,7 @@
 // Worked jobs that end with a verdict, or at a limit.
-use crate::problems::{BEALE, CONFLICT, CROSSED, ENDATA, ENDLESS, TESTPROB_CARDS};
-use crate::programs::{SOLVE, SOLVE_BND, SOLVE_IN_NO_STEP};
 use crate::rows::Row;
+use test_decks::problems::{BEALE, CONFLICT, CROSSED, ENDATA, ENDLESS, TESTPROB_CARDS};
+use test_decks::programs::{SOLVE, SOLVE_BND, SOLVE_IN_NO_STEP};
 
 /// Runs that end with a verdict, or at a limit.
 pub const VERDICTS: [Row; 7] = [

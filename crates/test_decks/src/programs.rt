@@ -1,4 +1,4 @@
-// Control programs that stand in several jobs.
+//! Control programs that stand in several jobs.
 
 /// Reads a problem.
 pub const CONVERT: &[u8] = b"         PROGRAM
@@ -144,6 +144,28 @@ pub const PARARHS_TO_5: &[u8] = b"         PROGRAM
          MOVE(XCHCOL,'C')
          MOVE(XPARMAX,5)
          PARARHS
+         EXIT
+         PEND
+";
+
+/// Solves a random plan with the set B of bounds, after XPARMAX is moved to 1.
+pub const SOLVE_WIDE_TO_1: &[u8] = b"         PROGRAM
+         CONVERT
+         MOVE(XPARMAX,1)
+         SETUP('BOUND','B')
+         PRIMAL
+         SOLUTION
+         EXIT
+         PEND
+";
+
+/// The same after it is moved to 40.
+pub const SOLVE_WIDE_TO_40: &[u8] = b"         PROGRAM
+         CONVERT
+         MOVE(XPARMAX,40)
+         SETUP('BOUND','B')
+         PRIMAL
+         SOLUTION
          EXIT
          PEND
 ";

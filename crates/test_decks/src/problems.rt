@@ -1,4 +1,4 @@
-// Decks that stand in several jobs: problems, and what revises them or gives a basis.
+//! Decks that stand in several jobs: problems, and what revises them or gives a basis.
 
 /// A problem of one row and one column.
 pub const ONE: &[u8] = b"NAME          ONE
@@ -386,5 +386,75 @@ RHS
     B         LIM       999999999E18
 RANGES
     R         LIM       .1E-18
+ENDATA
+";
+
+/// A store's flour and sugar, within its space and its money.
+pub const STORE: &[u8] = b"NAME          STORE
+ROWS
+ N  COST
+ L  SPACE
+ L  MONEY
+COLUMNS
+    FLOUR     COST      3              SPACE     1
+    FLOUR     MONEY     3
+    SUGAR     COST      2.5            SPACE     .75
+    SUGAR     MONEY     2.5
+RHS
+    WEEK      SPACE     40             MONEY     100
+ENDATA
+";
+
+/// The same for the right-hand side B, and not for A.
+pub const FAR_RANGE_OF_B: &[u8] = b"NAME          T
+ROWS
+ N  COST
+ L  LIM
+COLUMNS
+    X         LIM       1
+RHS
+    A         LIM       4
+    B         LIM       999999999E18
+RANGES
+    R         LIM       .1E-18
+ENDATA
+";
+
+/// An objective whose breakpoint along CHG is 1 over a number of more than 40 digits.
+pub const FAR_CHANGE: &[u8] = b"NAME          T
+ROWS
+ N  COST
+ N  CHG
+COLUMNS
+    X         COST      1E-18          CHG       -99999999E18
+ENDATA
+";
+
+/// An objective of that kind with two changes, CHG and OTH.
+pub const TWO_CHANGES: &[u8] = b"NAME          T
+ROWS
+ N  COST
+ N  CHG
+ N  OTH
+COLUMNS
+    X         COST      1E-18          CHG       -99999999E17
+    X         OTH       -99999999E18
+ENDATA
+";
+
+/// A plan in which one column is a great multiple of another.
+pub const LONG: &[u8] = b"NAME          LONG
+ROWS
+ N  COST
+ N  CHG
+ G  LOW
+ G  LINK
+COLUMNS
+    X         LOW       3              LINK      -99999998E18
+    Y         COST      .5             CHG       1
+    Y         LINK      1
+RHS
+    B         LOW       99999998E18
+    C         LOW       1
 ENDATA
 ";
