@@ -1,7 +1,7 @@
 -- The lines of a written deck, by the numbers of rows and columns.
 use denote.Bor.{Bor}
 use Rattle.std.specs.Borrow.{MutBor}
-use Rattle.std.specs.Prelude.{ℕ, ◌+◌, length, sum_by, List, [], ◌∷◌, ◌++◌, codes, if◌then◌else◌, map, Option, Some, None, is_none, unwrap_or, option_map, Result}
+use Rattle.std.specs.Prelude.{◌≡◌, ℕ, ◌+◌, length, sum_by, List, [], ◌∷◌, ◌++◌, codes, if◌then◌else◌, map, Option, Some, None, is_none, unwrap_or, option_map, Result}
 use Rattle.std.specs.List.{flat_map, find}
 use Rattle.std.specs.Option.{option_to_list}
 use Rattle.card_definitions.specs.Words.{is_empty, padded}
@@ -92,3 +92,7 @@ abbrev pub WritesEach : {P X : Type 0} → (P → SinkState) → (MutBor P → B
 WritesEach taken puts lines =
     (before : MutBor _) (x : Bor _) (result : Result (Unit {0}) WriteStop) (after : MutBor _) → puts before x result after →
     Writes (taken before.now) (taken after.now) result (lines x.now)
+
+-- what is asked of calls that count something: each finds as many as this
+abbrev pub CountsEach : {X : Type 0} → (Bor X → ℕ → Type 0) → (X → ℕ) → Type 0
+CountsEach finds size = (x : Bor _) (result : ℕ) → finds x result → result ≡ size x.now

@@ -2,8 +2,9 @@
 use Rattle.std.proofs.Common.{◌≡◌, ℕ, zero, suc, ◌+◌, ◌-◌, ◌<◌, ◌≤◌, List, [], ◌∷◌, ◌++◌, map, Result, Ok, Err, refl, ap, sym, ◌∙◌, subst, append_assoc, add-one, arith}
 use native.Mathlib.Numerals.{unary_clauses}
 use Rattle.std.specs.List.{flat_map}
-use Rattle.std.proofs.lemmas.List.{append-nil, map-append}
+use Rattle.std.proofs.lemmas.List.{append-nil}
 use Rattle.std.proofs.lemmas.List.Concat.{flat_map-append}
+use Rattle.std.proofs.lemmas.List.Folds.{flat_map-map}
 use Rattle.job_devices.specs.States.{SinkState}
 use Rattle.job_devices.specs.declared.device.WriteStop.{WriteStop}
 use Rattle.card_definitions.specs.Prefixes.{IsPrefix}
@@ -34,52 +35,28 @@ first_numbers i n low = let back : i + (n - i) ≡ n = omega (arith, low) in sub
 
 -- ---- what is written for each number
 
--- the text of some numbers and more is that of these, and then that of the others
-abbrev GoesOn : (List ℕ → List ℕ) → Type 0
-GoesOn text = (a b : List ℕ) → text (a ++ b) ≡ text a ++ text b
+module _ (f : ℕ → List ℕ) where
+  -- the text of the numbers up to i, and then that of the next
+  pub writes_next : {T U : Type 0} {a b c : SinkState} {r : Result T WriteStop} {done : U} (i : ℕ) →
+      Writes a b (Ok done) (flat_map f (up_to i)) → Writes b c r (f (i + 1)) → Writes a c r (flat_map f (up_to (i + 1)))
+  writes_next i so_far next =
+      writes_same
+      (ap (λ w. flat_map f (up_to i) ++ w) (sym (append-nil (f (i + 1)))) ∙ sym (flat_map-append f (up_to i) ((i + 1) ∷ [])) ∙ ap (flat_map f) (one_more i))
+      (writes_then so_far next)
 
--- the text of the numbers up to i, and then that of the next
-numbers_then : {T U : Type 0} {a b c : SinkState} {r : Result T WriteStop} {done : U} (text : List ℕ → List ℕ) → GoesOn text → (i : ℕ) →
-    Writes a b (Ok done) (text (up_to i)) → Writes b c r (text ((i + 1) ∷ [])) → Writes a c r (text (up_to (i + 1)))
-numbers_then text goes_on i so_far next = writes_same (sym (goes_on (up_to i) ((i + 1) ∷ [])) ∙ ap text (one_more i)) (writes_then so_far next)
+  -- a stop in the text of the next is one in the text of all
+  pub stops_at : {T U : Type 0} {a b c : SinkState} {stop : WriteStop} {done : U} (i n : ℕ) → i < n →
+      Writes a b (Ok done) (flat_map f (up_to i)) → Writes {T = T} b c (Err stop) (f (i + 1)) → Writes {T = T} a c (Err stop) (flat_map f (up_to n))
+  stops_at i n inside so_far stopped =
+      let prefix = first_numbers (i + 1) n (omega (arith, inside)) in
+      writes_same (sym (flat_map-append f (up_to (i + 1)) prefix.0) ∙ ap (flat_map f) prefix.1)
+      (writes_more (flat_map f prefix.0) (writes_next i so_far stopped))
 
--- a stop in the text of the next is one in the text of all
-numbers_stop : {T U : Type 0} {a b c : SinkState} {stop : WriteStop} {done : U} (text : List ℕ → List ℕ) → GoesOn text → (i n : ℕ) → i < n →
-    Writes a b (Ok done) (text (up_to i)) → Writes {T = T} b c (Err stop) (text ((i + 1) ∷ [])) → Writes {T = T} a c (Err stop) (text (up_to n))
-numbers_stop text goes_on i n inside so_far stopped =
-    let prefix = first_numbers (i + 1) n (omega (arith, inside)) in
-    writes_same (sym (goes_on (up_to (i + 1)) prefix.0) ∙ ap text prefix.1) (writes_more (text prefix.0) (numbers_then text goes_on i so_far stopped))
+-- the lines of a card for each number are the text of the cards
+pub a_card_each : (f : ℕ → List ℕ) (xs : List ℕ) → flat_map (λ i. line (f i)) xs ≡ card_text (map f xs)
+a_card_each f xs = sym (flat_map-map (λ card. card ++ 10 ∷ []) f xs)
 
--- ---- a card for each number
-
-each_goes_on : (f : ℕ → List ℕ) → GoesOn (λ numbers. card_text (map f numbers))
-each_goes_on f a b = ap card_text (map-append f a b) ∙ cards_then (map f a) (map f b)
-
-pub writes_one : {T U : Type 0} {a b c : SinkState} {r : Result T WriteStop} {done : U} (f : ℕ → List ℕ) (i : ℕ) →
-    Writes a b (Ok done) (card_text (map f (up_to i))) → Writes b c r (line (f (i + 1))) → Writes a c r (card_text (map f (up_to (i + 1))))
-writes_one f i so_far next =
-    numbers_then (λ numbers. card_text (map f numbers)) (each_goes_on f) i so_far (writes_same (sym (append-nil (line (f (i + 1))))) next)
-
-pub stops_at_one : {T U : Type 0} {a b c : SinkState} {stop : WriteStop} {done : U} (f : ℕ → List ℕ) (i n : ℕ) → i < n →
-    Writes a b (Ok done) (card_text (map f (up_to i))) → Writes {T = T} b c (Err stop) (line (f (i + 1))) →
-    Writes {T = T} a c (Err stop) (card_text (map f (up_to n)))
-stops_at_one f i n inside so_far stopped =
-    numbers_stop (λ numbers. card_text (map f numbers)) (each_goes_on f) i n inside so_far (writes_same (sym (append-nil (line (f (i + 1))))) stopped)
-
--- ---- some cards for each number
-
-some_go_on : (f : ℕ → List (List ℕ)) → GoesOn (λ numbers. card_text (flat_map f numbers))
-some_go_on f a b = ap card_text (flat_map-append f a b) ∙ cards_then (flat_map f a) (flat_map f b)
-
-one_alone : (f : ℕ → List (List ℕ)) (i : ℕ) → card_text (f i) ≡ card_text (flat_map f (i ∷ []))
-one_alone f i = ap card_text (sym (append-nil (f i)))
-
-pub writes_some : {T U : Type 0} {a b c : SinkState} {r : Result T WriteStop} {done : U} (f : ℕ → List (List ℕ)) (i : ℕ) →
-    Writes a b (Ok done) (card_text (flat_map f (up_to i))) → Writes b c r (card_text (f (i + 1))) → Writes a c r (card_text (flat_map f (up_to (i + 1))))
-writes_some f i so_far next = numbers_then (λ numbers. card_text (flat_map f numbers)) (some_go_on f) i so_far (writes_same (one_alone f (i + 1)) next)
-
-pub stops_at_some : {T U : Type 0} {a b c : SinkState} {stop : WriteStop} {done : U} (f : ℕ → List (List ℕ)) (i n : ℕ) → i < n →
-    Writes a b (Ok done) (card_text (flat_map f (up_to i))) → Writes {T = T} b c (Err stop) (card_text (f (i + 1))) →
-    Writes {T = T} a c (Err stop) (card_text (flat_map f (up_to n)))
-stops_at_some f i n inside so_far stopped =
-    numbers_stop (λ numbers. card_text (flat_map f numbers)) (some_go_on f) i n inside so_far (writes_same (one_alone f (i + 1)) stopped)
+-- the texts of some cards for each number are that of all of them
+pub some_cards_each : (f : ℕ → List (List ℕ)) (xs : List ℕ) → flat_map (λ i. card_text (f i)) xs ≡ card_text (flat_map f xs)
+some_cards_each f [] = refl
+some_cards_each f (x ∷ xs) = ap (λ w. card_text (f x) ++ w) (some_cards_each f xs) ∙ sym (cards_then (f x) (flat_map f xs))

@@ -1,13 +1,11 @@
-use Rattle.std.proofs.Common.{codes}
-use Rattle.std.proofs.lemmas.Result.{err_from_is_err_and}
-use Rattle.deck_definitions.specs.Transport.{source, item_card}
-use Rattle.generated_job.proofs.Numbered.{stops_at_one}
+use Rattle.std.proofs.Common.{codes, rules}
+use Rattle.deck_definitions.specs.Transport.{up_to, source, item_card}
+use Rattle.job_devices.proofs.TextLemmas.{writes_same}
+use Rattle.bcd_out.specs.Lines.{line}
+use Rattle.generated_job.proofs.Numbered.{a_card_each}
 use Rattle.generated_job.proofs.sections.put_supplies.Goals as goal
 
-pub returns-in_err-put_supply : goal.returns-in_err-put_supply
-returns-in_err-put_supply g c =
-    let p = err_from_is_err_and c.from_residual.result c.from_residual.ensures.1 in
-    rw (p.1, p.2)
-    (stops_at_one
-    (λ i. item_card (codes "RHS")
-    (source i) 10) c.loop-before.before c.args.n c.loop-before-test.true c.loop-before.invariant c.in_err-put_supply.ensures)
+pub returns : goal.returns
+returns g c =
+    writes_same (a_card_each (λ i. item_card (codes "RHS") (source i) 10) (up_to c.args.n))
+    (c.put_numbered.ensures (λ i. line (item_card (codes "RHS") (source i) 10)) (λ before number result after low met. search rules))
