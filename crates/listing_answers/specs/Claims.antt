@@ -5,7 +5,7 @@
 --     optimum_in, shown_in         the claims that a verb may make before and after that of crossed limits
 --     word_holds, word_test        whether a claim may be printed with the word of its check
 --     conclusion_by, mark_by       what it comes to
-use Rattle.std.specs.Prelude.{◌≡◌, ℕ, Bool, true, List, Option, Some, None}
+use Rattle.std.specs.Prelude.{◌≡◌, ℕ, Bool, true, List, Option, None}
 use Rattle.std.specs.Option.{option_or}
 use Rattle.exact_values.specs.Rational.{ℚ}
 use Rattle.lp_definitions.specs.LinearProgram.{variables}
