@@ -7,7 +7,9 @@ use Rattle.lp_definitions.specs.LinearProgram.{value_at}
 use Rattle.check_definitions.specs.Steps.{in_turn}
 use Rattle.listing_definitions.specs.Report.{ChainEnd, EndsAt, UnboundedPast, InfeasiblePast}
 use Rattle.listing_definitions.specs.Text.{solver_text}
-use Rattle.question_definitions.specs.Answers.{Sheet, Changing, Row, Set, parametric_solver}
+use Rattle.listing_definitions.specs.declared.Solver.{Solver}
+use Rattle.listing_definitions.specs.declared.Solver.TheVariants.{Primal, Dual, Paraobj, Pararhs}
+use Rattle.question_definitions.specs.Answers.{Sheet, Changing, Row, Set}
 use Rattle.answer_definitions.specs.ParametricRuns.{row_of, shifts_of}
 use Rattle.run_definitions.specs.Verbs.{last_value}
 use Rattle.walk_definitions.specs.Checkers.{Checker}
@@ -22,11 +24,12 @@ use Rattle.listing_answers.proofs.Tables.{multipliers_counted}
 
 -- ---- what is read
 
-pub close_taken : (of : List ℕ → Option ℚ) (sheet : Sheet) (changing : Changing) (old left : List ℕ) →
-    left_after (solver_text (parametric_solver changing)) old ≡ Some left →
-    close_in of sheet (parametric_solver changing) old ≡ close_after_in of sheet changing left
-close_taken of sheet (Row name) old left e = ap (option_and_then (close_after_in of sheet (Row name))) e
-close_taken of sheet (Set name) old left e = ap (option_and_then (close_after_in of sheet (Set name))) e
+pub close_taken : (of : List ℕ → Option ℚ) (sheet : Sheet) (solver : Solver) (old left : List ℕ) → left_after (solver_text solver) old ≡ Some left →
+    close_in of sheet solver old ≡ close_after_in of sheet solver left
+close_taken of sheet Primal old left e = ap (option_and_then (close_after_in of sheet Primal)) e
+close_taken of sheet Dual old left e = ap (option_and_then (close_after_in of sheet Dual)) e
+close_taken of sheet Paraobj old left e = ap (option_and_then (close_after_in of sheet Paraobj)) e
+close_taken of sheet Pararhs old left e = ap (option_and_then (close_after_in of sheet Pararhs)) e
 
 -- ---- what is tested
 

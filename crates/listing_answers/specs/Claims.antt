@@ -1,11 +1,11 @@
 -- What is read of verdicts.
---     IsPair, IsPairRead of        a point and a direction, from the lines of a table
+--     IsPair, pair_in              a point and a direction, from the lines of a table; the lines
 --     Says                         a claim says what a verdict says
 --     IsStated                     a claim, and whether the listing says that it was checked
 --     optimum_in, shown_in         the claims that a verb may make before and after that of crossed limits
 --     word_holds, word_test        whether a claim may be printed with the word of its check
 --     conclusion_by, mark_by       what it comes to
-use Rattle.std.specs.Prelude.{◌≡◌, ℕ, Bool, true, List, Option, Some, None}
+use Rattle.std.specs.Prelude.{◌≡◌, ℕ, Bool, true, List, Option, None}
 use Rattle.std.specs.Option.{option_or}
 use Rattle.exact_values.specs.Rational.{ℚ}
 use Rattle.lp_definitions.specs.LinearProgram.{variables}
@@ -37,10 +37,8 @@ pub record IsPair (sheet : Sheet) (pair : Pair) (lines : List Line) : Type 0 whe
   pub is_direction : pair.direction.items ≡ column_of 1 lines
   pub fits : IsPairOf sheet.lp pair
 
-abbrev pub IsPairRead : (List ℕ → Option ℚ) → Sheet → List ℕ → List ℕ → Option Pair → Type 0
-IsPairRead of sheet old new None = table_in of sheet pair_slots (variables sheet.lp.matrix) old ≡ None
-IsPairRead of sheet old new (Some pair) =
-    (lines : List Line) × (table_in of sheet pair_slots (variables sheet.lp.matrix) old ≡ Some (lines, new)) × IsPair sheet pair lines
+abbrev pub pair_in : (List ℕ → Option ℚ) → Sheet → List ℕ → Parsed (List Line)
+pair_in of sheet = table_in of sheet pair_slots (variables sheet.lp.matrix)
 
 abbrev pub Says : Sheet → declared.Claim → PathVerdict → Type 0
 Says sheet (claims.Optimal objective) (OptimalAt steps printed) = objective ≡ printed

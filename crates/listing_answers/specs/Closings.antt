@@ -1,14 +1,16 @@
 -- What is read of how a parametric run closes.
 --     IsValueRead                  a value after a text was read
---     past_in, close_after_in      what ends a run of this kind before its last value; how it closes
+--     past_in, close_after_in      what ends a run of this verb before its last value; how it closes
 --     Closes                       what closes the run says what the report says
 --     value_of                     the value at which the run ends
 use Rattle.std.specs.Prelude.{◌≡◌, ℕ, List, Option, Some, None, codes, option_map}
 use Rattle.std.specs.Option.{option_or}
 use Rattle.exact_values.specs.Rational.{ℚ}
 use Rattle.lp_definitions.specs.LinearProgram.{variables}
+use Rattle.listing_definitions.specs.declared.Solver.{Solver}
+use Rattle.listing_definitions.specs.declared.Solver.TheVariants.{Paraobj, Pararhs}
 use Rattle.listing_definitions.specs.Report.{ChainEnd, EndsAt, UnboundedPast, InfeasiblePast}
-use Rattle.question_definitions.specs.Answers.{Sheet, Changing, Row, Set}
+use Rattle.question_definitions.specs.Answers.{Sheet}
 use Rattle.walk_definitions.specs.Words.{Parsed, with_text, with_word}
 use Rattle.walk_definitions.specs.Tables.{pair_slots, table_in, ray_in, multipliers}
 use Rattle.listing_claims.specs.declared.claims.Closing as declared
@@ -41,12 +43,13 @@ module _ (of : List ℕ → Option ℚ) where
         (λ t after. option_map (λ got. (InfeasiblePast t got.0, got.1)) (ray_in of sheet (variables sheet.lp.matrix) after))
 
     -- a run of the objective may go past its end unbounded, and one of the right-hand side infeasible
-    abbrev pub past_in : Changing → List ℕ → Parsed ChainEnd
-    past_in (Row name) = unbounded_in
-    past_in (Set name) = infeasible_in
+    abbrev pub past_in : Solver → List ℕ → Parsed ChainEnd
+    past_in Paraobj left = unbounded_in left
+    past_in Pararhs left = infeasible_in left
+    past_in solver left = None
 
-    abbrev pub close_after_in : Changing → List ℕ → Parsed ChainEnd
-    close_after_in changing left = option_or (end_in left) (past_in changing left)
+    abbrev pub close_after_in : Solver → List ℕ → Parsed ChainEnd
+    close_after_in solver left = option_or (end_in left) (past_in solver left)
 
 -- ---- what it says
 

@@ -1,7 +1,7 @@
 -- What is read of intervals.
 --     part_head number from        what stands before the end of an interval
 --     IsPartEnd of                 where an interval ends was read
---     AreColumns, AreColumnsRead   the lines of an interval were read
+--     AreColumns, columns_in       the columns of an interval, from its lines; the lines
 --     IsPart                       an interval
 --     first_in C sheet run         the first interval of a run, tested
 use Rattle.std.specs.Prelude.{◌≡◌, ℕ, List, ◌++◌, Option, Some, None, codes, nat_eq}
@@ -39,10 +39,8 @@ module _ (of : List ℕ → Option ℚ) where
   IsPartEnd number from old new None = (next : ℚ → List ℕ → Parsed ParametricInterval) → part_end_in number from next old ≡ None
   IsPartEnd number from old new (Some to) = (next : ℚ → List ℕ → Parsed ParametricInterval) → part_end_in number from next old ≡ next to new
 
-  abbrev pub AreColumnsRead : Sheet → List ℕ → List ℕ → Option Columns → Type 0
-  AreColumnsRead sheet old new None = table_in of sheet part_slots (variables sheet.lp.matrix) old ≡ None
-  AreColumnsRead sheet old new (Some columns) =
-      (lines : List Line) × (table_in of sheet part_slots (variables sheet.lp.matrix) old ≡ Some (lines, new)) × AreColumns sheet columns lines
+  abbrev pub columns_in : Sheet → List ℕ → Parsed (List Line)
+  columns_in sheet = table_in of sheet part_slots (variables sheet.lp.matrix)
 
 pub record IsPart (sheet : Sheet) (from : ℚ) (part : Part) (interval : ParametricInterval) : Type 0 where
   pub begins : interval.from ≡ from

@@ -1,4 +1,5 @@
 pub mod Words
+pub mod Readers
 pub mod Claims
 pub mod Solutions
 pub mod Intervals

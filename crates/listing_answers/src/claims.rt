@@ -1,5 +1,5 @@
 // What a verdict claims, as the listing has it.
-ghost use Rattle.std.specs.Prelude.{◌≡◌, ◌++◌, IfOk, codes};
+ghost use Rattle.std.specs.Prelude.{◌≡◌, ◌++◌, codes};
 ghost use Rattle.std.specs.Option.{option_or};
 ghost use Rattle.listing_definitions.specs.Report.{Check};
 ghost use Rattle.listing_definitions.specs.Text.{solver_text};
@@ -8,20 +8,20 @@ ghost use Rattle.walk_definitions.specs.Checkers.{says_checked};
 ghost use Rattle.walk_definitions.specs.Words.{left_after};
 ghost use Rattle.walk_definitions.specs.Reading.{optimal_in, crossed_in, infeasible_in, unbounded_in, claim_in, verdict_in};
 ghost use Rattle.listing_words.specs.Read.{taken, sheet_view};
-ghost use Rattle.listing_claims.specs.Numbers.{number_in};
 ghost use Rattle.listing_claims.specs.Passing.{Judges};
 ghost use Rattle.listing_answers.specs.Words.{Found, IsRayHeadRead};
-ghost use Rattle.listing_answers.specs.Claims.{IsPairRead, IsStated, optimum_in, shown_in, word_holds, word_test};
+ghost use Rattle.listing_answers.specs.Readers.{IsRead};
+ghost use Rattle.listing_answers.specs.Claims.{IsPair, IsStated, pair_in, optimum_in, shown_in, word_holds, word_test};
 ghost use Rattle.listing_answers.specs.Taken.{IsReadBy};
 
+use crate::reader::{Read, Reader};
 use crate::unread::stop_unread;
-use crate::words::{check_after, count_after, read_head};
+use crate::words::{check_after, count_after};
 use listing_claims::{By, Checks, Claim, Pair, Stop};
 use listing_definitions::Solver;
 use listing_readers::{MAX_COUNT, Place, Shape, numbers_at, ray, table};
 use listing_tables::{Sheet, solver_word};
 use listing_words::Cursor;
-use lp_model::NoMemory;
 use std::alloc::Global;
 
 /// A claim, and whether the listing says that it was checked.
@@ -29,48 +29,6 @@ use std::alloc::Global;
 pub struct Stated<'a> {
     pub claim: Claim<'a>,
     pub is_checked: bool,
-}
-
-// ---- each kind of claim, as it stands here
-
-/// A point and a direction, from the lines of a table.
-pub fn read_pair<'a, T: Checks>(
-    alloc: Global,
-    cursor: &mut Cursor<'a>,
-    by: By,
-    sheet: Sheet<'_>,
-) -> Result<Option<Pair<'a>>, NoMemory>
-    requires { IsSheet sheet }
-    ensures { IfOk result
-        (IsPairRead (number_in T.checker by) (sheet_view sheet.entry) cursor.old cursor.new) }
-{
-    let count = sheet.lp.number_of_variables();
-    let Some(numbers) = table::<T>(alloc, cursor, by, sheet, Shape::Pair, 0, count)? else {
-        return Ok(None);
-    };
-    let point = numbers_at(alloc, &numbers, Place::First)?;
-    let direction = numbers_at(alloc, &numbers, Place::Second)?;
-    Ok(Some(Pair { point, direction }))
-}
-
-// That there is a best point.
-fn optimal<'a, T: Checks>(
-    alloc: Global,
-    cursor: &mut Cursor<'a>,
-    by: By,
-    sheet: Sheet<'_>,
-) -> Result<Option<Stated<'a>>, NoMemory>
-    ensures { IfOk result
-        (Found (IsStated (sheet_view sheet.entry))
-        (optimal_in (number_in T.checker by) (sheet_view sheet.entry) cursor.old) cursor.new) }
-{
-    let Some(head) = read_head::<T>(alloc, cursor, by, b"OPTIMAL STEPS ")? else {
-        return Ok(None);
-    };
-    Ok(Some(Stated {
-        claim: Claim::Optimal(head.objective),
-        is_checked: head.is_checked,
-    }))
 }
 
 // That limits are crossed.
@@ -98,142 +56,6 @@ fn ray_head(cursor: &mut Cursor<'_>) -> Option<bool>
     check_after(cursor, b" RAY ")
 }
 
-// That a ray shows that no point is feasible.
-fn infeasible<'a, T: Checks>(
-    alloc: Global,
-    cursor: &mut Cursor<'a>,
-    by: By,
-    sheet: Sheet<'_>,
-) -> Result<Option<Stated<'a>>, NoMemory>
-    requires { IsSheet sheet }
-    ensures { IfOk result
-        (Found (IsStated (sheet_view sheet.entry))
-        (infeasible_in (number_in T.checker by) (sheet_view sheet.entry) cursor.old) cursor.new) }
-{
-    let Some(is_checked) = ray_head(cursor) else {
-        return Ok(None);
-    };
-    let Some(ray) = ray::<T>(alloc, cursor, by, sheet)? else {
-        return Ok(None);
-    };
-    Ok(Some(Stated {
-        claim: Claim::Infeasible(ray),
-        is_checked,
-    }))
-}
-
-// That there is no best point.
-fn unbounded<'a, T: Checks>(
-    alloc: Global,
-    cursor: &mut Cursor<'a>,
-    by: By,
-    sheet: Sheet<'_>,
-) -> Result<Option<Stated<'a>>, NoMemory>
-    requires { IsSheet sheet }
-    ensures { IfOk result
-        (Found (IsStated (sheet_view sheet.entry))
-        (unbounded_in (number_in T.checker by) (sheet_view sheet.entry) cursor.old) cursor.new) }
-{
-    let Some(head) = read_head::<T>(alloc, cursor, by, b"UNBOUNDED STEPS ")? else {
-        return Ok(None);
-    };
-    let Some(pair) = read_pair::<T>(alloc, cursor, by, sheet)? else {
-        return Ok(None);
-    };
-    Ok(Some(Stated {
-        claim: Claim::Unbounded(head.objective, pair),
-        is_checked: head.is_checked,
-    }))
-}
-
-// ---- one claim or another: each is looked for at the same place
-
-// That there is a best point, if the verb may find one.
-fn optimum<'a, T: Checks>(
-    alloc: Global,
-    cursor: &mut Cursor<'a>,
-    by: By,
-    sheet: Sheet<'_>,
-    solver: Solver,
-) -> Result<Option<Stated<'a>>, NoMemory>
-    ensures { IfOk result
-        (Found (IsStated (sheet_view sheet.entry))
-        (optimum_in (number_in T.checker by)
-        (sheet_view sheet.entry) solver cursor.old) cursor.new) }
-{
-    match solver {
-        Solver::Primal | Solver::Dual => optimal::<T>(alloc, cursor, by, sheet),
-        Solver::Paraobj | Solver::Pararhs => Ok(None),
-    }
-}
-
-// That a ray shows that no point is feasible, or that there is no best point.
-fn infeasible_or_unbounded<'a, T: Checks>(
-    alloc: Global,
-    cursor: &mut Cursor<'a>,
-    by: By,
-    sheet: Sheet<'_>,
-) -> Result<Option<Stated<'a>>, NoMemory>
-    requires { IsSheet sheet }
-    ensures { IfOk result
-        (Found (IsStated (sheet_view sheet.entry))
-        (option_or (infeasible_in (number_in T.checker by) (sheet_view sheet.entry) cursor.old)
-        (unbounded_in (number_in T.checker by) (sheet_view sheet.entry) cursor.old)) cursor.new) }
-{
-    let start = cursor.again();
-    if let Some(stated) = infeasible::<T>(alloc, cursor, by, sheet)? {
-        return Ok(Some(stated));
-    }
-    *cursor = start;
-    unbounded::<T>(alloc, cursor, by, sheet)
-}
-
-// What shows that no point is feasible, or that there is no best point; DUAL doesn't find the second.
-fn shown<'a, T: Checks>(
-    alloc: Global,
-    cursor: &mut Cursor<'a>,
-    by: By,
-    sheet: Sheet<'_>,
-    solver: Solver,
-) -> Result<Option<Stated<'a>>, NoMemory>
-    requires { IsSheet sheet }
-    ensures { IfOk result
-        (Found (IsStated (sheet_view sheet.entry))
-        (shown_in (number_in T.checker by) (sheet_view sheet.entry) solver cursor.old) cursor.new) }
-{
-    match solver {
-        Solver::Dual => infeasible::<T>(alloc, cursor, by, sheet),
-        Solver::Primal | Solver::Paraobj | Solver::Pararhs => {
-            infeasible_or_unbounded::<T>(alloc, cursor, by, sheet)
-        }
-    }
-}
-
-// A claim of a solving verb.
-fn read_claim<'a, T: Checks>(
-    alloc: Global,
-    cursor: &mut Cursor<'a>,
-    by: By,
-    sheet: Sheet<'_>,
-    solver: Solver,
-) -> Result<Option<Stated<'a>>, NoMemory>
-    requires { IsSheet sheet }
-    ensures { IfOk result
-        (Found (IsStated (sheet_view sheet.entry))
-        (claim_in (number_in T.checker by) (sheet_view sheet.entry) solver cursor.old) cursor.new) }
-{
-    let start = cursor.again();
-    if let Some(stated) = optimum::<T>(alloc, cursor, by, sheet, solver)? {
-        return Ok(Some(stated));
-    }
-    *cursor = start.again();
-    if let Some(stated) = crossed(cursor, sheet) {
-        return Ok(Some(stated));
-    }
-    *cursor = start;
-    shown::<T>(alloc, cursor, by, sheet, solver)
-}
-
 // Takes the name of a solving verb and a blank.
 #[tactic(auto, using(walk_definitions::proofs::Texts::left_after_both))]
 fn take_solver(cursor: &mut Cursor<'_>, solver: Solver) -> bool
@@ -242,24 +64,141 @@ fn take_solver(cursor: &mut Cursor<'_>, solver: Solver) -> bool
     cursor.take(solver_word(solver)) && cursor.take(b" ")
 }
 
-// The verdict of a solving verb.
-fn read_verdict<'a, T: Checks>(
-    alloc: Global,
-    cursor: &mut Cursor<'a>,
-    by: By,
-    sheet: Sheet<'_>,
-    solver: Solver,
-) -> Result<Option<Stated<'a>>, NoMemory>
-    requires { IsSheet sheet }
-    ensures { IfOk result
-        (Found (IsStated (sheet_view sheet.entry))
-        (verdict_in (number_in T.checker by)
-        (sheet_view sheet.entry) solver cursor.old) cursor.new) }
-{
-    if !take_solver(cursor, solver) {
-        return Ok(None);
+impl Reader<'_> {
+    // ---- each kind of claim, as it stands here
+
+    /// A point and a direction, from the lines of a table.
+    pub fn read_pair<'a, T: Checks>(&self, cursor: &mut Cursor<'a>) -> Read<Pair<'a>>
+        requires { IsSheet self.now.sheet }
+        ensures { IsRead IsPair pair_in T.checker self.now cursor.old cursor.new result }
+    {
+        let Reader { alloc, by, sheet } = *self;
+        let count = sheet.lp.number_of_variables();
+        let Some(numbers) = table::<T>(alloc, cursor, by, sheet, Shape::Pair, 0, count)? else {
+            return Ok(None);
+        };
+        let point = numbers_at(alloc, &numbers, Place::First)?;
+        let direction = numbers_at(alloc, &numbers, Place::Second)?;
+        Ok(Some(Pair { point, direction }))
     }
-    read_claim::<T>(alloc, cursor, by, sheet, solver)
+
+    // That there is a best point.
+    fn optimal<'a, T: Checks>(&self, cursor: &mut Cursor<'a>) -> Read<Stated<'a>>
+        ensures { IsRead IsStated optimal_in T.checker self.now cursor.old cursor.new result }
+    {
+        let Some(head) = self.read_head::<T>(cursor, b"OPTIMAL STEPS ")? else {
+            return Ok(None);
+        };
+        Ok(Some(Stated {
+            claim: Claim::Optimal(head.objective),
+            is_checked: head.is_checked,
+        }))
+    }
+
+    // That a ray shows that no point is feasible.
+    fn infeasible<'a, T: Checks>(&self, cursor: &mut Cursor<'a>) -> Read<Stated<'a>>
+        requires { IsSheet self.now.sheet }
+        ensures { IsRead IsStated infeasible_in T.checker self.now cursor.old cursor.new result }
+    {
+        let Some(is_checked) = ray_head(cursor) else {
+            return Ok(None);
+        };
+        let Some(ray) = ray::<T>(self.alloc, cursor, self.by, self.sheet)? else {
+            return Ok(None);
+        };
+        Ok(Some(Stated {
+            claim: Claim::Infeasible(ray),
+            is_checked,
+        }))
+    }
+
+    // That there is no best point.
+    fn unbounded<'a, T: Checks>(&self, cursor: &mut Cursor<'a>) -> Read<Stated<'a>>
+        requires { IsSheet self.now.sheet }
+        ensures { IsRead IsStated unbounded_in T.checker self.now cursor.old cursor.new result }
+    {
+        let Some(head) = self.read_head::<T>(cursor, b"UNBOUNDED STEPS ")? else {
+            return Ok(None);
+        };
+        let Some(pair) = self.read_pair::<T>(cursor)? else {
+            return Ok(None);
+        };
+        Ok(Some(Stated {
+            claim: Claim::Unbounded(head.objective, pair),
+            is_checked: head.is_checked,
+        }))
+    }
+
+    // ---- one claim or another: each is looked for at the same place
+
+    // That there is a best point, if the verb may find one.
+    fn optimum<'a, T: Checks>(&self, cursor: &mut Cursor<'a>, solver: Solver) -> Read<Stated<'a>>
+        ensures { IsRead IsStated (λ of sheet. optimum_in of sheet solver) T.checker
+            self.now cursor.old cursor.new result }
+    {
+        match solver {
+            Solver::Primal | Solver::Dual => self.optimal::<T>(cursor),
+            Solver::Paraobj | Solver::Pararhs => Ok(None),
+        }
+    }
+
+    // That a ray shows that no point is feasible, or that there is no best point.
+    fn infeasible_or_unbounded<'a, T: Checks>(&self, cursor: &mut Cursor<'a>) -> Read<Stated<'a>>
+        requires { IsSheet self.now.sheet }
+        ensures { IsRead IsStated (λ of sheet at. option_or (infeasible_in of sheet at)
+            (unbounded_in of sheet at)) T.checker self.now cursor.old cursor.new result }
+    {
+        let start = cursor.again();
+        if let Some(stated) = self.infeasible::<T>(cursor)? {
+            return Ok(Some(stated));
+        }
+        *cursor = start;
+        self.unbounded::<T>(cursor)
+    }
+
+    // What shows that no point is feasible, or that there is no best point; DUAL doesn't find the second.
+    fn shown<'a, T: Checks>(&self, cursor: &mut Cursor<'a>, solver: Solver) -> Read<Stated<'a>>
+        requires { IsSheet self.now.sheet }
+        ensures { IsRead IsStated (λ of sheet. shown_in of sheet solver) T.checker
+            self.now cursor.old cursor.new result }
+    {
+        match solver {
+            Solver::Dual => self.infeasible::<T>(cursor),
+            Solver::Primal | Solver::Paraobj | Solver::Pararhs => {
+                self.infeasible_or_unbounded::<T>(cursor)
+            }
+        }
+    }
+
+    // A claim of a solving verb.
+    fn read_claim<'a, T: Checks>(&self, cursor: &mut Cursor<'a>, solver: Solver) -> Read<Stated<'a>>
+        requires { IsSheet self.now.sheet }
+        ensures { IsRead IsStated (λ of sheet. claim_in of sheet solver) T.checker
+            self.now cursor.old cursor.new result }
+    {
+        let start = cursor.again();
+        if let Some(stated) = self.optimum::<T>(cursor, solver)? {
+            return Ok(Some(stated));
+        }
+        *cursor = start.again();
+        if let Some(stated) = crossed(cursor, self.sheet) {
+            return Ok(Some(stated));
+        }
+        *cursor = start;
+        self.shown::<T>(cursor, solver)
+    }
+
+    // The verdict of a solving verb.
+    fn statement<'a, T: Checks>(&self, cursor: &mut Cursor<'a>, solver: Solver) -> Read<Stated<'a>>
+        requires { IsSheet self.now.sheet }
+        ensures { IsRead IsStated (λ of sheet. verdict_in of sheet solver) T.checker
+            self.now cursor.old cursor.new result }
+    {
+        if !take_solver(cursor, solver) {
+            return Ok(None);
+        }
+        self.read_claim::<T>(cursor, solver)
+    }
 }
 
 /// The verdict of a solving verb; it is left unchecked where only a number that is too long keeps it from being read.
@@ -274,13 +213,17 @@ pub fn verdict<'a, T: Checks>(
         (λ of. verdict_in of (sheet_view sheet.entry) solver) cursor.old cursor.new result }
 {
     let mut start = cursor.again();
-    if let Some(stated) = read_verdict::<T>(alloc, cursor, By::Value, sheet, solver)? {
+    let by = By::Value;
+    let reader = Reader { alloc, by, sheet };
+    if let Some(stated) = reader.statement::<T>(cursor, solver)? {
         return Ok(stated);
     }
     if !T::has_limit() {
         return Err(Stop::Wrong);
     }
-    let form = read_verdict::<T>(alloc, &mut start, By::Form, sheet, solver)?;
+    let by = By::Form;
+    let reader = Reader { alloc, by, sheet };
+    let form = reader.statement::<T>(&mut start, solver)?;
     Err(stop_unread(form.is_some()))
 }
 

@@ -9,10 +9,11 @@ ghost use Rattle.walk_definitions.specs.Reading.{interval_in, tested_by};
 ghost use Rattle.listing_words.specs.Read.{taken, sheet_view};
 ghost use Rattle.listing_claims.specs.Asked.{IsAskedOf};
 ghost use Rattle.listing_claims.specs.Numbers.{number_in};
-ghost use Rattle.listing_answers.specs.Words.{Found};
-ghost use Rattle.listing_answers.specs.Intervals.{part_head, IsPartEnd, AreColumnsRead, IsPart};
+ghost use Rattle.listing_answers.specs.Readers.{IsRead};
+ghost use Rattle.listing_answers.specs.Intervals.{part_head, IsPartEnd, AreColumns, columns_in, IsPart};
 ghost use Rattle.listing_answers.specs.Taken.{Taken, IsReadBy};
 
+use crate::reader::{Read, Reader};
 use crate::unread::stop_unread;
 use crate::words::take_each;
 use itoa::Buffer;
@@ -20,7 +21,6 @@ use listing_claims::{AskedRun, By, Checks, Columns, Part, Stop, number_by};
 use listing_readers::{Place, Shape, numbers_at, table};
 use listing_tables::Sheet;
 use listing_words::{Cursor, Number};
-use lp_model::NoMemory;
 use std::alloc::Global;
 
 // The digits of a number.
@@ -43,77 +43,71 @@ fn take_part_head(cursor: &mut Cursor<'_>, number: usize, from: &Number<'_>) -> 
     )
 }
 
-// Where an interval ends, and the end of its first line.
-fn part_end<'a, T: Checks>(
-    alloc: Global,
-    cursor: &mut Cursor<'a>,
-    by: By,
-    number: usize,
-    from: &Number<'_>,
-) -> Result<Option<Number<'a>>, NoMemory>
-    ensures { IfOk result
-        (IsPartEnd (number_in T.checker by) number from.now cursor.old cursor.new) }
-{
-    if !take_part_head(cursor, number, from) {
-        return Ok(None);
+impl Reader<'_> {
+    // Where an interval ends, and the end of its first line.
+    fn part_end<'a, T: Checks>(
+        &self,
+        cursor: &mut Cursor<'a>,
+        number: usize,
+        from: &Number<'_>,
+    ) -> Read<Number<'a>>
+        ensures { IfOk result
+            (IsPartEnd (number_in T.checker self.now.by) number from.now cursor.old cursor.new) }
+    {
+        if !take_part_head(cursor, number, from) {
+            return Ok(None);
+        }
+        let Some(to) = number_by::<T>(self.alloc, self.by, cursor.word())? else {
+            return Ok(None);
+        };
+        if !cursor.take(b"\n") {
+            return Ok(None);
+        }
+        Ok(Some(to))
     }
-    let Some(to) = number_by::<T>(alloc, by, cursor.word())? else {
-        return Ok(None);
-    };
-    if !cursor.take(b"\n") {
-        return Ok(None);
+
+    // The lines of an interval.
+    fn read_columns<'a, T: Checks>(&self, cursor: &mut Cursor<'a>) -> Read<Columns<'a>>
+        requires { IsSheet self.now.sheet }
+        ensures { IsRead AreColumns columns_in T.checker self.now cursor.old cursor.new result }
+    {
+        let Reader { alloc, by, sheet } = *self;
+        let count = sheet.lp.number_of_variables();
+        let Some(numbers) = table::<T>(alloc, cursor, by, sheet, Shape::Part, 0, count)? else {
+            return Ok(None);
+        };
+        let value = numbers_at(alloc, &numbers, Place::First)?;
+        let value_rate = numbers_at(alloc, &numbers, Place::Second)?;
+        let price = numbers_at(alloc, &numbers, Place::Third)?;
+        let price_rate = numbers_at(alloc, &numbers, Place::Fourth)?;
+        Ok(Some(Columns {
+            value,
+            value_rate,
+            price,
+            price_rate,
+        }))
     }
-    Ok(Some(to))
-}
 
-// The lines of an interval.
-fn read_columns<'a, T: Checks>(
-    alloc: Global,
-    cursor: &mut Cursor<'a>,
-    by: By,
-    sheet: Sheet<'_>,
-) -> Result<Option<Columns<'a>>, NoMemory>
-    requires { IsSheet sheet }
-    ensures { IfOk result
-        (AreColumnsRead (number_in T.checker by) (sheet_view sheet.entry) cursor.old cursor.new) }
-{
-    let count = sheet.lp.number_of_variables();
-    let Some(numbers) = table::<T>(alloc, cursor, by, sheet, Shape::Part, 0, count)? else {
-        return Ok(None);
-    };
-    let value = numbers_at(alloc, &numbers, Place::First)?;
-    let value_rate = numbers_at(alloc, &numbers, Place::Second)?;
-    let price = numbers_at(alloc, &numbers, Place::Third)?;
-    let price_rate = numbers_at(alloc, &numbers, Place::Fourth)?;
-    Ok(Some(Columns {
-        value,
-        value_rate,
-        price,
-        price_rate,
-    }))
-}
-
-// The interval of a number, from the last end on.
-fn read_interval<'a, T: Checks>(
-    alloc: Global,
-    cursor: &mut Cursor<'a>,
-    by: By,
-    sheet: Sheet<'_>,
-    number: usize,
-    from: &Number<'_>,
-) -> Result<Option<Part<'a>>, NoMemory>
-    requires { IsSheet sheet }
-    ensures { IfOk result
-        (Found (IsPart (sheet_view sheet.entry) from.now) (interval_in (number_in T.checker by)
-        (sheet_view sheet.entry) number from.now cursor.old) cursor.new) }
-{
-    let Some(to) = part_end::<T>(alloc, cursor, by, number, from)? else {
-        return Ok(None);
-    };
-    let Some(columns) = read_columns::<T>(alloc, cursor, by, sheet)? else {
-        return Ok(None);
-    };
-    Ok(Some(Part { to, columns }))
+    // The interval of a number, from the last end on.
+    fn read_interval<'a, T: Checks>(
+        &self,
+        cursor: &mut Cursor<'a>,
+        number: usize,
+        from: &Number<'_>,
+    ) -> Read<Part<'a>>
+        requires { IsSheet self.now.sheet }
+        ensures { IsRead (λ sheet. IsPart sheet from.now)
+            (λ of sheet. interval_in of sheet number from.now) T.checker
+            self.now cursor.old cursor.new result }
+    {
+        let Some(to) = self.part_end::<T>(cursor, number, from)? else {
+            return Ok(None);
+        };
+        let Some(columns) = self.read_columns::<T>(cursor)? else {
+            return Ok(None);
+        };
+        Ok(Some(Part { to, columns }))
+    }
 }
 
 // The interval of a number, from the last end on; it is left unchecked where only a number that is too long keeps it from being read.
@@ -130,13 +124,17 @@ fn interval<'a, T: Checks>(
         cursor.old cursor.new result }
 {
     let mut start = cursor.again();
-    if let Some(part) = read_interval::<T>(alloc, cursor, By::Value, sheet, number, from)? {
+    let by = By::Value;
+    let reader = Reader { alloc, by, sheet };
+    if let Some(part) = reader.read_interval::<T>(cursor, number, from)? {
         return Ok(part);
     }
     if !T::has_limit() {
         return Err(Stop::Wrong);
     }
-    let form = read_interval::<T>(alloc, &mut start, By::Form, sheet, number, from)?;
+    let by = By::Form;
+    let reader = Reader { alloc, by, sheet };
+    let form = reader.read_interval::<T>(&mut start, number, from)?;
     Err(stop_unread(form.is_some()))
 }
 

@@ -8,6 +8,7 @@ mod closing;
 mod intervals;
 mod openings;
 mod parametric_runs;
+mod reader;
 mod solution;
 mod unread;
 mod words;

@@ -8,10 +8,11 @@ ghost use Rattle.walk_definitions.specs.Reading.{solution_in};
 ghost use Rattle.listing_words.specs.Read.{taken, sheet_view};
 ghost use Rattle.listing_claims.specs.Numbers.{number_in};
 ghost use Rattle.listing_readers.specs.Tables.{at_place, IsTableRead};
-ghost use Rattle.listing_answers.specs.Words.{Found};
+ghost use Rattle.listing_answers.specs.Readers.{IsRead};
 ghost use Rattle.listing_answers.specs.Solutions.{rows_head, columns_head, AreLines, IsPrinted};
 ghost use Rattle.listing_answers.specs.Taken.{IsReadBy};
 
+use crate::reader::{Read, Reader};
 use crate::unread::stop_unread;
 use crate::words::take_each;
 use listing_claims::{By, Checks, Printed, Stop};
@@ -44,72 +45,58 @@ fn take_rows_head(cursor: &mut Cursor<'_>, mark: Mark) -> bool
     take_each(cursor, &[b"SOLUTION ", mark_word(mark), heads])
 }
 
-// The lines of the rows.
-fn rows<'a, T: Checks>(
-    alloc: Global,
-    cursor: &mut Cursor<'a>,
-    by: By,
-    sheet: Sheet<'_>,
-) -> Result<Option<Vec<Numbers<'a>>>, NoMemory>
-    requires sheet { IsSheet sheet }
-    requires lawful { IsLinearProgram sheet.lp.now }
-    ensures { IfOk result
-        (λ found. IsTableRead (number_in T.checker by) (sheet_view sheet.entry) Shape.Row
-        (row_numbers sheet.entry.lp.now)
-        cursor.old cursor.new (option_map (λ table. table.items) found)) }
-{
-    let lp = sheet.lp;
-    table::<T>(alloc, cursor, by, sheet, Shape::Row, 0, lp.rows)
-}
-
-// The lines of the columns.
-fn columns<'a, T: Checks>(
-    alloc: Global,
-    cursor: &mut Cursor<'a>,
-    by: By,
-    sheet: Sheet<'_>,
-) -> Result<Option<Vec<Numbers<'a>>>, NoMemory>
-    requires sheet { IsSheet sheet }
-    requires lawful { IsLinearProgram sheet.lp.now }
-    requires no_change { sheet.lp.now.change ≡ None }
-    ensures { IfOk result
-        (λ found. IsTableRead (number_in T.checker by) (sheet_view sheet.entry) Shape.Column
-        (column_numbers sheet.entry.lp.now)
-        cursor.old cursor.new (option_map (λ table. table.items) found)) }
-{
-    let lp = sheet.lp;
-    table::<T>(alloc, cursor, by, sheet, Shape::Column, lp.rows, lp.cols)
-}
-
-// The lines of SOLUTION under a mark.
-fn read_lines<'a, T: Checks>(
-    alloc: Global,
-    cursor: &mut Cursor<'a>,
-    by: By,
-    sheet: Sheet<'_>,
-    mark: Mark,
-) -> Result<Option<Lines<'a>>, NoMemory>
-    requires sheet { IsSheet sheet }
-    requires lawful { IsLinearProgram sheet.lp.now }
-    requires no_change { sheet.lp.now.change ≡ None }
-    ensures { IfOk result
-        (Found (AreLines (sheet_view sheet.entry))
-        (solution_in (number_in T.checker by)
-        (sheet_view sheet.entry) mark cursor.old) cursor.new) }
-{
-    if !take_rows_head(cursor, mark) {
-        return Ok(None);
+impl Reader<'_> {
+    // The lines of the rows.
+    fn rows<'a, T: Checks>(&self, cursor: &mut Cursor<'a>) -> Read<Vec<Numbers<'a>>>
+        requires sheet { IsSheet self.now.sheet }
+        requires lawful { IsLinearProgram self.now.sheet.lp.now }
+        ensures { IfOk result
+            (λ found. IsTableRead (number_in T.checker self.now.by) (sheet_view self.now.sheet)
+            Shape.Row (row_numbers self.now.sheet.lp.now)
+            cursor.old cursor.new (option_map (λ table. table.items) found)) }
+    {
+        let Reader { alloc, by, sheet } = *self;
+        let lp = sheet.lp;
+        table::<T>(alloc, cursor, by, sheet, Shape::Row, 0, lp.rows)
     }
-    let Some(rows) = rows::<T>(alloc, cursor, by, sheet)? else {
-        return Ok(None);
-    };
-    if !take_columns_head(cursor) {
-        return Ok(None);
+
+    // The lines of the columns.
+    fn columns<'a, T: Checks>(&self, cursor: &mut Cursor<'a>) -> Read<Vec<Numbers<'a>>>
+        requires sheet { IsSheet self.now.sheet }
+        requires lawful { IsLinearProgram self.now.sheet.lp.now }
+        requires no_change { self.now.sheet.lp.now.change ≡ None }
+        ensures { IfOk result
+            (λ found. IsTableRead (number_in T.checker self.now.by) (sheet_view self.now.sheet)
+            Shape.Column (column_numbers self.now.sheet.lp.now)
+            cursor.old cursor.new (option_map (λ table. table.items) found)) }
+    {
+        let Reader { alloc, by, sheet } = *self;
+        let lp = sheet.lp;
+        table::<T>(alloc, cursor, by, sheet, Shape::Column, lp.rows, lp.cols)
     }
-    let Some(columns) = columns::<T>(alloc, cursor, by, sheet)? else {
-        return Ok(None);
-    };
-    Ok(Some(Lines { rows, columns }))
+
+    // The lines of SOLUTION under a mark.
+    fn read_lines<'a, T: Checks>(&self, cursor: &mut Cursor<'a>, mark: Mark) -> Read<Lines<'a>>
+        requires sheet { IsSheet self.now.sheet }
+        requires lawful { IsLinearProgram self.now.sheet.lp.now }
+        requires no_change { self.now.sheet.lp.now.change ≡ None }
+        ensures { IsRead AreLines (λ of sheet. solution_in of sheet mark) T.checker
+            self.now cursor.old cursor.new result }
+    {
+        if !take_rows_head(cursor, mark) {
+            return Ok(None);
+        }
+        let Some(rows) = self.rows::<T>(cursor)? else {
+            return Ok(None);
+        };
+        if !take_columns_head(cursor) {
+            return Ok(None);
+        }
+        let Some(columns) = self.columns::<T>(cursor)? else {
+            return Ok(None);
+        };
+        Ok(Some(Lines { rows, columns }))
+    }
 }
 
 /// The lines of SOLUTION under a mark; they are left unchecked where only a number that is too long keeps them from being read.
@@ -126,13 +113,17 @@ pub fn solution_lines<'a, T: Checks>(
         (λ of. solution_in of (sheet_view sheet.entry) mark) cursor.old cursor.new result }
 {
     let mut start = cursor.again();
-    if let Some(lines) = read_lines::<T>(alloc, cursor, By::Value, sheet, mark)? {
+    let by = By::Value;
+    let reader = Reader { alloc, by, sheet };
+    if let Some(lines) = reader.read_lines::<T>(cursor, mark)? {
         return Ok(lines);
     }
     if !T::has_limit() {
         return Err(Stop::Wrong);
     }
-    let form = read_lines::<T>(alloc, &mut start, By::Form, sheet, mark)?;
+    let by = By::Form;
+    let reader = Reader { alloc, by, sheet };
+    let form = reader.read_lines::<T>(&mut start, mark)?;
     Err(stop_unread(form.is_some()))
 }
 

@@ -7,12 +7,11 @@ ghost use Rattle.listing_words.specs.Read.{taken};
 ghost use Rattle.listing_claims.specs.Numbers.{number_in};
 ghost use Rattle.listing_answers.specs.Words.{labelled, refusal_in, IsCheckRead, IsCheckAfter, IsHeadRead};
 
+use crate::reader::{Read, Reader};
 use frac128::{Frac, Refused};
-use listing_claims::{By, Checks, number_by};
+use listing_claims::{Checks, number_by};
 use listing_readers::{MAX_COUNT, operation_of};
 use listing_words::{Cursor, Number, count_in, fraction_in};
-use lp_model::NoMemory;
-use std::alloc::Global;
 
 /// What stands before the lines of a verdict: its objective, and whether the listing says that it was checked.
 #[derive(Drop)]
@@ -43,23 +42,6 @@ pub fn count_after(cursor: &mut Cursor<'_>, text: &[u8], most: u32) -> Option<u3
         return None;
     }
     count_in(cursor.word(), most)
-}
-
-/// A number after a text.
-pub fn number_after<'a, T: Checks>(
-    alloc: Global,
-    cursor: &mut Cursor<'a>,
-    by: By,
-    text: &[u8],
-) -> Result<Option<Number<'a>>, NoMemory>
-    ensures { IfOk result
-        (λ found. labelled text.now (number_in T.checker by) cursor.old ≡
-        option_map (λ x. (x, cursor.new)) found) }
-{
-    if !cursor.take(text) {
-        return Ok(None);
-    }
-    number_by::<T>(alloc, by, cursor.word())
 }
 
 // A fraction of 128 bits after a text.
@@ -110,26 +92,40 @@ pub fn check_after(cursor: &mut Cursor<'_>, text: &[u8]) -> Option<bool>
     check(cursor)
 }
 
-/// A text, a number of steps, an objective, and the word of a check.
-pub fn read_head<'a, T: Checks>(
-    alloc: Global,
-    cursor: &mut Cursor<'a>,
-    by: By,
-    text: &[u8],
-) -> Result<Option<Head<'a>>, NoMemory>
-    ensures { IfOk result (IsHeadRead (number_in T.checker by) text.now cursor.old cursor.new) }
-{
-    let Some(_steps) = count_after(cursor, text, MAX_COUNT) else {
-        return Ok(None);
-    };
-    let Some(objective) = number_after::<T>(alloc, cursor, by, b" OBJECTIVE ")? else {
-        return Ok(None);
-    };
-    let Some(is_checked) = check_after(cursor, b" ") else {
-        return Ok(None);
-    };
-    Ok(Some(Head {
-        objective,
-        is_checked,
-    }))
+impl Reader<'_> {
+    /// A number after a text.
+    pub fn number_after<'a, T: Checks>(
+        &self,
+        cursor: &mut Cursor<'a>,
+        text: &[u8],
+    ) -> Read<Number<'a>>
+        ensures { IfOk result
+            (λ found. labelled text.now (number_in T.checker self.now.by) cursor.old ≡
+            option_map (λ x. (x, cursor.new)) found) }
+    {
+        if !cursor.take(text) {
+            return Ok(None);
+        }
+        number_by::<T>(self.alloc, self.by, cursor.word())
+    }
+
+    /// A text, a number of steps, an objective, and the word of a check.
+    pub fn read_head<'a, T: Checks>(&self, cursor: &mut Cursor<'a>, text: &[u8]) -> Read<Head<'a>>
+        ensures { IfOk result
+            (IsHeadRead (number_in T.checker self.now.by) text.now cursor.old cursor.new) }
+    {
+        let Some(_steps) = count_after(cursor, text, MAX_COUNT) else {
+            return Ok(None);
+        };
+        let Some(objective) = self.number_after::<T>(cursor, b" OBJECTIVE ")? else {
+            return Ok(None);
+        };
+        let Some(is_checked) = check_after(cursor, b" ") else {
+            return Ok(None);
+        };
+        Ok(Some(Head {
+            objective,
+            is_checked,
+        }))
+    }
 }

@@ -6,12 +6,12 @@ use Rattle.listing_words.specs.Read.{taken, sheet_view}
 use Rattle.listing_claims.specs.Numbers.{number_in}
 use Rattle.listing_answers.proofs.Tables.{table_counted}
 use Rattle.listing_answers.proofs.Solutions.{solution_read}
-use Rattle.listing_answers.proofs.solution.read_lines.Goals as goal
+use Rattle.listing_answers.proofs.reader.Reader.read_lines.Goals as goal
 
 pub returns : goal.returns
 returns g c =
-    let of = number_in g.T.Checks.checker c.args.by in
-    let sheet = sheet_view c.args.sheet in
+    let of = number_in g.T.Checks.checker c.args.self.now.by in
+    let sheet = sheet_view c.args.self.now.sheet in
     let rows = rw c.in-Some.is at c.in_ok-rows.ensures in
     let columns = rw c.in-Some-2.is at c.in_ok-columns.ensures in
     let first = c.take_rows_head.new.cursor in

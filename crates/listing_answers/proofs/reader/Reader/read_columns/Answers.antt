@@ -7,12 +7,12 @@ use Rattle.listing_readers.specs.Tables.{at_place}
 use Rattle.listing_words.specs.Read.{sheet_view}
 use Rattle.listing_claims.specs.Numbers.{number_in}
 use Rattle.listing_answers.proofs.Tables.{column_is, column_length, lines_counted}
-use Rattle.listing_answers.proofs.intervals.read_columns.Goals as goal
+use Rattle.listing_answers.proofs.reader.Reader.read_columns.Goals as goal
 
 pub returns : goal.returns
 returns g c =
-    let of = number_in g.T.Checks.checker c.args.by in
-    let sheet = sheet_view c.args.sheet in
+    let of = number_in g.T.Checks.checker c.args.self.now.by in
+    let sheet = sheet_view c.args.self.now.sheet in
     let n = size sheet.lp.matrix in
     let read = rw c.in-Some.is at c.in_ok-numbers.ensures in
     let numbers = c.in-Some.numbers.items in
@@ -28,10 +28,11 @@ returns g c =
     column_is Part (at_place Third) numbers read.0 c.in_ok-price.price.items read.2
     (c.in_ok-price.ensures ∙ ap (map (at_place Third)) c.deref-3.ensures.value) in
     let price_rate = column_is Part (at_place Fourth) numbers read.0 c.in_ok-price_rate.price_rate.items read.2
-    (c.in_ok-price_rate.ensures ∙ ap (map (at_place Fourth)) c.deref-4.ensures.value) in (
-      read.0,
-      table,
-      record {
+    (c.in_ok-price_rate.ensures ∙ ap (map (at_place Fourth)) c.deref-4.ensures.value) in
+    record {
+      answer = read.0;
+      is_found = table;
+      shows = record {
         value = value;
         value_rate = value_rate;
         price = price;
@@ -42,5 +43,5 @@ returns g c =
           price = ap length price ∙ column_length 3 n read.0 places;
           price_rate = ap length price_rate ∙ column_length 4 n read.0 places;
         };
-      },
-    )
+      };
+    }

@@ -5,17 +5,17 @@ use Rattle.listing_claims.specs.Numbers.{number_in}
 use Rattle.listing_answers.specs.Claims.{IsStated, shown_in}
 use Rattle.listing_answers.specs.Words.{IsFound, Found}
 use Rattle.listing_answers.proofs.Choices.{found_first, found_second, optimum_found, other_found}
-use Rattle.listing_answers.proofs.claims.read_claim.Goals as goal
+use Rattle.listing_answers.proofs.reader.Reader.read_claim.Goals as goal
 
 pub returns-in-Some : goal.returns-in-Some
 returns-in-Some g c =
-    optimum_found (number_in g.T.Checks.checker c.args.by) (sheet_view c.args.sheet) c.args.solver c.args.cursor.now c.optimum.new.cursor c.in-Some.stated
-    (rw c.in-Some.is at c.in_ok-stated.ensures)
+    optimum_found (number_in g.T.Checks.checker c.args.self.now.by) (sheet_view c.args.self.now.sheet) c.args.solver c.args.cursor.now
+    c.optimum.new.cursor c.in-Some.stated (rw c.in-Some.is at c.in_ok-stated.ensures)
 
 pub returns-in-Some-crossed : goal.returns-in-Some-crossed
 returns-in-Some-crossed g c =
-    let of = number_in g.T.Checks.checker c.args.by in
-    let sheet = sheet_view c.args.sheet in
+    let of = number_in g.T.Checks.checker c.args.self.now.by in
+    let sheet = sheet_view c.args.self.now.sheet in
     let old = c.args.cursor.now in
     let new = c.crossed.new.cursor in
     let stated = c.in-Some-crossed.stated in
@@ -25,8 +25,8 @@ returns-in-Some-crossed g c =
 
 pub returns : goal.returns
 returns g c =
-    let of = number_in g.T.Checks.checker c.args.by in
-    let sheet = sheet_view c.args.sheet in
+    let of = number_in g.T.Checks.checker c.args.self.now.by in
+    let sheet = sheet_view c.args.self.now.sheet in
     let old = c.args.cursor.now in
     let new = c.shown.new.cursor in
     let shown = shown_in of sheet c.args.solver in

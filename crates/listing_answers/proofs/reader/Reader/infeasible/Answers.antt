@@ -6,12 +6,12 @@ use Rattle.walk_definitions.specs.Tables.{ray_in}
 use Rattle.listing_words.specs.Read.{sheet_view}
 use Rattle.listing_claims.specs.Numbers.{number_in}
 use Rattle.listing_answers.proofs.Tables.{multipliers_counted}
-use Rattle.listing_answers.proofs.claims.infeasible.Goals as goal
+use Rattle.listing_answers.proofs.reader.Reader.infeasible.Goals as goal
 
 pub returns-in_default-2 : goal.returns-in_default-2
 returns-in_default-2 g c =
-    let of = number_in g.T.Checks.checker c.args.by in
-    let sheet = sheet_view c.args.sheet in
+    let of = number_in g.T.Checks.checker c.args.self.now.by in
+    let sheet = sheet_view c.args.self.now.sheet in
     let head = c.in-Some.ensures in
     let none : ray_in of sheet (variables sheet.lp.matrix) c.ray_head.new.cursor ≡ None = rw c.in_default-2.is at c.in_ok-ray.ensures in
     head.reads (λ steps check rest. option_map (λ got. ((InfeasibleBy steps got.0, check), got.1)) (ray_in of sheet (variables sheet.lp.matrix) rest))
@@ -19,8 +19,8 @@ returns-in_default-2 g c =
 
 pub returns : goal.returns
 returns g c =
-    let of = number_in g.T.Checks.checker c.args.by in
-    let sheet = sheet_view c.args.sheet in
+    let of = number_in g.T.Checks.checker c.args.self.now.by in
+    let sheet = sheet_view c.args.self.now.sheet in
     let head = c.in-Some.ensures in
     let read = rw c.in-Some-2.is at c.in_ok-ray.ensures in
     record {

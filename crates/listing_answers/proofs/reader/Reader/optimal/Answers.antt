@@ -1,6 +1,6 @@
 use Rattle.std.proofs.Common.{Some, refl}
 use Rattle.listing_definitions.specs.Report.{OptimalAt}
-use Rattle.listing_answers.proofs.claims.optimal.Goals as goal
+use Rattle.listing_answers.proofs.reader.Reader.optimal.Goals as goal
 
 pub returns-in_default : goal.returns-in_default
 returns-in_default g c =
