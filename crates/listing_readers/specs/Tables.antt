@@ -58,6 +58,7 @@ at_place Second numbers = numbers.second
 at_place Third numbers = numbers.third
 at_place Fourth numbers = numbers.fourth
 
+-- another number at a place
 abbrev pub with_number : Place → ℚ → Numbers → Numbers
 with_number First x numbers = record numbers { first = x }
 with_number Second x numbers = record numbers { second = x }
