@@ -150,7 +150,7 @@ fn take_slots<'a, T: Checks>(
 // The places of a line of SOLUTION: where variable `k` stands, its activity, a third, its limits, and its multiplier or reduced cost.
 fn solution_slots(lp: &Lp, k: u32, third: Slot) -> [Slot; 6]
     requires { IsVariable lp.now.matrix k }
-    ensures { result ≡ solution_slots lp.now k third.entry }
+    ensures { result ≡ solution_slots lp.now k third }
 {
     [
         Slot::Code,
