@@ -1,6 +1,6 @@
 // Tables of a listing, line by line.
-ghost use Rattle.std.specs.Prelude.{◌≡◌, ◌+◌, ◌-◌, ◌^◌, ◌≤◌, ◌<◌, None, option_map, map, IfOk, ℕ};
-ghost use Rattle.lp_definitions.specs.LinearProgram.{IsVariable, cost, numbers_from};
+ghost use Rattle.std.specs.Prelude.{◌≡◌, ◌+◌, ◌^◌, ◌≤◌, ◌<◌, None, option_map, map, IfOk, ℕ};
+ghost use Rattle.lp_definitions.specs.LinearProgram.{IsVariable, numbers_from};
 ghost use Rattle.listing_words.specs.Read.{sheet_view};
 ghost use Rattle.listing_claims.specs.Numbers.{number_in};
 ghost use Rattle.listing_readers.specs.Results.{IfRead};
@@ -162,16 +162,6 @@ fn solution_slots(lp: &Lp, k: u32, third: Slot) -> [Slot; 6]
     ]
 }
 
-// The cost of the column that is variable `k`.
-fn cost_of(lp: &Lp, k: u32) -> Frac
-    requires variable { IsVariable lp.now.matrix k }
-    requires column { lp.now.matrix.rows < k }
-    requires no_change { lp.now.change ≡ None }
-    ensures { result ≡ cost lp.now (k - lp.now.matrix.rows) }
-{
-    lp.cost(k - row_count(lp))
-}
-
 // The values of the line of variable `k`.
 fn values<'a, T: Checks>(
     alloc: Global,
@@ -211,7 +201,7 @@ fn values<'a, T: Checks>(
             take_slots::<T>(alloc, cursor, by, &slots)
         }
         Shape::Column => {
-            let cost = cost_of(sheet.lp, k);
+            let cost = sheet.lp.cost(k - row_count(sheet.lp));
             let slots = solution_slots(sheet.lp, k, Slot::Known(Some(cost)));
             take_slots::<T>(alloc, cursor, by, &slots)
         }
