@@ -2,6 +2,7 @@
 --     slots_of shape sheet k       what may stand in the line of variable k
 --     numbers_of shape values      the numbers of a line that aren't known before
 --     at_place, with_number        one of them, and where it is another
+--     solution_slots p k third     the places of a line of SOLUTION
 --     slot_view slot               what may stand at a place, as it is looked for
 --     numbers_in slots values      the numbers that are kept of values that stand so
 --     AreRead, IsLineRead, IsTableRead     values, a line, and the lines of variables were read, and these are their numbers; or none are there
@@ -9,7 +10,7 @@
 --     IsRayRead                    the multipliers of a ray were read, or it isn't there
 use Rattle.std.specs.Prelude.{◌≡◌, ◌+◌, ◌<◌, ℕ, List, [], ◌∷◌, Option, Some, None, map, slice_get}
 use Rattle.exact_values.specs.Rational.{ℚ, zero_ℚ}
-use Rattle.lp_definitions.specs.LinearProgram.{IsVariable, variables}
+use Rattle.lp_definitions.specs.LinearProgram.{LinearProgram, IsVariable, variables, lower_of, upper_of}
 use Rattle.listing_definitions.specs.Report.{Value, Line, limit_value}
 use Rattle.question_definitions.specs.Answers as questions
 use Rattle.listing_tables.specs.declared.sheet.Sheet.{Sheet}
@@ -58,6 +59,7 @@ at_place Second numbers = numbers.second
 at_place Third numbers = numbers.third
 at_place Fourth numbers = numbers.fourth
 
+-- another number at a place
 abbrev pub with_number : Place → ℚ → Numbers → Numbers
 with_number First x numbers = record numbers { first = x }
 with_number Second x numbers = record numbers { second = x }
@@ -78,6 +80,10 @@ kept_from (slot ∷ slots) i values numbers = kept_from slots (i + 1) values (ke
 
 abbrev pub numbers_in : List declared.Slot → List Value → Numbers
 numbers_in slots values = kept_from slots 0 values no_numbers
+
+-- the places of a line of SOLUTION, with what stands at the third of them
+abbrev pub solution_slots : LinearProgram → ℕ → declared.Slot → List declared.Slot
+solution_slots p k third = Code ∷ Number First ∷ third ∷ Known (lower_of p k) ∷ Known (upper_of p k) ∷ Number Second ∷ []
 
 -- a column comes after the rows, and its cost is known where no row is added to the objective
 abbrev pub IsLinedAt : Shape → Sheet → ℕ → Type 0

@@ -1,10 +1,11 @@
 // Lines that can't be attested: stops that a run chooses, or that only a basis or a device shows, and reports that only a basis shows.
-ghost use Rattle.std.specs.Prelude.{◌≡◌, ◌∷◌, ◌++◌, ◌||◌, []};
+ghost use Rattle.std.specs.Prelude.{◌≡◌, ◌++◌};
+ghost use Rattle.std.specs.List.{list_any};
 ghost use Rattle.listing_definitions.specs.Text.{name8};
 ghost use Rattle.walk_definitions.specs.Words.{left_after, max_count};
-ghost use Rattle.walk_definitions.specs.Forms.{Text, Count, Fraction, Operation, left_by_piece, left_by, has_form, limit_stop, read_fault, punch_fault, memory_stop, singular_stop, price_stop, overflow_stop, counted_line, is_open_stop, is_ranges, is_punched, is_inserted};
+ghost use Rattle.walk_definitions.specs.Forms.{Count, Fraction, Operation, left_by_piece, left_by, has_form, counted_line, is_open_stop, is_ranges, is_punched, is_inserted};
 ghost use Rattle.listing_words.specs.Read.{taken};
-ghost use Rattle.listing_readers.specs.Pieces.{piece_view, form_of};
+ghost use Rattle.listing_readers.specs.Pieces.{piece_view, form_of, form_view};
 
 use crate::lines::{operation_of, take_name};
 use listing_words::{Cursor, count_in, fraction_in};
@@ -20,6 +21,13 @@ pub enum Piece {
     Count,
     Fraction,
     Operation,
+}
+
+/// How a line goes: a text, and pieces after it.
+#[derive(Clone, Copy)]
+pub struct Form {
+    pub text: &'static [u8],
+    pub pieces: &'static [Piece],
 }
 
 // Takes a count.
@@ -67,67 +75,57 @@ fn take_pieces(cursor: &mut Cursor<'_>, pieces: &[Piece]) -> bool
     true
 }
 
-// Whether a text stands here, with these pieces after it.
-fn begins_with(bytes: &[u8], text: &[u8], pieces: &[Piece]) -> bool
-    ensures { result ≡ has_form (Text text.now ∷ form_of pieces.now) bytes.now }
+// Whether a line of a form begins here.
+fn begins_with(bytes: &[u8], form: &Form) -> bool
+    ensures { result ≡ has_form (form_view form.now) bytes.now }
 {
     let mut cursor = Cursor::new(bytes);
-    cursor.take(text) && take_pieces(&mut cursor, pieces)
+    cursor.take(form.text) && take_pieces(&mut cursor, form.pieces)
 }
 
 // ---- stop texts
 
-// The limit on steps.
-fn is_limit_stop(bytes: &[u8]) -> bool
-    ensures { result ≡ has_form limit_stop bytes.now }
-{
-    begins_with(
-        bytes,
-        b"STOP 16 ITERATION LIMIT ",
-        &[
+// The first lines of the stop texts that can't be attested: the limit on steps; the faults of devices, and that memory ran out; a
+// singular basis, and wrong prices; and an overflow, with its formula, its operation and the operands, its numbers, the value of the
+// parameter and the card.
+const OPEN_STOPS: [Form; 7] = [
+    Form {
+        text: b"STOP 16 ITERATION LIMIT ",
+        pieces: &[
             Piece::Count,
             Piece::Text(b" CARD "),
             Piece::Count,
             Piece::Text(b"\n"),
         ],
-    )
-}
-
-// A singular basis.
-fn is_singular_stop(bytes: &[u8]) -> bool
-    ensures { result ≡ has_form singular_stop bytes.now }
-{
-    begins_with(
-        bytes,
-        b"STOP 10 VERB FAULT 15 CARD ",
-        &[Piece::Count, Piece::Text(b"\n")],
-    )
-}
-
-// Wrong prices.
-fn is_price_stop(bytes: &[u8]) -> bool
-    ensures { result ≡ has_form price_stop bytes.now }
-{
-    begins_with(
-        bytes,
-        b"STOP 10 VERB FAULT 16 CARD ",
-        &[
+    },
+    Form {
+        text: b"STOP 24 READ FAULT\n",
+        pieces: &[],
+    },
+    Form {
+        text: b"STOP 26 PUNCH FAULT\n",
+        pieces: &[],
+    },
+    Form {
+        text: b"STOP 28 MEMORY\n",
+        pieces: &[],
+    },
+    Form {
+        text: b"STOP 10 VERB FAULT 15 CARD ",
+        pieces: &[Piece::Count, Piece::Text(b"\n")],
+    },
+    Form {
+        text: b"STOP 10 VERB FAULT 16 CARD ",
+        pieces: &[
             Piece::Count,
             Piece::Text(b" VARIABLE "),
             Piece::Count,
             Piece::Text(b"\n"),
         ],
-    )
-}
-
-// An overflow: its formula, its operation with the operands, its numbers, the value of the parameter and the card.
-fn is_overflow_stop(bytes: &[u8]) -> bool
-    ensures { result ≡ has_form overflow_stop bytes.now }
-{
-    begins_with(
-        bytes,
-        b"STOP 20 OVERFLOW F",
-        &[
+    },
+    Form {
+        text: b"STOP 20 OVERFLOW F",
+        pieces: &[
             Piece::Count,
             Piece::Text(b" "),
             Piece::Operation,
@@ -151,46 +149,22 @@ fn is_overflow_stop(bytes: &[u8]) -> bool
             Piece::Count,
             Piece::Text(b"\n"),
         ],
-    )
-}
+    },
+];
 
-// Whether this line stands here.
-fn is_line(bytes: &[u8], line: &[u8]) -> bool
-    ensures { result ≡ has_form (Text line.now ∷ []) bytes.now }
+// Whether a line of one of these forms begins here.
+fn begins_with_any(bytes: &[u8], forms: &[Form]) -> bool
+    ensures { result ≡ list_any (λ form. has_form (form_view form) bytes.now) forms.now }
 {
-    let mut cursor = Cursor::new(bytes);
-    cursor.take(line)
-}
-
-// A fault of a device, or that memory ran out.
-fn is_fault(bytes: &[u8]) -> bool
-    ensures { result ≡
-        (has_form read_fault bytes.now ||
-        (has_form punch_fault bytes.now || has_form memory_stop bytes.now)) }
-{
-    is_line(bytes, b"STOP 24 READ FAULT\n")
-        || is_line(bytes, b"STOP 26 PUNCH FAULT\n")
-        || is_line(bytes, b"STOP 28 MEMORY\n")
-}
-
-// Whether one of five tests holds.
-fn any_of_five(a: bool, b: bool, c: bool, d: bool, e: bool) -> bool
-    ensures { result ≡ (a || (b || (c || (d || e)))) }
-{
-    a || b || c || d || e
+    forms.iter().any(|form| begins_with(bytes, form))
 }
 
 /// Whether the first line of a stop text that can't be attested stands here, whole.
+#[tactic(auto, unfolding(walk_definitions::specs::Forms::is_open_stop))]
 pub fn is_open_stop(bytes: &[u8]) -> bool
     ensures { result ≡ is_open_stop bytes.now }
 {
-    any_of_five(
-        is_limit_stop(bytes),
-        is_fault(bytes),
-        is_singular_stop(bytes),
-        is_price_stop(bytes),
-        is_overflow_stop(bytes),
-    )
+    begins_with_any(bytes, &OPEN_STOPS)
 }
 
 // ---- reports
@@ -200,7 +174,8 @@ pub fn is_open_stop(bytes: &[u8]) -> bool
 pub fn is_ranges(bytes: &[u8]) -> bool
     ensures { result ≡ is_ranges bytes.now }
 {
-    is_line(bytes, b"RANGE\n")
+    let mut cursor = Cursor::new(bytes);
+    cursor.take(b"RANGE\n")
 }
 
 // Takes a name and a text after it.

@@ -1,13 +1,10 @@
 // Tables of a listing, line by line.
-ghost use Rattle.std.specs.Prelude.{◌≡◌, ◌+◌, ◌-◌, ◌^◌, ◌≤◌, ◌<◌, ◌∷◌, [], None, option_map, map, IfOk, ℕ};
-ghost use Rattle.lp_definitions.specs.LinearProgram.{IsVariable, lower_of, upper_of, cost, numbers_from};
-ghost use Rattle.listing_definitions.specs.Report.{limit_value};
-ghost use Rattle.listing_definitions.specs.Report as reports;
-ghost use Rattle.walk_definitions.specs.Tables.{AnyCode, AnyNumber, Known};
+ghost use Rattle.std.specs.Prelude.{◌≡◌, ◌+◌, ◌^◌, ◌≤◌, ◌<◌, None, option_map, map, IfOk, ℕ};
+ghost use Rattle.lp_definitions.specs.LinearProgram.{IsVariable, numbers_from};
 ghost use Rattle.listing_words.specs.Read.{sheet_view};
 ghost use Rattle.listing_claims.specs.Numbers.{number_in};
 ghost use Rattle.listing_readers.specs.Results.{IfRead};
-ghost use Rattle.listing_readers.specs.Tables.{slots_of, numbers_of, at_place, with_number, no_numbers, slot_view, numbers_in, MayRead, AreRead, IsSlotTaken, IsLineRead, IsTableRead};
+ghost use Rattle.listing_readers.specs.Tables.{slots_of, numbers_of, at_place, with_number, no_numbers, slot_view, numbers_in, solution_slots, MayRead, AreRead, IsSlotTaken, IsLineRead, IsTableRead};
 
 use crate::lines::{code, known_limit, number, take_head};
 use crate::unread::Unread;
@@ -150,59 +147,19 @@ fn take_slots<'a, T: Checks>(
     Ok(numbers)
 }
 
-// Where a row stands, its activity, its slack, its limits and its multiplier.
-fn row_values<'a, T: Checks>(
-    alloc: Global,
-    cursor: &mut Cursor<'a>,
-    by: By,
-    lp: &Lp,
-    k: u32,
-) -> Result<Numbers<'a>, Unread>
+// The places of a line of SOLUTION: where variable `k` stands, its activity, a third, its limits, and its multiplier or reduced cost.
+fn solution_slots(lp: &Lp, k: u32, third: Slot) -> [Slot; 6]
     requires { IsVariable lp.now.matrix k }
-    ensures { IfRead result
-        (AreRead (number_in T.checker by) (numbers_of Shape.Row)
-        (AnyCode ∷ AnyNumber ∷ AnyNumber ∷ Known (limit_value (lower_of lp.now k)) ∷ Known
-        (limit_value (upper_of lp.now k)) ∷ AnyNumber ∷ [])
-        cursor.old cursor.new) }
+    ensures { result ≡ solution_slots lp.now k third }
 {
-    let slots = [
+    [
         Slot::Code,
         Slot::Number(Place::First),
-        Slot::Number(Place::Third),
+        third,
         Slot::Known(lp.lower_limit(k)),
         Slot::Known(lp.upper_limit(k)),
         Slot::Number(Place::Second),
-    ];
-    take_slots::<T>(alloc, cursor, by, &slots)
-}
-
-// Where a column stands, its activity, its cost, its limits and its reduced cost.
-fn column_values<'a, T: Checks>(
-    alloc: Global,
-    cursor: &mut Cursor<'a>,
-    by: By,
-    lp: &Lp,
-    k: u32,
-) -> Result<Numbers<'a>, Unread>
-    requires variable { IsVariable lp.now.matrix k }
-    requires column { lp.now.matrix.rows < k }
-    requires no_change { lp.now.change ≡ None }
-    ensures { IfRead result (AreRead (number_in T.checker by) (numbers_of Shape.Column)
-        (AnyCode ∷ AnyNumber ∷ Known (reports.Number (cost lp.now (k - lp.now.matrix.rows))) ∷ Known
-        (limit_value (lower_of lp.now k)) ∷ Known
-        (limit_value (upper_of lp.now k)) ∷ AnyNumber ∷ [])
-        cursor.old cursor.new) }
-{
-    let cost = lp.cost(k - row_count(lp));
-    let slots = [
-        Slot::Code,
-        Slot::Number(Place::First),
-        Slot::Known(Some(cost)),
-        Slot::Known(lp.lower_limit(k)),
-        Slot::Known(lp.upper_limit(k)),
-        Slot::Number(Place::Second),
-    ];
-    take_slots::<T>(alloc, cursor, by, &slots)
+    ]
 }
 
 // The values of the line of variable `k`.
@@ -239,8 +196,15 @@ fn values<'a, T: Checks>(
                 Slot::Number(Place::Fourth),
             ],
         ),
-        Shape::Row => row_values::<T>(alloc, cursor, by, sheet.lp, k),
-        Shape::Column => column_values::<T>(alloc, cursor, by, sheet.lp, k),
+        Shape::Row => {
+            let slots = solution_slots(sheet.lp, k, Slot::Number(Place::Third));
+            take_slots::<T>(alloc, cursor, by, &slots)
+        }
+        Shape::Column => {
+            let cost = sheet.lp.cost(k - row_count(sheet.lp));
+            let slots = solution_slots(sheet.lp, k, Slot::Known(Some(cost)));
+            take_slots::<T>(alloc, cursor, by, &slots)
+        }
     }
 }
 
