@@ -2,6 +2,7 @@
 --     refusal_of stop              why a statement does nothing, where nothing is asked for
 --     parametric_run_view parametric_run    the run as code holds it, in the words of runs
 --     Serves problem p parametric_run    the run can be made in the linear program p
+--     BeginsRun sheet state basis parametric_run    where a run begins
 --     IsRunOverflow result         what a refused operation of a run comes to
 --     ParametricRunFinds gain finding    the run from a basis ends so, or is stopped so
 --     ReportsAnswer result         what is printed of an answer is what the run finds
@@ -13,6 +14,7 @@ use Rattle.lp_definitions.specs.LinearProgram.{LinearProgram}
 use Rattle.lp_definitions.specs.Basis.{Basics}
 use Rattle.lp_definitions.specs.declared.Evidence.{Evidence}
 use Rattle.job_devices.specs.States.{SinkState}
+use Rattle.lp_model.specs.RatesState.{RatesState}
 use Rattle.lp_model.specs.declared.reports.ParaEnd.{ParaEnd}
 use Rattle.lp_model.specs.declared.reports.ParaEnd.TheVariants.{AtMax, Unbounded, Infeasible}
 use Rattle.problem_definitions.specs.Problem.{Problem}
@@ -22,11 +24,12 @@ use Rattle.listing_definitions.specs.Report.{PathVerdict, Check, ParametricInter
 use Rattle.listing_definitions.specs.Ending.{Place}
 use Rattle.control_definitions.specs.Cells.{Cells}
 use Rattle.fitting_answers.specs.Fitting.{VerdictFits, CheckFits, IntervalsFit, EndFits, EvidenceFits}
-use Rattle.basis_values.specs.Calls.{LieIn}
+use Rattle.basis_values.specs.Calls.{IsAtBasis, LieIn}
 use Rattle.bounded_primal.specs.declared.moves.PrimalStop.{PrimalStop}
 use Rattle.question_definitions.specs.Answers.{Basis, Sheet, changing_name, parametric_solver, ParametricRun, OfParametricRun, ParametricRunEnd, Opening, Chained, ParametricRunLimit}
 use Rattle.answer_definitions.specs.ParametricRuns.{IsParametricRun}
 use Rattle.answer_definitions.specs.Evidence.{OverflowsAt}
+use Rattle.listing_tables.specs.Sheets.{IsSheet}
 use Rattle.listing_tables.specs.declared.sheet.Sheet.{Sheet as OwnSheet}
 use Rattle.verb_answers.specs.Objective as objective
 use Rattle.verb_answers.specs.Reports.{sheet_view}
@@ -73,6 +76,13 @@ parametric_run_view (own.Set name run) = right_hand_side.parametric_run_of name 
 abbrev pub Serves : Problem ℕ → LinearProgram → OwnParametricRun → Type 0
 Serves problem p (own.Row name run) = ServesChange problem p name (changes.Row run.row) × (run.from ≤ℚ run.to)
 Serves problem p (own.Set name run) = ServesChange problem p name (changes.Set run.shift) × (run.from ≤ℚ run.to)
+
+-- at a basis of the sheet's linear program, to whose objective no row is added, with the rates of this basis; the run can be made there
+pub record BeginsRun (at : OwnSheet) (state : RatesState) (basis : Basis) (parametric_run : OwnParametricRun) : Type 0 where
+  pub sheet : IsSheet at
+  pub no_change : at.lp.now.change ≡ None
+  pub rates : IsAtBasis state at.lp.now basis
+  pub serves : Serves at.problem.now at.lp.now parametric_run
 
 -- where a run stops; a limit of a row may be too large at the first value
 abbrev pub StopsParametricRun : OwnSheet → ParametricRun → Basis → Basis → List Basics → List Basics → PrimalStop → Type 0
