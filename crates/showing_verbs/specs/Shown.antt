@@ -1,5 +1,6 @@
 -- What SOLUTION and RANGE find.
 --     IsSameSetup setup new        what a statement leaves of the setup that it shows
+--     StopsAfter e place           a statement may stop with this evidence, whatever bases came before
 --     LinesFound gain finding      the lines of a basis are made, or their making is stopped so
 --     Shows gain finding           SOLUTION finds this with a setup, and has this to print
 --     RangesFound gain finding     the intervals of a basis are made, or their making is stopped so
@@ -9,7 +10,7 @@ use Rattle.std.specs.Prelude.{◌≡◌, ℕ, List, [], ◌∷◌, ◌++◌, Opt
 use Rattle.lp_definitions.specs.Basis.{Basics, basics_of}
 use Rattle.lp_definitions.specs.Waypoints.{KeepsWaypoints}
 use Rattle.lp_definitions.specs.declared.Evidence.{Evidence}
-use Rattle.simplex_definitions.specs.Statements.{Solution as SolutionStatement, Range as RangeStatement}
+use Rattle.simplex_definitions.specs.Statements.{SolvingStatement, Solution as SolutionStatement, Range as RangeStatement}
 use Rattle.problem_definitions.specs.Problem.{Problem}
 use Rattle.listing_definitions.specs.declared.Mark.{Mark}
 use Rattle.listing_definitions.specs.declared.Mark.TheVariants.{Optimal, Infeasible, Unbounded}
@@ -39,21 +40,21 @@ pub record IsSameSetup (setup new : Setup) : Type 0 where
   pub basis : new.basis ≡ setup.basis
   pub keeps : KeepsWaypoints setup.lp.matrix (basics_of setup.basis) setup.engine.waypoints (basics_of setup.basis) new.engine.waypoints
 
+-- for every list of bases that ends with s, in which the waypoints lay before, a statement at s may stop with this evidence
+abbrev pub StopsAfter : SolvingStatement → Sheet → Basis → List Basics → Evidence → Option Place → Type 0
+StopsAfter statement sheet s before e place =
+    (earlier : List Basis) → LieIn sheet.lp.matrix before (earlier ++ s ∷ []) → IsEvidence statement None 0 (earlier ++ s ∷ []) [] e place
+
 -- ---- the lines of a basis
 
 module _ (sheet : Sheet) (s : Basis) (before : List Basics) where
-  -- for every list of bases that ends with s, in which the waypoints lay before, SOLUTION may stop with this evidence
-  abbrev pub LinesOverflow : Evidence → Option Place → Type 0
-  LinesOverflow e place = (earlier : List Basis) →
-      LieIn sheet.lp.matrix before (earlier ++ s ∷ []) →
-      IsEvidence (SolutionStatement sheet.lp) None 0 (earlier ++ s ∷ []) [] e place
-
   -- its lines are printed with the mark; or an operation is refused; the numbers that are printed fit
   pub data LinesFound (mark : Mark) : Gain → Finding → Type 0 where
     viewed : {lines : SolutionLines} → IsSolutionOf sheet s lines → SolutionFits lines →
         LinesFound mark (Prints (Solution mark lines)) Printed
     overflows : {e : Evidence} {place : Option OwnPlace} →
-        LinesOverflow e (option_map place_view place) → EvidenceFits e → LinesFound mark Nothing (Overflow e place)
+        StopsAfter (SolutionStatement sheet.lp) sheet s before e (option_map place_view place) → EvidenceFits e →
+        LinesFound mark Nothing (Overflow e place)
 
 -- those of a setup's present basis, in the linear program that it keeps
 abbrev pub Shows : Problem ℕ → Setup → Mark → Gain → Finding → Type 0
@@ -63,17 +64,12 @@ Shows problem setup mark = LinesFound (record { problem = problem; lp = setup.lp
 -- ---- the intervals of a basis
 
 module _ (sheet : Sheet) (s : Basis) (before : List Basics) where
-  -- for every list of bases that ends with s, in which the waypoints lay before, RANGE may stop with this evidence
-  abbrev pub RangesOverflow : Evidence → Option Place → Type 0
-  RangesOverflow e place = (earlier : List Basis) →
-      LieIn sheet.lp.matrix before (earlier ++ s ∷ []) →
-      IsEvidence (RangeStatement sheet.lp) None 0 (earlier ++ s ∷ []) [] e place
-
   -- its intervals are printed; or an operation is refused, whose evidence fits
   pub data RangesFound : Gain → Finding → Type 0 where
     ranged : {lines : RangeLines} → IsRanged sheet s lines → RangesFound (Prints (Ranges lines)) Printed
     stopped : {e : Evidence} {place : Option OwnPlace} →
-        RangesOverflow e (option_map place_view place) → EvidenceFits e → RangesFound Nothing (Overflow e place)
+        StopsAfter (RangeStatement sheet.lp) sheet s before e (option_map place_view place) → EvidenceFits e →
+        RangesFound Nothing (Overflow e place)
 
 -- those of a setup's present basis, in the linear program that it keeps
 abbrev pub ShowsRanges : Problem ℕ → Setup → Gain → Finding → Type 0

@@ -5,7 +5,6 @@ use Rattle.std.specs.Prelude.{◌≡◌, ℕ, List, [], ◌∷◌, ◌++◌, Opt
 use Rattle.lp_definitions.specs.LinearProgram.{LinearProgram}
 use Rattle.lp_definitions.specs.Basis.{Basics}
 use Rattle.lp_definitions.specs.declared.Evidence.{Evidence}
-use Rattle.simplex_definitions.specs.Path.{last_of}
 use Rattle.problem_definitions.specs.Problem.{Problem}
 use Rattle.selection_definitions.specs.Selection.{selected}
 use Rattle.listing_definitions.specs.declared.VerbFault.{VerbFault}
@@ -29,17 +28,14 @@ use Rattle.run_machine.specs.Choosing.{HasSelectionFault, HasSelectionOverflow}
 use Rattle.run_machine.specs.Ends.{place_view}
 use Rattle.run_machine.specs.SolvingVerbs.{solver_of, limit_of}
 use Rattle.run_machine.specs.declared.solving.SolvingVerb.{SolvingVerb}
+use Rattle.solving_verbs.specs.Reaching.{ReachesBy}
 
 -- ---- the path
 
 module _ (solver : Solver) (sheet : Sheet) (s now : Basis) (limit : Option ℕ) (before after : List Basics) where
-  -- The path from s goes over these bases to now, and ends there with this verdict. For every list of bases that ends with s, in which
-  -- the waypoints lay before, they lie after in that list followed by these bases.
-  pub record PathReaches (bases : List Basis) (verdict : PathVerdict) (check : Check) : Type 0 where
-    pub reaches : IsSolvedBy solver sheet s limit (Reached bases verdict check)
-    pub leads : last_of s bases ≡ now
-    pub lie : (earlier : List Basis) → LieIn sheet.lp.matrix before (earlier ++ s ∷ []) →
-        LieIn sheet.lp.matrix after (earlier ++ s ∷ bases)
+  -- the path from s goes over these bases to now, and ends there with this verdict
+  abbrev pub PathReaches : List Basis → PathVerdict → Check → Type 0
+  PathReaches bases verdict check = ReachesBy (IsSolvedBy solver sheet s limit (Reached bases verdict check)) sheet s now before after bases
 
   -- for every list of bases that ends with s, in which the waypoints lay before, the path from there may stop with this evidence
   abbrev pub PathOverflows : Evidence → Option Place → Type 0

@@ -1,3 +1,4 @@
 pub mod Beginning
 pub mod Found
 pub mod ParametricVerbs
+pub mod Reaching

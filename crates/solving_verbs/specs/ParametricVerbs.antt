@@ -2,8 +2,10 @@
 --     refusal_of stop              why a statement does nothing, where nothing is asked for
 --     parametric_run_view parametric_run    the run as code holds it, in the words of runs
 --     Serves problem p parametric_run    the run can be made in the linear program p
+--     BeginsRun sheet state basis parametric_run    where a run begins
 --     IsRunOverflow result         what a refused operation of a run comes to
 --     ParametricRunFinds gain finding    the run from a basis ends so, or is stopped so
+--     ReportsAnswer result         what is printed of an answer is what the run finds
 --     ParametricRuns gain finding  the verb finds this with a setup, and has this to print
 --     cells_left finding cells     the cells after it
 use Rattle.std.specs.Prelude.{◌≡◌, ◌≢◌, ◌⊎◌, ℕ, List, [], ◌∷◌, ◌++◌, Option, None, Result, Ok, option_map}
@@ -11,9 +13,10 @@ use Rattle.exact_values.specs.Rational.{ℚ, ◌≤ℚ◌}
 use Rattle.lp_definitions.specs.LinearProgram.{LinearProgram}
 use Rattle.lp_definitions.specs.Basis.{Basics}
 use Rattle.lp_definitions.specs.declared.Evidence.{Evidence}
+use Rattle.job_devices.specs.States.{SinkState}
+use Rattle.lp_model.specs.RatesState.{RatesState}
 use Rattle.lp_model.specs.declared.reports.ParaEnd.{ParaEnd}
 use Rattle.lp_model.specs.declared.reports.ParaEnd.TheVariants.{AtMax, Unbounded, Infeasible}
-use Rattle.simplex_definitions.specs.Path.{last_of}
 use Rattle.problem_definitions.specs.Problem.{Problem}
 use Rattle.selection_definitions.specs.Selection.{selected}
 use Rattle.listing_definitions.specs.declared.VerbFault.{VerbFault}
@@ -21,20 +24,23 @@ use Rattle.listing_definitions.specs.Report.{PathVerdict, Check, ParametricInter
 use Rattle.listing_definitions.specs.Ending.{Place}
 use Rattle.control_definitions.specs.Cells.{Cells}
 use Rattle.fitting_answers.specs.Fitting.{VerdictFits, CheckFits, IntervalsFit, EndFits, EvidenceFits}
-use Rattle.basis_values.specs.Calls.{LieIn}
+use Rattle.basis_values.specs.Calls.{IsAtBasis, LieIn}
 use Rattle.bounded_primal.specs.declared.moves.PrimalStop.{PrimalStop}
 use Rattle.question_definitions.specs.Answers.{Basis, Sheet, changing_name, parametric_solver, ParametricRun, OfParametricRun, ParametricRunEnd, Opening, Chained, ParametricRunLimit}
 use Rattle.answer_definitions.specs.ParametricRuns.{IsParametricRun}
 use Rattle.answer_definitions.specs.Evidence.{OverflowsAt}
+use Rattle.listing_tables.specs.Sheets.{IsSheet}
 use Rattle.listing_tables.specs.declared.sheet.Sheet.{Sheet as OwnSheet}
 use Rattle.verb_answers.specs.Objective as objective
-use Rattle.verb_answers.specs.RunReports.{RunOverflowsThere, LimitOverflows, ParametricRunStops}
+use Rattle.verb_answers.specs.Reports.{sheet_view}
+use Rattle.verb_answers.specs.RunReports.{IsAnswered, RunOverflowsThere, LimitOverflows, ParametricRunStops}
 use Rattle.verb_answers.specs.RightHandSide as right_hand_side
 use Rattle.run_definitions.specs.State.{choice_of}
 use Rattle.run_definitions.specs.Moves.{Gain, Nothing, Prints}
 use Rattle.run_definitions.specs.Verbs.{mark_of, last_value}
 use Rattle.run_machine.specs.declared.act.Halt.{Halt}
 use Rattle.run_machine.specs.declared.end.Place.{Place as OwnPlace}
+use Rattle.verb_answers.specs.declared.report.RunReport.{RunReport}
 use Rattle.run_machine.specs.declared.finding.Finding.{Finding}
 use Rattle.run_machine.specs.declared.finding.Finding.TheVariants.{Refused, Overflow, Limit, Ended, RanThrough}
 use Rattle.setup_verbs.specs.Kept.{Setup}
@@ -49,7 +55,9 @@ use Rattle.solving_verbs.specs.declared.requested_run.ParametricRun.{ParametricR
 use Rattle.solving_verbs.specs.declared.requested_run.ParametricRun.TheVariants as own
 use Rattle.run_machine.specs.Choosing.{HasSelectionFault, HasSelectionOverflow}
 use Rattle.run_machine.specs.Ends.{place_view}
+use Rattle.run_machine.specs.Findings.{ReportsFinding}
 use Rattle.setup_verbs.specs.Overflows.{IsOverflowAt}
+use Rattle.solving_verbs.specs.Reaching.{ReachesBy}
 
 -- ---- what a verb asks for
 
@@ -68,6 +76,13 @@ parametric_run_view (own.Set name run) = right_hand_side.parametric_run_of name 
 abbrev pub Serves : Problem ℕ → LinearProgram → OwnParametricRun → Type 0
 Serves problem p (own.Row name run) = ServesChange problem p name (changes.Row run.row) × (run.from ≤ℚ run.to)
 Serves problem p (own.Set name run) = ServesChange problem p name (changes.Set run.shift) × (run.from ≤ℚ run.to)
+
+-- at a basis of the sheet's linear program, to whose objective no row is added, with the rates of this basis; the run can be made there
+pub record BeginsRun (at : OwnSheet) (state : RatesState) (basis : Basis) (parametric_run : OwnParametricRun) : Type 0 where
+  pub sheet : IsSheet at
+  pub no_change : at.lp.now.change ≡ None
+  pub rates : IsAtBasis state at.lp.now basis
+  pub serves : Serves at.problem.now at.lp.now parametric_run
 
 -- where a run stops; a limit of a row may be too large at the first value
 abbrev pub StopsParametricRun : OwnSheet → ParametricRun → Basis → Basis → List Basics → List Basics → PrimalStop → Type 0
@@ -89,13 +104,9 @@ IsRunOverflow s after e result =
 -- ---- what is found
 
 module _ (sheet : Sheet) (s now : Basis) (parametric_run : ParametricRun) (before after : List Basics) where
-  -- The run from s goes over these bases to now, and ends there so. For every list of bases that ends with s, in which the waypoints
-  -- lay before, they lie after in that list followed by these bases.
-  pub record ParametricRunReaches (bases : List Basis) (end : ParametricRunEnd) : Type 0 where
-    pub reaches : IsParametricRun sheet s parametric_run end
-    pub leads : last_of s bases ≡ now
-    pub lie : (earlier : List Basis) → LieIn sheet.lp.matrix before (earlier ++ s ∷ []) →
-        LieIn sheet.lp.matrix after (earlier ++ s ∷ bases)
+  -- the run from s goes over these bases to now, and ends there so
+  abbrev pub ParametricRunReaches : List Basis → ParametricRunEnd → Type 0
+  ParametricRunReaches bases end = ReachesBy (IsParametricRun sheet s parametric_run end) sheet s now before after bases
 
   -- for every list of bases that ends with s, in which the waypoints lay before, the run from there may stop with this evidence
   abbrev pub ParametricRunOverflows : Evidence → Option Place → Type 0
@@ -118,6 +129,13 @@ module _ (sheet : Sheet) (s now : Basis) (parametric_run : ParametricRun) (befor
     at_limit : IsParametricRun sheet s parametric_run ParametricRunLimit → ParametricRunFinds Nothing Limit
     overflows : {e : Evidence} {place : Option OwnPlace} →
         ParametricRunOverflows e (option_map place_view place) → EvidenceFits e → ParametricRunFinds Nothing (Overflow e place)
+
+-- from whichever basis the run was made that has this answer
+abbrev pub ReportsAnswer : OwnSheet → OwnParametricRun → RunReport → SinkState → SinkState → Result Finding Halt → Type 0
+ReportsAnswer sheet parametric_run answer print_old print_new result =
+    (s reached : Basis) (before after : List Basics) →
+    IsAnswered sheet (parametric_run_view parametric_run) s reached before after answer →
+    ReportsFinding (ParametricRunFinds (sheet_view sheet) s reached (parametric_run_view parametric_run) before after) print_old print_new result
 
 -- With these cells the selection of a setup's problem is refused, or what the verb asks for is; or the run is made from the present
 -- basis, and the setup keeps where it has come to.

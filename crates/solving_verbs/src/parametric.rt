@@ -1,13 +1,10 @@
 // PARAOBJ and PARARHS.
-ghost use Rattle.std.specs.Prelude.{◌≡◌, ◌≢◌, ◌≤◌, ℕ, List, Option, None, IfSome, IfOk, IfErr, length};
+ghost use Rattle.std.specs.Prelude.{◌≡◌, ◌≢◌, ◌≤◌, ℕ, List, Option, IfSome, IfOk, IfErr, length};
 ghost use Rattle.problem_definitions.specs.Problem.{Problem};
 ghost use Rattle.problem_file.specs.Filed.{filed_under};
 ghost use Rattle.frac128.specs.declared.Refused.{Refused as RefusedOperation};
-ghost use Rattle.lp_definitions.specs.Basis.{Basics};
 ghost use Rattle.lp_model.specs.declared.reports.ParaReport.TheVariants as para_reports;
-ghost use Rattle.question_definitions.specs.Answers as answers;
 ghost use Rattle.basis_values.specs.Calls.{IsAtBasis};
-ghost use Rattle.listing_tables.specs.Sheets.{IsSheet};
 ghost use Rattle.report_text.specs.Verdicts.{IsOutcome};
 ghost use Rattle.report_text.specs.Parametric.{IsParametric};
 ghost use Rattle.fitting_answers.specs.Real.{linear_programming_of_128_bits};
@@ -19,7 +16,7 @@ ghost use Rattle.setup_verbs.specs.Standing.{IsReady, IsSound};
 ghost use Rattle.setup_verbs.specs.Statements.{Executes};
 ghost use Rattle.run_machine.specs.Findings.{ReportsFinding};
 ghost use Rattle.parametric_request.specs.Asking.{verb_of};
-ghost use Rattle.solving_verbs.specs.ParametricVerbs.{refusal_of, parametric_run_view, Serves, StopsParametricRun, ParametricRunFinds, ParametricRuns, IsRunOverflow, value_left, cells_left};
+ghost use Rattle.solving_verbs.specs.ParametricVerbs.{refusal_of, parametric_run_view, BeginsRun, StopsParametricRun, ParametricRunFinds, ReportsAnswer, ParametricRuns, IsRunOverflow, value_left, cells_left};
 
 use crate::requested_run::{ParametricRun, run_of};
 use crate::solving::mark_of;
@@ -51,10 +48,7 @@ fn run_from<R: Rates>(
     rates: &mut R,
     parametric_run: &ParametricRun,
 ) -> Result<RunReport, PrimalStop>
-    requires sheet { IsSheet sheet }
-    requires no_change { sheet.lp.now.change ≡ None }
-    requires rates { IsAtBasis (R.state rates.old) sheet.lp.now basis.old }
-    requires serves { Serves sheet.problem.now sheet.lp.now parametric_run.now }
+    requires { BeginsRun sheet (R.state rates.old) basis.old parametric_run.now }
     ensures answered { IfOk result (IsAnswered sheet.entry (parametric_run_view parametric_run.now)
         basis.old basis.new (R.state rates.old).waypoints (R.state rates.new).waypoints) }
     ensures printable { IfOk result (λ answer. IsPrintable sheet.entry answer.report) }
@@ -78,12 +72,8 @@ fn print_opening<P: Sink>(
     print: &mut P,
 ) -> Result<Finding, Halt>
     requires { IsOutcome sheet outcome.now }
-    ensures { (s reached : answers.Basis) (before after : List Basics) →
-        IsAnswered sheet.entry (parametric_run_view parametric_run.now) s reached before after
-        (record { report = para_reports.Opening outcome.now; refused = refused }) →
-        ReportsFinding
-        (ParametricRunFinds (sheet_view sheet.entry) s reached
-        (parametric_run_view parametric_run.now) before after)
+    ensures { ReportsAnswer sheet.entry parametric_run.now
+        (record { report = para_reports.Opening outcome.now; refused = refused })
         (P.taken print.old) (P.taken print.new) result }
 {
     recall_verdict(sheet, outcome, &refused);
@@ -115,13 +105,8 @@ fn print_chain<P: Sink>(
     print: &mut P,
 ) -> Result<Finding, Halt>
     requires { IsParametric sheet run.now }
-    ensures { (s reached : answers.Basis) (before after : List Basics)
-        (refused : Option RefusedOperation) →
-        IsAnswered sheet.entry (parametric_run_view parametric_run.now) s reached before after
-        (record { report = para_reports.Run run.now; refused = refused }) →
-        ReportsFinding
-        (ParametricRunFinds (sheet_view sheet.entry) s reached
-        (parametric_run_view parametric_run.now) before after)
+    ensures { (refused : Option RefusedOperation) → ReportsAnswer sheet.entry parametric_run.now
+        (record { report = para_reports.Run run.now; refused = refused })
         (P.taken print.old) (P.taken print.new) result }
 {
     let to = parametric_run.to();
@@ -146,13 +131,8 @@ fn print_run<P: Sink>(
     print: &mut P,
 ) -> Result<Finding, Halt>
     requires { IsPrintable sheet answer.now.report }
-    ensures { (s reached : answers.Basis) (before after : List Basics) →
-        IsAnswered sheet.entry
-        (parametric_run_view parametric_run.now) s reached before after answer.now →
-        ReportsFinding
-        (ParametricRunFinds (sheet_view sheet.entry) s reached
-        (parametric_run_view parametric_run.now) before after)
-        (P.taken print.old) (P.taken print.new) result }
+    ensures { ReportsAnswer sheet.entry parametric_run.now answer.now (P.taken print.old)
+        (P.taken print.new) result }
 {
     match &answer.report {
         ParaReport::Opening(outcome) => {
@@ -193,10 +173,7 @@ fn follow<P: Sink, R: Rates>(
     parametric_run: &ParametricRun,
     print: &mut P,
 ) -> Result<Finding, Halt>
-    requires sheet { IsSheet sheet }
-    requires no_change { sheet.lp.now.change ≡ None }
-    requires rates { IsAtBasis (R.state rates.old) sheet.lp.now basis.old }
-    requires serves { Serves sheet.problem.now sheet.lp.now parametric_run.now }
+    requires { BeginsRun sheet (R.state rates.old) basis.old parametric_run.now }
     ensures tells { ReportsFinding (ParametricRunFinds (sheet_view sheet.entry) basis.old basis.new
         (parametric_run_view parametric_run.now) (R.state rates.old).waypoints
         (R.state rates.new).waypoints) (P.taken print.old) (P.taken print.new) result }

@@ -12,7 +12,7 @@ use frac128::Refused;
 use lp_model::{Lp, Outcome};
 
 /// Checks a true outcome by what it shows. No comparison fails.
-pub fn check_of(lp: &Lp, outcome: &Outcome) -> Verdict
+fn check_of(lp: &Lp, outcome: &Outcome) -> Verdict
     requires { IsTrueOutcome lp.now outcome.now }
     ensures exact { IsCheckedSo lp.now outcome.now result }
     ensures never_fails { IsNotFailed result }
@@ -32,7 +32,7 @@ pub fn check_of(lp: &Lp, outcome: &Outcome) -> Verdict
 }
 
 /// The first operation that was refused, if one was.
-pub fn refused_of(verdict: Verdict) -> Option<Refused>
+fn refused_of(verdict: Verdict) -> Option<Refused>
     requires { IsNotFailed verdict }
     ensures { verdict ≡ found (check_view result) }
 {

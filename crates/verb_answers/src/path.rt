@@ -10,7 +10,7 @@ ghost use Rattle.report_text.specs.Verdicts.{IsOutcome};
 ghost use Rattle.verb_answers.specs.Reports.{most_steps, IsReached, PathStops, IsDualReached, DualPathStops};
 ghost use Rattle.bounded_dual.specs.Stops.{DualWaypointsFollow};
 
-use crate::check::{check_of, refused_of};
+use crate::check::refusal_of;
 use bounded_dual::{DualStop, dual};
 use bounded_primal::{PrimalStop, primal, primal_free};
 use frac128::Refused;
@@ -70,7 +70,7 @@ pub fn path_from<R: Rates>(
         (R.state rates.new) }
 {
     let outcome = outcome_from(alloc, sheet.lp, basis, rates, limit)?;
-    let refused = refused_of(check_of(sheet.lp, &outcome));
+    let refused = refusal_of(sheet.lp, &outcome);
     Ok(PathReport { outcome, refused })
 }
 
@@ -95,6 +95,6 @@ pub fn dual_from<R: Rates>(
         (R.state rates.old) (R.state rates.new) }
 {
     let outcome = dual(alloc, sheet.lp, basis, rates, limit)?;
-    let refused = refused_of(check_of(sheet.lp, &outcome));
+    let refused = refusal_of(sheet.lp, &outcome);
     Ok(PathReport { outcome, refused })
 }

@@ -34,31 +34,24 @@ returns-in-Err-request_of-clause-ready g c =
     (name_kept c.args.setup.now {mid = c.select_again.new.setup} refl others) c.in_default.ensures.chosen refl
     (rates_again c.args.setup.now {mid = c.select_again.new.setup} refl others c.args.file.now c.problem_on_file-problem.result.now c.args.cells.now selected c.requires on_file)
 
-pub follow-requires-clause-sheet : goal.follow-requires-clause-sheet
-follow-requires-clause-sheet g c =
+pub follow-requires : goal.follow-requires
+follow-requires g c =
     let is =
     now_is c.args.setup.now c.setup-2.view_is c.select_again.ensures.others c.args.file.now c.problem_on_file-problem.result.now c.args.cells.now c.in_default.ensures.selected in
     record {
-      rows = as_many_rows c.problem_on_file-problem.result.now (choice_of c.args.cells.now c.args.setup.now.options) _ is;
-      columns = as_many_columns c.problem_on_file-problem.result.now (choice_of c.args.cells.now c.args.setup.now.options) _ is;
+      sheet = record {
+        rows = as_many_rows c.problem_on_file-problem.result.now (choice_of c.args.cells.now c.args.setup.now.options) _ is;
+        columns = as_many_columns c.problem_on_file-problem.result.now (choice_of c.args.cells.now c.args.setup.now.options) _ is;
+      };
+      no_change = no_change c.problem_on_file-problem.result.now (choice_of c.args.cells.now c.args.setup.now.options) _ is;
+      rates =
+          rates_again c.args.setup.now c.setup-2.view_is c.select_again.ensures.others c.args.file.now c.problem_on_file-problem.result.now c.args.cells.now c.in_default.ensures.selected c.requires
+          (ap (λ (s : Setup). filed_under s.name c.args.file.now) (sym c.setup.view_is) ∙ c.problem_on_file-problem.ensures);
+      serves =
+          c.run_of-parametric_run.ensures.serves c.problem_on_file-problem.result.now c.setup-2.inside.lp
+          (serves c.problem_on_file-problem.result.now (choice_of c.args.cells.now c.args.setup.now.options) c.setup-2.inside.lp is
+          c.in-Ok.request c.in-Ok.ensures.of);
     }
-
-pub follow-requires-clause-no_change : goal.follow-requires-clause-no_change
-follow-requires-clause-no_change g c =
-    no_change c.problem_on_file-problem.result.now (choice_of c.args.cells.now c.args.setup.now.options) _
-    (now_is c.args.setup.now c.setup-2.view_is c.select_again.ensures.others c.args.file.now c.problem_on_file-problem.result.now c.args.cells.now c.in_default.ensures.selected)
-
-pub follow-requires-clause-rates : goal.follow-requires-clause-rates
-follow-requires-clause-rates g c =
-    rates_again c.args.setup.now c.setup-2.view_is c.select_again.ensures.others c.args.file.now c.problem_on_file-problem.result.now c.args.cells.now c.in_default.ensures.selected c.requires
-    (ap (λ (s : Setup). filed_under s.name c.args.file.now) (sym c.setup.view_is) ∙ c.problem_on_file-problem.ensures)
-
-pub follow-requires-clause-serves : goal.follow-requires-clause-serves
-follow-requires-clause-serves g c =
-    c.run_of-parametric_run.ensures.serves c.problem_on_file-problem.result.now c.setup-2.inside.lp
-    (serves c.problem_on_file-problem.result.now (choice_of c.args.cells.now c.args.setup.now.options) c.setup-2.inside.lp
-    (now_is c.args.setup.now c.setup-2.view_is c.select_again.ensures.others c.args.file.now c.problem_on_file-problem.result.now c.args.cells.now c.in_default.ensures.selected)
-    c.in-Ok.request c.in-Ok.ensures.of)
 
 pub returns-clause-tells : goal.returns-clause-tells
 returns-clause-tells g c =

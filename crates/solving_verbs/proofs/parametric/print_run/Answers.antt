@@ -19,6 +19,6 @@ returns-in-Opening g c = λ s reached before after a.
 
 pub returns-in-Run : goal.returns-in-Run
 returns-in-Run g c = λ s reached before after a.
-    c.print_chain.ensures s reached before after c.args.answer.now.refused
+    c.print_chain.ensures c.args.answer.now.refused s reached before after
     (subst (λ (r : ParaReport). IsAnswered c.args.sheet (parametric_run_view c.args.parametric_run.now) s reached before after
     (record { report = r; refused = c.args.answer.now.refused })) c.in-Run.is a)

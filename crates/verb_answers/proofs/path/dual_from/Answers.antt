@@ -1,6 +1,4 @@
 use Rattle.std.proofs.lemmas.Result.{err_from_is_err_and}
-use Rattle.std.proofs.Common.{subst}
-use Rattle.verb_answers.specs.Reports.{IsCheckedSo}
 use Rattle.verb_answers.proofs.Facts.{dual_reached}
 use Rattle.verb_answers.proofs.PathStopLaws.{dual_stops}
 use Rattle.verb_answers.proofs.path.dual_from.Goals as goal
@@ -14,5 +12,5 @@ returns-in_err-outcome-clause-stops g c =
 
 pub returns-clause-reached : goal.returns-clause-reached
 returns-clause-reached g c =
-    dual_reached c.args.sheet c.args.basis.now c.dual.new.basis c.args.limit c.in_ok-outcome.outcome c.refused_of-refused.result c.in_ok-outcome.ensures.ends
-    (subst (IsCheckedSo c.args.sheet.lp.now c.in_ok-outcome.outcome) c.refused_of-refused.ensures c.check_of.ensures.exact)
+    dual_reached c.args.sheet c.args.basis.now c.dual.new.basis c.args.limit c.in_ok-outcome.outcome c.refusal_of-refused.result c.in_ok-outcome.ensures.ends
+    c.refusal_of-refused.ensures
