@@ -58,7 +58,7 @@ PARAOBJ UNBOUNDED STEPS 0 OBJECTIVE 0 CHECKED
     3 OTH      0 -99999999000000000000000000
 ";
 
-/// An objective or a right-hand side whose breakpoint is 1 over a number of more than 40 digits, and the statements behind it.
+/// An objective whose breakpoint is 1 over a number of more than 40 digits, and the statements behind it.
 pub const LAST_VALUES: [Row; 5] = [
     Row {
         name: "the program's end",

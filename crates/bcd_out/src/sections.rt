@@ -1,11 +1,12 @@
 // The sections of a deck.
-ghost use Rattle.std.specs.Prelude.{◌≡◌, ◌≤◌, ◌++◌, ℕ, List, codes, map, length};
+ghost use Rattle.std.specs.Prelude.{◌≡◌, ◌≤◌, ◌++◌, ℕ, List, [], codes, map, length, if◌then◌else◌};
+ghost use Rattle.card_definitions.specs.Words.{is_empty};
 ghost use Rattle.std.specs.List.{flat_map};
 ghost use Rattle.std.specs.Option.{option_copied, option_to_list};
 ghost use Rattle.problem_definitions.specs.Names.{name_at};
 ghost use Rattle.problem_definitions.specs.Problem.{group_names};
 ghost use Rattle.deck_definitions.specs.Written.{row_kind_text, bound_kind_text};
-ghost use Rattle.job_devices.specs.Text.{Writes};
+ghost use Rattle.job_devices.specs.Text.{Writes, text_of_pieces};
 ghost use Rattle.bcd_out.specs.Lines.{WritesEach, line, bare_line, item_line, combination_lines, row_lines, first_plain, zero_line, entry_lines, column_lines, bound_line, number_text, bound_lines, section_lines};
 
 use crate::card::{WrittenCard, put_card};
@@ -82,38 +83,38 @@ fn put_in_turn<P: Sink, T, F: Fn(&mut P, &T) -> Result<(), WriteStop>>(
     Ok(())
 }
 
-// Writes the card of a section, and what a function writes of each of these.
+// Writes the pieces of a section's card, and what a function writes of each of these.
 fn put_under<P: Sink, T, F: Fn(&mut P, &T) -> Result<(), WriteStop>>(
     punch: &mut P,
-    word: &'static [u8],
+    card: &[&[u8]],
     items: &[T],
     put: F,
 ) -> Result<(), WriteStop>
     requires { F.IsAlwaysCallable put }
     ensures { (lines : T → List ℕ) → WritesEach P.taken (F.post put) lines →
         Writes (P.taken punch.old) (P.taken punch.new) result
-        (line word.now ++ flat_map lines items.now) }
+        (text_of_pieces card.now ++ flat_map lines items.now) }
 {
-    put_each(punch, &[word, b"\n"])?;
+    put_each(punch, card)?;
     put_in_turn(punch, items, put)
 }
 
-// Writes a section, if there is something in it.
+// Writes a section with these pieces of its card, if there is something in it.
 fn put_section<P: Sink, T, F: Fn(&mut P, &T) -> Result<(), WriteStop>>(
     punch: &mut P,
-    word: &'static [u8],
+    card: &[&[u8]],
     items: &[T],
     put: F,
 ) -> Result<(), WriteStop>
     requires { F.IsAlwaysCallable put }
     ensures { (lines : T → List ℕ) → WritesEach P.taken (F.post put) lines →
         Writes (P.taken punch.old) (P.taken punch.new) result
-        (section_lines word.now lines items.now) }
+        (if is_empty items.now then [] else text_of_pieces card.now ++ flat_map lines items.now) }
 {
     if items.is_empty() {
         return put_all(punch, b"");
     }
-    put_under(punch, word, items, put)
+    put_under(punch, card, items, put)
 }
 
 // A row without parts, by the word of its type.
@@ -280,7 +281,12 @@ pub fn put_rows<P: Sink>(punch: &mut P, rows: &[RowDecl]) -> Result<(), WriteSto
     ensures { Writes (P.taken punch.old) (P.taken punch.new) result
         (line (codes "ROWS") ++ flat_map (row_lines (map (λ row. row.name) rows.now)) rows.now) }
 {
-    put_under(punch, b"ROWS", rows, |punch, row| put_row(punch, rows, row))
+    put_under(
+        punch,
+        &[b"ROWS\n"],
+        rows,
+        |punch, row| put_row(punch, rows, row),
+    )
 }
 
 /// Writes the section of the columns.
@@ -292,7 +298,7 @@ pub fn put_columns<P: Sink>(
     ensures { Writes (P.taken punch.old) (P.taken punch.new) result
         (line (codes "COLUMNS") ++ flat_map (column_lines rows.now) columns.now) }
 {
-    put_under(punch, b"COLUMNS", columns, |punch, column| {
+    put_under(punch, &[b"COLUMNS\n"], columns, |punch, column| {
         put_column(punch, rows, column)
     })
 }
@@ -307,7 +313,7 @@ pub fn put_value_section<P: Sink>(
     ensures { Writes (P.taken punch.old) (P.taken punch.new) result
         (section_lines word.now (entry_lines (map (λ row. row.name) rows.now)) sets.now) }
 {
-    put_section(punch, word, sets, |punch, set| {
+    put_section(punch, &[word, b"\n"], sets, |punch, set| {
         put_value_set(punch, rows, set)
     })
 }
@@ -321,7 +327,7 @@ pub fn put_bound_section<P: Sink>(
     ensures { Writes (P.taken punch.old) (P.taken punch.new) result
         (section_lines (codes "BOUNDS") (bound_lines (group_names columns.now)) sets.now) }
 {
-    put_section(punch, b"BOUNDS", sets, |punch, set| {
+    put_section(punch, &[b"BOUNDS\n"], sets, |punch, set| {
         put_bound_set(punch, columns, set)
     })
 }

@@ -78,7 +78,11 @@ COLUMNS
 
 const COLUMNS: [DeckOfFault; 5] = [
     (
-        b"    X         COST      1\n    Y         COST      1\n    X         COST      2\nENDATA\n",
+        b"    X         COST      1
+    Y         COST      1
+    X         COST      2
+ENDATA
+",
         7,
         DeckFaultKind::ColumnSplit,
     ),
@@ -220,7 +224,7 @@ const GROUPS: [Group; 13] = [
         decks: &FREE_DECKS,
     },
     Group {
-        name: "free decks",
+        name: "free decks by their first cards",
         before: b"",
         decks: &FREE_NAMES,
     },

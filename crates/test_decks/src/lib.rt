@@ -1,4 +1,4 @@
-//! Decks of cards and control programs that tests of several crates use. Constants alone.
+//! Decks of cards and control programs of worked jobs, for the crates of tests. Constants alone.
 #![tactic(auto)]
 
 pub mod problems;

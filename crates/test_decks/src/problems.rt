@@ -389,6 +389,21 @@ RANGES
 ENDATA
 ";
 
+/// The same for the right-hand side B, and not for A.
+pub const FAR_RANGE_OF_B: &[u8] = b"NAME          T
+ROWS
+ N  COST
+ L  LIM
+COLUMNS
+    X         LIM       1
+RHS
+    A         LIM       4
+    B         LIM       999999999E18
+RANGES
+    R         LIM       .1E-18
+ENDATA
+";
+
 /// A store's flour and sugar, within its space and its money.
 pub const STORE: &[u8] = b"NAME          STORE
 ROWS
@@ -402,21 +417,6 @@ COLUMNS
     SUGAR     MONEY     2.5
 RHS
     WEEK      SPACE     40             MONEY     100
-ENDATA
-";
-
-/// The same for the right-hand side B, and not for A.
-pub const FAR_RANGE_OF_B: &[u8] = b"NAME          T
-ROWS
- N  COST
- L  LIM
-COLUMNS
-    X         LIM       1
-RHS
-    A         LIM       4
-    B         LIM       999999999E18
-RANGES
-    R         LIM       .1E-18
 ENDATA
 ";
 

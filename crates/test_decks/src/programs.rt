@@ -148,7 +148,7 @@ pub const PARARHS_TO_5: &[u8] = b"         PROGRAM
          PEND
 ";
 
-/// Solves a random plan with the set B of bounds, after XPARMAX is moved to 1.
+/// Solves a random plan with the set B of bounds, after 1 is moved to XPARMAX.
 pub const SOLVE_WIDE_TO_1: &[u8] = b"         PROGRAM
          CONVERT
          MOVE(XPARMAX,1)
