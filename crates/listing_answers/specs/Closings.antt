@@ -42,7 +42,7 @@ module _ (of : List ℕ → Option ℚ) where
         value_line_in (codes " INFEASIBLE PAST ")
         (λ t after. option_map (λ got. (InfeasiblePast t got.0, got.1)) (ray_in of sheet (variables sheet.lp.matrix) after))
 
-    -- a run of the objective may go past its end unbounded, and one of the right-hand side infeasible
+    -- a run of the objective may go past its end unbounded, and one of the right-hand side infeasible; PRIMAL and DUAL have no run
     abbrev pub past_in : Solver → List ℕ → Parsed ChainEnd
     past_in Paraobj left = unbounded_in left
     past_in Pararhs left = infeasible_in left

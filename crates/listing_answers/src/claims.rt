@@ -189,7 +189,11 @@ impl Reader<'_> {
     }
 
     // The verdict of a solving verb.
-    fn statement<'a, T: Checks>(&self, cursor: &mut Cursor<'a>, solver: Solver) -> Read<Stated<'a>>
+    fn read_verdict<'a, T: Checks>(
+        &self,
+        cursor: &mut Cursor<'a>,
+        solver: Solver,
+    ) -> Read<Stated<'a>>
         requires { IsSheet self.now.sheet }
         ensures { IsRead IsStated (λ of sheet. verdict_in of sheet solver) T.checker
             self.now cursor.old cursor.new result }
@@ -215,7 +219,7 @@ pub fn verdict<'a, T: Checks>(
     let mut start = cursor.again();
     let by = By::Value;
     let reader = Reader { alloc, by, sheet };
-    if let Some(stated) = reader.statement::<T>(cursor, solver)? {
+    if let Some(stated) = reader.read_verdict::<T>(cursor, solver)? {
         return Ok(stated);
     }
     if !T::has_limit() {
@@ -223,7 +227,7 @@ pub fn verdict<'a, T: Checks>(
     }
     let by = By::Form;
     let reader = Reader { alloc, by, sheet };
-    let form = reader.statement::<T>(&mut start, solver)?;
+    let form = reader.read_verdict::<T>(&mut start, solver)?;
     Err(stop_unread(form.is_some()))
 }
 
