@@ -1,7 +1,7 @@
 // Words, and devices that fail.
 
 use crate::full::Full;
-use crate::listings::{Answer, answer_from, joined};
+use crate::listings::{Answer, answer_from};
 use crate::plans::STORE;
 use checks_of_128_bits::Of128Bits;
 use job_devices::{MemorySink, MemorySource};
@@ -23,7 +23,7 @@ fn in_pieces(
     failing_writes: &[u64],
 ) -> Result<Answer, Fail> {
     let plan = &STORE;
-    let (job, listing) = (joined(alloc, plan.job)?, joined(alloc, plan.text)?);
+    let (job, listing) = (plan.job.concat(alloc)?, plan.text.concat(alloc)?);
     answer_from::<Of128Bits>(
         alloc,
         MemorySource::in_pieces(alloc, &job, failing_job, 100)?,

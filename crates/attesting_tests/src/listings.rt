@@ -53,15 +53,6 @@ impl Answer {
     }
 }
 
-/// The parts of a text, one after another.
-pub fn joined(alloc: Global, parts: &[&[u8]]) -> Result<Vec<u8>, Fail> {
-    let mut text = Vec::new(alloc);
-    for part in parts {
-        text.extend_from_slice(part)?;
-    }
-    Ok(text)
-}
-
 // Where a text stands first.
 fn place_of(text: &[u8], part: &[u8]) -> Option<usize>
     ensures { IfSome result (λ place. place ≤ length text.now) }
@@ -100,13 +91,7 @@ pub fn edited(alloc: Global, text: &[u8], edit: Edit) -> Result<Option<Vec<u8>>,
         Edit::Text(old, new) => replaced(alloc, text, old, new, true),
         Edit::From(old, new) => replaced(alloc, text, old, new, false),
         Edit::Parts(old, new) => {
-            replaced(
-                alloc,
-                text,
-                &joined(alloc, old)?,
-                &joined(alloc, new)?,
-                true,
-            )
+            replaced(alloc, text, &old.concat(alloc)?, &new.concat(alloc)?, true)
         }
     }
 }
@@ -129,7 +114,7 @@ pub fn answer_to<T: Checks>(
     parts: &[&[u8]],
     listing: &[u8],
 ) -> Result<Answer, Fail> {
-    let job = joined(alloc, parts)?;
+    let job = parts.concat(alloc)?;
     answer_from::<T>(
         alloc,
         MemorySource::new(alloc, &job, &[])?,
@@ -144,7 +129,7 @@ pub fn first_other<T: Checks>(
     alloc: Global,
     listing: &Listing,
 ) -> Result<Option<&'static str>, Fail> {
-    let text = joined(alloc, listing.text)?;
+    let text = listing.text.concat(alloc)?;
     if !answer_to::<T>(alloc, listing.job, &text)?.is(listing.status, listing.line) {
         return Ok(Some("as it is"));
     }

@@ -1,7 +1,7 @@
 // What the checker of any length finds.
 use crate::jobs::Row;
 use crate::last_values::{FURTHER_RUNS, LAST_VALUES};
-use crate::listings::{Edit, Listing, answer_to, edited, first_wrong, joined};
+use crate::listings::{Edit, Listing, answer_to, edited, first_wrong};
 use crate::long_plans::{CHAIN, CHAIN_OBJECTIVE, CHAIN_RHS, LONG_DIRECTION, LONG_RAY};
 use crate::parametric_runs::{
     INFEASIBLE_PAST, LAMPS, MILK, RHS_INTERVALS, RHS_POINT, TWO_INTERVALS, UNBOUNDED_OPENING,
@@ -98,7 +98,7 @@ fn no_test_is_refused(rt: HostRuntime) -> Result<(), Fail> {
         (&FAR_POINT, 0, b"ATTESTED 3 REPORTS\n"),
     ];
     for (listing, status, line) in cases {
-        let text = joined(rt.alloc(), listing.text)?;
+        let text = listing.text.concat(rt.alloc())?;
         let answer = answer_to::<OfAnyLength>(rt.alloc(), listing.job, &text)?;
         assert!(rt; answer.is(status, line), "{}", listing.name);
     }
@@ -111,7 +111,7 @@ fn long_last_values_are_left(rt: HostRuntime) -> Result<(), Fail> {
     let tables: [&[Row]; 2] = [&LAST_VALUES, &FURTHER_RUNS];
     for rows in tables {
         for row in rows {
-            let listing = joined(rt.alloc(), row.listing)?;
+            let listing = row.listing.concat(rt.alloc())?;
             let answer = answer_to::<OfAnyLength>(rt.alloc(), row.job, &listing)?;
             assert!(rt; answer.is(row.status, row.line), "{}", row.name);
         }
@@ -125,7 +125,7 @@ fn an_unchecked_verdict_is_tested(rt: HostRuntime) -> Result<(), Fail> {
     let (alloc, store) = (rt.alloc(), &STORE);
     let text = edited(
         alloc,
-        &joined(alloc, store.text)?,
+        &store.text.concat(alloc)?,
         Edit::Text(b"CHECKED", b"UNCHECKED MUL 2 3"),
     )?;
     let text = text.unwrap_or(Vec::new(alloc));

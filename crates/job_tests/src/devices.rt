@@ -1,7 +1,7 @@
 // Devices that fail.
 ghost use Rattle.std.specs.Prelude.{◌<◌};
 
-use crate::jobs::{Answer, Call, answer_from, answer_to, joined};
+use crate::jobs::{Answer, Call, answer_from, answer_to};
 use crate::plans::PLANS;
 use crate::punched::DECKS;
 use crate::rows::Row;
@@ -21,7 +21,7 @@ fn a_read_that_fails_ends_a_job(rt: HostRuntime) -> Result<(), Fail> {
         (&[2], &[1], 25, b""),
         (&[1], &[1], 25, b""),
     ];
-    let job = joined(rt.alloc(), PLANS[0].job)?;
+    let job = PLANS[0].job.concat(rt.alloc())?;
     for (failing_reads, failing_writes, status, listing) in cases {
         let call = Call {
             words: &[],
@@ -39,7 +39,7 @@ fn a_read_that_fails_ends_a_job(rt: HostRuntime) -> Result<(), Fail> {
 fn in_pieces(alloc: Global, row: &Row, piece: usize, failing: &[u64]) -> Result<Answer, Fail>
     requires { 0 < piece }
 {
-    let job = joined(alloc, row.job)?;
+    let job = row.job.concat(alloc)?;
     let source = MemorySource::in_pieces(alloc, &job, failing, piece)?;
     answer_from(alloc, &[], source, &[], &[])
 }
@@ -65,7 +65,7 @@ fn reads_made(alloc: Global, row: &Row, piece: usize) -> Result<Option<u64>, Fai
 #[test]
 fn each_read_of_a_job_may_fail(rt: HostRuntime) -> Result<(), Fail> {
     let plan = &PLANS[0];
-    assert_eq!(rt; joined(rt.alloc(), plan.job)?.len(), 607);
+    assert_eq!(rt; plan.job.concat(rt.alloc())?.len(), 607);
     assert_eq!(rt; reads_made(rt.alloc(), plan, 1)?, Some(608));
     assert_eq!(rt; reads_made(rt.alloc(), plan, 7)?, Some(88));
     assert_eq!(rt; reads_made(rt.alloc(), plan, 100)?, Some(8));
@@ -79,7 +79,7 @@ fn where_writes_fail(
     failing_writes: &[u64],
     failing_punches: &[u64],
 ) -> Result<Answer, Fail> {
-    let job = joined(alloc, parts)?;
+    let job = parts.concat(alloc)?;
     let source = MemorySource::new(alloc, &job, &[])?;
     answer_from(alloc, &[], source, failing_writes, failing_punches)
 }

@@ -1,5 +1,4 @@
 // The machine over more than one engine: the listing and the status of a job do not depend on what keeps the rates.
-use crate::jobs::joined;
 use crate::no_memory::Starved;
 use crate::parametric_runs::PARAMETRIC;
 use crate::plans::PLANS;
@@ -24,7 +23,7 @@ struct Run {
 
 // Runs the program of the job of these parts, with the rates of an engine.
 fn run_of<E: Engine>(alloc: Global, parts: &[&[u8]]) -> Result<Run, Fail> {
-    let job = joined(alloc, parts)?;
+    let job = parts.concat(alloc)?;
     let mut source = MemorySource::new(alloc, &job, &[])?;
     let cards = read_job(alloc, &mut source)?;
     let program = compile(alloc, &cards)?;

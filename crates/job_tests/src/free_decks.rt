@@ -1,5 +1,5 @@
 // Free decks: decks whose cards between others are changed, as CONVERT reads them and BCDOUT writes them out.
-use crate::jobs::{answer_of, joined};
+use crate::jobs::answer_of;
 use crate::sections::{COLUMNS, NAME_ONE, RHS, ROWS};
 use std::alloc::Global;
 use std::test::Fail;
@@ -27,9 +27,9 @@ pub struct Around {
 
 // The job of a case.
 fn job_of(alloc: Global, around: &Around, cards: &str) -> Result<Vec<u8>, Fail> {
-    let mut job = joined(alloc, around.before)?;
+    let mut job = around.before.concat(alloc)?;
     job.extend_from_slice(cards.as_bytes())?;
-    job.extend_from_slice(&joined(alloc, around.after)?)?;
+    job.extend_from_slice(&around.after.concat(alloc)?)?;
     Ok(job)
 }
 
@@ -65,7 +65,7 @@ pub fn first_misread(
     for case in cases {
         let answer = answer_of(alloc, &job_of(alloc, around, case.cards)?)?;
         let listing = listing_of(alloc, around, case.lines, b"END 0\n")?;
-        if !answer.is_punched(0, &listing, &joined(alloc, case.deck)?) {
+        if !answer.is_punched(0, &listing, &case.deck.concat(alloc)?) {
             return Ok(Some(case.cards));
         }
     }

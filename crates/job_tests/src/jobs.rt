@@ -78,17 +78,8 @@ pub fn answer_of(alloc: Global, job: &[u8]) -> Result<Answer, Fail> {
     )
 }
 
-/// The parts of a text, one after another.
-pub fn joined(alloc: Global, parts: &[&[u8]]) -> Result<Vec<u8>, Fail> {
-    let mut text = Vec::new(alloc);
-    for part in parts {
-        text.extend_from_slice(part)?;
-    }
-    Ok(text)
-}
-
 /// Runs the job of these parts, without words and over devices that don't fail.
 pub fn answer_of_parts(alloc: Global, parts: &[&[u8]]) -> Result<Answer, Fail> {
-    let job = joined(alloc, parts)?;
+    let job = parts.concat(alloc)?;
     answer_of(alloc, &job)
 }
