@@ -9,7 +9,8 @@ use Rattle.card_definitions.specs.Numbers.{number_of, number_fault, value_of}
 use Rattle.control_definitions.specs.declared.ControlFault.{ControlFault}
 use Rattle.control_definitions.specs.declared.NameCell.TheVariants.{Xdata, Xpbname, Xobj, Xrhs, Xoldname, Xchrow, Xchcol}
 use Rattle.control_definitions.specs.declared.Demand.TheVariants.{Xdonfs, Xdounb}
-use Rattle.control_definitions.specs.Program.{Verb, Initialz, Title, MoveName, MoveNumber, MoveLimit, Mvadr, Goto, Convert, Setup, Primal, Revise, Ranging, Paraobj, Pararhs, Solution, Bcdout, Exit, Program}
+use Rattle.control_definitions.specs.Program.{Verb, Initialz, Title, MoveName, MoveNumber, MoveLimit, Mvadr, Goto, Convert, Setup, Primal, Revise, Ranging}
+use Rattle.control_definitions.specs.Program.{Paraobj, Pararhs, Solution, Bcdout, Exit, Program}
 use Rattle.control_definitions.specs.Statements.{label_of, statement_of}
 use Rattle.control_definitions.specs.Verbs.{verb_of}
 use Rattle.control_definitions.specs.Compiled.{control_fault, control_card_fault, compiled}
@@ -38,7 +39,8 @@ unfolding program compiled control_fault control_card_fault verb_of label_of sta
 first_run = refl
 
 -- a label on PROGRAM stands for the first statement, and one on PEND for the end
-labels_at_the_ends : program "\nSTART    PROGRAM('A, B')\nLOOP     MVADR(XDONFS,END)\n         MVADR(XDOUNB,LOOP)\n         GOTO(START)\nEND      PEND\nNAME          A\n" ≡ Ok (record {
+labels_at_the_ends : program
+    "\nSTART    PROGRAM('A, B')\nLOOP     MVADR(XDONFS,END)\n         MVADR(XDOUNB,LOOP)\n         GOTO(START)\nEND      PEND\nNAME          A\n" ≡ Ok (record {
   statements =
       record { card = 3; verb = Mvadr Xdonfs 4 } ∷
       record { card = 4; verb = Mvadr Xdounb 1 } ∷
