@@ -169,7 +169,7 @@ pararhs_point_interval : chain_text
     } ∷ [])
     (AtMax)
     ≡ codes
-        "PARARHS FROM 0 CHANGE C\nINTERVAL 1 FROM 0 TO 0\n    1 COST     BS 1 1 0 0\n    2 LOW      LL 1 1 1 0\n    3 X        BS 1 1 0 0\nPARARHS ENDS AT 0\n"
+    "PARARHS FROM 0 CHANGE C\nINTERVAL 1 FROM 0 TO 0\n    1 COST     BS 1 1 0 0\n    2 LOW      LL 1 1 1 0\n    3 X        BS 1 1 0 0\nPARARHS ENDS AT 0\n"
 unfolding ends range_text chain_text sheet_of card_fault deck_fault conversion described numbered number_of number_fault value_of reading_of cards_of
     tableau_for table_for fraction whole ◌+ℚ◌ ◌*ℚ◌ neg_ℚ inverse_ℚ reciprocal compare_ℚ sum_to gcd digits
 pararhs_point_interval = refl

@@ -109,8 +109,8 @@ negative_range_on_equality = refl
 
 maximise : printed true
     (sheet_of
-        "NAME          T\nROWS\n N  COST\n L  LIM\nCOLUMNS\n    X         COST      3\n    X         LIM       1\nRHS\n    B         LIM       4\nENDATA\n"
-        (record { objective = None; rhs = None; options = record { bound = None; range = None; sense = Max } }))
+    "NAME          T\nROWS\n N  COST\n L  LIM\nCOLUMNS\n    X         COST      3\n    X         LIM       1\nRHS\n    B         LIM       4\nENDATA\n"
+    (record { objective = None; rhs = None; options = record { bound = None; range = None; sense = Max } }))
     ≡ Some (codes "PRIMAL OPTIMAL STEPS 1 OBJECTIVE 12 CHECKED\nSOLUTION OPTIMAL\nSECTION 1 - ROWS\nNUMBER ROW AT ACTIVITY SLACK LOWER UPPER DUAL\n    1 COST     BS 12 -12 NONE NONE 0\n    2 LIM      UL 4 0 NONE 4 3\nSECTION 2 - COLUMNS\nNUMBER COLUMN AT ACTIVITY COST LOWER UPPER REDUCED\n    3 X        BS 4 3 0 NONE 0\n")
 unfolding printed sheet_of card_fault deck_fault conversion described numbered number_of number_fault value_of reading_of cards_of solved tableau_for
     table_for turn refuses shared_factor raised_numerator raised_sum sum_denominator fraction whole ◌+ℚ◌ ◌*ℚ◌ neg_ℚ inverse_ℚ reciprocal compare_ℚ sum_to gcd

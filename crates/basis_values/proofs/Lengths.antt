@@ -161,7 +161,7 @@ whole_less_made limit value n d top scaled left one some is n_fits d_fits top_fi
     let opposite_fits : Fits (pos 0 -ℤ n) = omega (arith, ints, small) in
     let scaled_is : read scaled ≡ limit.numerator *ℤ d =
     ap read scaled_made.1 ∙ read_fitting (read top *ℤ read d) scaled_made.0 ∙ ap₂ (λ x y. x *ℤ y) (read_fitting top top_fits ∙ top_is)
-        (read_fitting d d_fits) in
+    (read_fitting d d_fits) in
     let turned : read (pos 0 -ℤ read n) ≡ neg_ℤ n =
     ap (λ m. read (pos 0 -ℤ m)) (read_fitting n n_fits) ∙ read_fitting (pos 0 -ℤ n) opposite_fits ∙ zero-minus n in
     let left_is : read left ≡ limit.numerator *ℤ d +ℤ neg_ℤ n =

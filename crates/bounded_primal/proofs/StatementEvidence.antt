@@ -187,7 +187,7 @@ module _ (statement : SolvingStatement) (a : Matrix) (s : List Status) (e : Evid
             are_way_rates = h.are_way_rates;
             formula =
                 formula_goes statement (λ to. ⊥) (GoesTo statement breakpoint s e) s e (λ to none number. absurd none) h.tableau (basics_of s) h.way_rate
-                    h.formula;
+                h.formula;
             is_way = (h.is_way.0, in_last (program_at statement e.theta).matrix (basics_of s) h.is_way.1 earlier);
             reaches =
                 λ names. let there = h.reaches names in (there.0, in_last (program_at statement e.theta).matrix (exchanged (basics_of s) e.p e.q) there.1 earlier);

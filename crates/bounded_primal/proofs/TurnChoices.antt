@@ -44,9 +44,17 @@ pub crossed_ends : (p : LinearProgram) (s : List Status) (k steps : ℕ) → IsB
     EndsHere p s steps (Crossed k)
 unfolding turn
 crossed_ends p s k steps basis nonsingular found =
-    record { ending = EndsCrossed k; ends = record { tableau = tableau_of p s basis nonsingular rates.0; is_tableau = IsTableau-of p s basis nonsingular
-        rates.0 rates.1; turns = ap (λ (o : Option ℕ). turn_for p s (tableau_of p s basis nonsingular rates.0) o
-        (outside p s (tableau_of p s basis nonsingular rates.0))) (sym found) }; is_outcome = refl }
+    record {
+      ending = EndsCrossed k;
+      ends = record {
+        tableau = tableau_of p s basis nonsingular rates.0;
+        is_tableau = IsTableau-of p s basis nonsingular
+            rates.0 rates.1;
+        turns = ap (λ (o : Option ℕ). turn_for p s (tableau_of p s basis nonsingular rates.0) o
+            (outside p s (tableau_of p s basis nonsingular rates.0))) (sym found);
+      };
+      is_outcome = refl;
+    }
   where
     rates : (rate : ℕ → ℕ → ℚ) × AreRates p.matrix (basics_of s) rate
     rates = rates_exist p.matrix (basics_of s) nonsingular

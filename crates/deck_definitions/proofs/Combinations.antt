@@ -31,7 +31,7 @@ part row value = record { row = codes row; value = decimal_of (codes value) }
 parts_in_order :
     (described []
     (of_deck ("NAME" ∷ "ROWS" ∷ " N  COST" ∷ " L  A" ∷ " DL S         A         1              COST      -1" ∷ " DE U" ∷ " DN V         S         2"
-        ∷ " DN V                                  A         3" ∷ []))).rows
+    ∷ " DN V                                  A         3" ∷ []))).rows
     ≡ plain_row N (codes "COST") ∷ plain_row L (codes "A") ∷ combination L (codes "S") (part "A" "1" ∷ part "COST" "-1" ∷ []) ∷ combination E
     (codes "U") [] ∷ combination N (codes "V") (part "S" "2" ∷ part "A" "3" ∷ []) ∷ []
 unfolding described reading_of
@@ -119,7 +119,7 @@ combination_first = refl
 by_number : option_map (λ (problem : Problem ℕ). map (λ row. option_map (map (λ part. part.row)) row.parts) problem.rows)
     (result_ok (conversion
     (of_deck ("NAME" ∷ "ROWS" ∷ " N  COST" ∷ " G  A" ∷ " DL S         A         .5" ∷ " DG U         S         4              A         -1" ∷ "COLUMNS"
-        ∷ "ENDATA" ∷ [])) None))
+    ∷ "ENDATA" ∷ [])) None))
     ≡ Some (None ∷ None ∷ Some (2 ∷ []) ∷ Some (3 ∷ 2 ∷ []) ∷ [])
 unfolding conversion numbered deck_fault card_fault described reading_of number_fault
 by_number = refl

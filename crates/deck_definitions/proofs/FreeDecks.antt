@@ -22,11 +22,11 @@ found card kind = Some (record { card = card; kind = kind })
 -- a free deck and a fixed one that say the same
 free_deck : conversion
     (of_deck ("NAME          ONE       FREE" ∷ "ROWS" ∷ " N COST" ∷ " G LOW" ∷ "COLUMNS" ∷ " X COST 1 LOW 1" ∷ "RHS" ∷ " LOW 1" ∷ "RANGES" ∷ " R LOW 2"
-        ∷ "BOUNDS" ∷ " UP X 4" ∷ " FR B X" ∷ "ENDATA" ∷ [])) None
+    ∷ "BOUNDS" ∷ " UP X 4" ∷ " FR B X" ∷ "ENDATA" ∷ [])) None
     ≡ conversion
     (of_deck ("NAME          ONE" ∷ "ROWS" ∷ " N  COST" ∷ " G  LOW" ∷ "COLUMNS" ∷ "    X         COST      1              LOW       1" ∷ "RHS"
-        ∷ "              LOW       1" ∷ "RANGES" ∷ "    R         LOW       2" ∷ "BOUNDS" ∷ " UP           X         4" ∷ " FR B         X" ∷ "ENDATA" ∷ []))
-        None
+    ∷ "              LOW       1" ∷ "RANGES" ∷ "    R         LOW       2" ∷ "BOUNDS" ∷ " UP           X         4" ∷ " FR B         X" ∷ "ENDATA" ∷ []))
+    None
 unfolding conversion numbered deck_fault card_fault described reading_of words number_fault
 free_deck = refl
 
@@ -74,10 +74,10 @@ row_again = refl
 -- two parts on a card, and the same combination on two cards of a fixed deck
 free_combination : conversion
     (of_deck ("NAME          ONE       FREE" ∷ "ROWS" ∷ " N COST" ∷ " G LOW" ∷ " DL S COST 1 LOW -2" ∷ "COLUMNS" ∷ " X COST 1 LOW 1" ∷ "RHS" ∷ " S 4"
-        ∷ "ENDATA" ∷ [])) None
+    ∷ "ENDATA" ∷ [])) None
     ≡ conversion
     (of_deck ("NAME          ONE" ∷ "ROWS" ∷ " N  COST" ∷ " G  LOW" ∷ " DL S         COST      1" ∷ " DL S         LOW       -2" ∷ "COLUMNS"
-        ∷ "    X         COST      1              LOW       1" ∷ "RHS" ∷ "              S         4" ∷ "ENDATA" ∷ [])) None
+    ∷ "    X         COST      1              LOW       1" ∷ "RHS" ∷ "              S         4" ∷ "ENDATA" ∷ [])) None
 unfolding conversion numbered deck_fault card_fault described reading_of words number_fault
 free_combination = refl
 

@@ -177,7 +177,7 @@ pub ranged_once : (sheet : Sheet) (s : Basis) (a b : RangeLines) → IsLinearPro
 ranged_once sheet s a b lawful no_change optimal first second =
     let points =
     one_point sheet.lp s first.tableau.point second.tableau.point optimal.is_basis.counted optimal.nonsingular first.is_tableau.is_point
-        second.is_tableau.is_point in
+    second.is_tableau.is_point in
     let present : IsPresent sheet.lp s first.tableau = record { lawful = lawful; no_change = no_change; optimal = optimal; is_tableau = first.is_tableau } in
     let reports = report_same sheet.lp s first.tableau present first.report second.report first.is_report second.is_report in
     first.are_lines ∙ ranges_same sheet s first.tableau second.tableau points first.report ∙ ap (λ r. range_lines sheet s second.tableau r) reports

@@ -169,7 +169,7 @@ module _ (S : Solving) (solving : KnowsSolving S) (answers : AnswersOnce S) (byt
       as_many e =
           let same =
           same_so_far S solving answers bytes program is_program first.before second.before first.before_cards second.before_cards first.state second.state
-              first.came second.came e in
+          first.came second.came e in
           let moved : Last S program first.state second.gain other = subst (λ x. Last S program x second.gain other) (sym same.states_same) second.last in
           let ends = one_last first.before first.before_cards first.state first.gain second.gain ending other first.came none nor first.last moved in
           record {
@@ -182,12 +182,12 @@ module _ (S : Solving) (solving : KnowsSolving S) (answers : AnswersOnce S) (byt
       not_fewer (inl e) = as_many (sym e)
       not_fewer (inr fewer) = absurd (last_or_more second.before second.before_cards second.state second.gain other second.came nor second.last
           (goes_on S solving answers bytes program is_program second.before first.before second.before_cards first.before_cards second.state first.state
-              second.came first.came fewer))
+          second.came first.came fewer))
 
       by : (m < n) ⊎ (n ≤ m) → AreSame reports others cards other_cards ending other
       by (inl fewer) = absurd (last_or_more first.before first.before_cards first.state first.gain ending first.came none first.last
           (goes_on S solving answers bytes program is_program first.before second.before first.before_cards second.before_cards first.state second.state
-              first.came second.came fewer))
+          first.came second.came fewer))
       by (inr more) = not_fewer (eq-or-lt_of_le {n = n} {m = m} more)
 
   -- a statement that stops with an overflow, where it may go on or end otherwise, reports nothing
@@ -250,21 +250,21 @@ module _ (S : Solving) (solving : KnowsSolving S) (answers : AnswersOnce S) (byt
       silent (inl e) =
           let same =
           same_so_far S solving answers bytes program is_program first.before second.before first.before_cards second.before_cards first.state second.state
-              first.came second.came e in
+          first.came second.came e in
           let moved : Last S program first.state second.gain other = subst (λ x. Last S program x second.gain other) (sym same.states_same) second.last in
           stops_where_it_ends first.before first.before_cards first.state first.gain second.gain ending other first.came nor stop first.last moved
       silent (inr fewer) =
           stops_where_it_goes first.before first.before_cards first.state first.gain ending first.came stop first.last
           (goes_on S solving answers bytes program is_program first.before second.before first.before_cards second.before_cards first.state second.state
-              first.came second.came fewer)
+          first.came second.came fewer)
 
       by : (n < m) ⊎ (m ≤ n) → Continues reports others cards other_cards
       by (inl more) = absurd (last_or_more second.before second.before_cards second.state second.gain other second.came nor second.last
           (goes_on S solving answers bytes program is_program second.before first.before second.before_cards first.before_cards second.state first.state
-              second.came first.came more))
+          second.came first.came more))
       by (inr fewer) = stopped_early reports others cards other_cards ending other first second (silent (eq-or-lt_of_le {n = m} {m = n} fewer))
           (continues S solving answers bytes program is_program first.before second.before first.before_cards second.before_cards first.state second.state
-              first.came second.came fewer)
+          first.came second.came fewer)
 
   two_so_far : (reports others : List Report) (cards other_cards : List (List ℕ)) (state other : State) → RunHasReached reports cards state →
       RunHasReached others other_cards other →
@@ -346,7 +346,7 @@ pub is_function : (S : Solving) → KnowsSolving S → AnswersOnce S → IsFunct
 is_function S solving answers = record {
   step =
       λ bytes program reports cards state a b so_far first second. two_outcomes S solving answers bytes program so_far.is_program reports cards state a b
-          so_far.reaches first second;
+      so_far.reaches first second;
   so_far = λ bytes program reports others cards other_cards state other first second.
       two_so_far S solving answers bytes program first.is_program reports others cards other_cards state other first.reaches second.reaches;
   job = λ bytes. two_job_runs S solving answers bytes;
@@ -354,7 +354,7 @@ is_function S solving answers = record {
   unstopped = λ bytes. unstopped S solving answers bytes;
   one_run =
       λ bytes reports others cards other_cards ending other none first second. two_job_runs S solving answers bytes reports others cards other_cards ending
-          other first second
+      other first second
       (unstopped S solving answers bytes reports cards ending none first) (unstopped S solving answers bytes others other_cards other none second);
 }
 

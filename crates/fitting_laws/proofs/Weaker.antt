@@ -32,8 +32,13 @@ module _ (S T : Solving)
   module _ (program : Program) where
     pub step : (s : State) (outcome : StatementOutcome) → Step S program s outcome → Step T program s outcome
     step s outcome does =
-        record { statement = does.statement; is_at_position = does.is_at_position; is_within_limit = does.is_within_limit; gives = gives does.statement.card _
-            outcome does.gives }
+        record {
+          statement = does.statement;
+          is_at_position = does.is_at_position;
+          is_within_limit = does.is_within_limit;
+          gives = gives does.statement.card _
+              outcome does.gives;
+        }
 
     pub over : (s : State) (ending : Ending) → IsOver S program s ending → IsOver T program s ending
     over s _ (at_end past) = at_end past

@@ -100,7 +100,7 @@ verdict_text solver verdict check =
 abbrev pub filed_text : List ℕ → Filed → List ℕ
 filed_text verb filed =
     concat (verb ∷ codes " " ∷ name8 filed.name ∷ codes " ROWS " ∷ digits filed.rows ∷ codes " COLUMNS " ∷ digits filed.columns ∷ codes " ENTRIES "
-        ∷ digits filed.entries ∷ codes "\n" ∷ [])
+    ∷ digits filed.entries ∷ codes "\n" ∷ [])
 
 abbrev pub sense_text : Sense → List ℕ
 sense_text Min = codes "MIN"
@@ -129,7 +129,7 @@ ranges_text lines =
 abbrev pub interval_text : ℕ × ParametricInterval → List ℕ
 interval_text entry =
     concat (codes "INTERVAL " ∷ digits entry.0 ∷ codes " FROM " ∷ rational_text entry.1.from ∷ codes " TO " ∷ rational_text entry.1.to ∷ codes "\n"
-        ∷ table_text entry.1.lines ∷ [])
+    ∷ table_text entry.1.lines ∷ [])
 
 abbrev pub chain_end_text : Solver → ChainEnd → List ℕ
 chain_end_text solver (EndsAt value) = concat (solver_text solver ∷ codes " ENDS AT " ∷ rational_text value ∷ codes "\n" ∷ [])

@@ -63,7 +63,7 @@ module _ (of : List ℕ → Option ℚ) (slots : List declared.Slot) (old : List
           keeps = λ more.
               let joined : (values ++ value ∷ []) ++ more ≡ values ++ value ∷ more = append_assoc values (value ∷ []) more in
               let read : slice_get (values ++ value ∷ more) i ≡ Some value = ap (slice_get (values ++ value ∷ more)) (sym so_far.counted)
-                      ∙ at_end values more value in
+              ∙ at_end values more value in
               ap (numbers_in slots) joined ∙ so_far.keeps (value ∷ more)
               ∙ ap (λ ss. kept_from ss i (values ++ value ∷ more) numbers) opened
               ∙ ap (λ o. kept_from rest (i + 1) (values ++ value ∷ more) (kept slot (number_of o) numbers)) read

@@ -101,7 +101,7 @@ module _ (verb : ParametricVerb) (card : ℕ) (state : State) (present : Present
       tested_move lp ≡ run_move lp parametric_run
   asked_move lp parametric_run a =
       let same : record { changing = parametric_run.changing; from = state.cells.xparam; to = parametric_run.to; limit = steps_allowed state.cells }
-              ≡ parametric_run =
+      ≡ parametric_run =
       λ i. record { changing = parametric_run.changing; from = sym a.is_first i; to = parametric_run.to; limit = sym a.is_limit i } in
       found_move card (change_fault verb) (option_and_then (change_of verb present.problem) (name_moved verb state.cells))
       (with_change lp) parametric_run.changing a.changes ∙

@@ -40,8 +40,16 @@ module _ (problem : Problem ℕ) (objective : ℕ) (rhs ranges : List (Entry ℕ
   -- the program of these lists
   abbrev pub made : ℕ → ℕ → List (List Coefficient) → List (Option ℚ) → List (Option ℚ) → List ℚ → LinearProgram
   made rows cols columns lower upper sides =
-      record { matrix = record { rows = rows; cols = cols; columns = columns }; lower = lower; upper = upper; rhs = sides; objective = objective; change =
-          None; sense = sense }
+      record {
+        matrix = record { rows = rows; cols = cols; columns = columns };
+        lower = lower;
+        upper = upper;
+        rhs = sides;
+        objective = objective;
+        change =
+            None;
+        sense = sense;
+      }
 
   -- it is the program of the problem, where the lists are made of what is read of it
   pub program_made : (read_rows : List (Row ℕ)) (read_columns : List (Group (Entry ℕ))) (rows cols : ℕ) (columns : List (List Coefficient))

@@ -121,8 +121,15 @@ module _ (sheet : Sheet) (s : Basis) (lawful : IsLinearProgram sheet.lp) (at : I
         by (inl way) =
             let check = dual_checked right way.bases way.ending way.ends in (
               Reached way.bases (verdict_at sheet (length way.bases) way.ending) check.0,
-              (right, record { ending = way.ending; ends = way.ends; within_limit = way.within; is_verdict = record { is_verdict = refl; is_check = check.1 }
-                  }),
+              (
+                right,
+                record {
+                  ending = way.ending;
+                  ends = way.ends;
+                  within_limit = way.within;
+                  is_verdict = record { is_verdict = refl; is_check = check.1 };
+                },
+              ),
             )
         by (inr on) = (PathLimit, (right, on))
 
@@ -154,9 +161,16 @@ pub ranges : HasAnswer linear_programming OfRanges
 unfolding linear_programming
 ranges sheet s asked =
     let report = ranges_exist sheet.lp s (lawful_of OfRanges sheet s asked) (unchanged OfRanges sheet s asked) asked.suits in
-    let has = tableau_of sheet.lp s asked.is_basis in
-    (range_lines sheet s has.tableau report.0, record { tableau = has.tableau; is_tableau = has.is_tableau; report = report.0; is_report = report.1;
-        are_lines = refl })
+    let has = tableau_of sheet.lp s asked.is_basis in (
+      range_lines sheet s has.tableau report.0,
+      record {
+        tableau = has.tableau;
+        is_tableau = has.is_tableau;
+        report = report.0;
+        is_report = report.1;
+        are_lines = refl;
+      },
+    )
 
 pub punches : HasAnswer linear_programming OfPunch
 unfolding linear_programming

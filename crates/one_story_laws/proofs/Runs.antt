@@ -410,7 +410,7 @@ module _ (C : Checker) (S : Solving) (Speaks : State → Report → Type 0) (Ope
       as_many e =
           two_lasts (made_so_far S program decks first.came) first.before second.before first.state second.state
           (same_so_far first.before second.before first.cards second.cards first.state second.state first.came second.came first.holds second.holds e)
-              first.gain second.gain ending other none first.last
+          first.gain second.gain ending other none first.last
           second.last
 
       not_fewer : (n ≡ m) ⊎ (n < m) → EndsSame
@@ -418,7 +418,7 @@ module _ (C : Checker) (S : Solving) (Speaks : State → Report → Type 0) (Ope
       not_fewer (inr fewer) =
           absurd (goes_late second.state second.gain other
           (behind first.before second.before first.cards second.cards first.state second.state first.came second.came first.holds second.holds fewer) none
-              second.last)
+          second.last)
 
       two_wholes : (m < n) ⊎ (n ≤ m) → EndsSame
       two_wholes (inl fewer) =
@@ -426,7 +426,7 @@ module _ (C : Checker) (S : Solving) (Speaks : State → Report → Type 0) (Ope
           (second.before ++ printed_by second.gain) ending
           (printed_by second.gain) (ends_early (made_so_far S program decks first.came) first.before second.before first.state first.gain ending
           (ahead first.before second.before first.cards second.cards first.state second.state first.came second.came first.holds second.holds fewer)
-              first.last) refl)
+          first.last) refl)
       two_wholes (inr more) = not_fewer (eq-or-lt_of_le {n = n} {m = m} more)
 
       pub two_runs : Story Open Same made reports others ending other

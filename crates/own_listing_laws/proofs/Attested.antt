@@ -147,7 +147,7 @@ module _ (program : Program) (small : AreSmall program) where
         let whole = ap is_open_stop pace.is_rest ∙ listing_closed (printed_by gain) ending closed in
         let all : ShowsAll waiting (printed_by gain ++ []) = subst (λ (rs : List Report). ShowsAll waiting rs) (sym (append-nil (printed_by gain))) shown in
         let to = turned w s is_known (Ends gain ending) (ending_text ending) [] here step made due whole closed (λ waits. never_waits waits) waiting all
-                pends in
+        pends in
         record {
           last = w;
           reaches = before;

@@ -322,4 +322,4 @@ module _ (C : Checker) (suits : SuitsRuns C) (w : Walker) (s : State) (opening :
           (ap is_open_stop (given.text ∙ given.ends)
           ∙ open_price _ small
           (wrong_variable sheet (present_basis present) few solver path limit j (knows_linear_programming.solves solver sheet (present_basis present) limit
-              (PricesWrong j) right))))
+          (PricesWrong j) right))))

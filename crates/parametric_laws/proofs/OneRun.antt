@@ -246,8 +246,13 @@ module _ (p : LinearProgram) (family : ℚ → LinearProgram) (Face : ℚ → Li
 pub objective_faces : (p : LinearProgram) (h : ℕ) → IsLinearProgram p → IsRow p.matrix h → HasNoLimits p h →
     HasOneFace p (objective_family p h) (IsObjectiveFace p h)
 objective_faces p h lawful row free =
-    record { keeps = objective_keeps p h; lawful = lawful_objective p h lawful row free; sized = λ theta. refl; one_face = one_objective_face p h lawful row
-        free }
+    record {
+      keeps = objective_keeps p h;
+      lawful = lawful_objective p h lawful row free;
+      sized = λ theta. refl;
+      one_face = one_objective_face p h lawful row
+          free;
+    }
 
 pub rhs_faces : (p : LinearProgram) (shift : List ℚ) → IsLinearProgram p → HasOneFace p (rhs_family p shift) (IsRhsFace p shift)
 rhs_faces p shift lawful =

@@ -106,8 +106,11 @@ module _ (far : Distances) (rate : ℚ) (apart : rate ≢ zero_ℚ) (i : ℕ) wh
       λ h. (second.exact x).1 ((first.exact x).1 (h.0, h.1.0), h.1.1),
     );
     made =
-        record { low = in_turn ends.low mid.low now.low first.made.low second.made.low; high = in_turn ends.high mid.high now.high first.made.high
-            second.made.high };
+        record {
+          low = in_turn ends.low mid.low now.low first.made.low second.made.low;
+          high = in_turn ends.high mid.high now.high first.made.high
+              second.made.high;
+        };
   }
 
   pub low_refused : (k : ℕ) (e : Evidence) → IsDistanceRefused far.low rate i k 1 e → IsBasicRefused far rate i k e

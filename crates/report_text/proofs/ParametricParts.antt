@@ -26,7 +26,7 @@ chain_parts by chain = simp (append_assoc, append-nil)
 
 pub interval_parts : (number : ℕ) (interval : ParametricInterval) →
     concat (codes "INTERVAL " ∷ digits number ∷ codes " FROM " ∷ rational_text interval.from ∷ codes " TO " ∷ rational_text interval.to ∷ codes "\n" ∷ [])
-        ++ table_text interval.lines ≡ interval_text (number, interval)
+    ++ table_text interval.lines ≡ interval_text (number, interval)
 interval_parts number interval = simp (append_assoc, append-nil)
 
 -- the line of an end, and the lines after it

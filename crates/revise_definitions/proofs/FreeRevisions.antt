@@ -39,15 +39,15 @@ rows_edited = refl
 
 columns_edited : free ("COLUMNS" ∷ " BEFORE Y" ∷ " Z COST 3 LIM 4" ∷ " MODIFY" ∷ " X COST 5" ∷ " DELETE" ∷ " X LIM" ∷ " Y" ∷ [])
     ≡ fixed ("COLUMNS" ∷ " BEFORE       Y" ∷ "    Z         COST      3              LIM       4" ∷ " MODIFY" ∷ "    X         COST      5" ∷ " DELETE"
-        ∷ "    X         LIM" ∷ "    Y" ∷ [])
+    ∷ "    X         LIM" ∷ "    Y" ∷ [])
 unfolding revised reading_of words
 columns_edited = refl
 
 sets_edited : free
     ("RHS" ∷ " MODIFY" ∷ " LIM 9" ∷ " B COST 1" ∷ " DELETE" ∷ " B LIM" ∷ "RANGES" ∷ " DELETE" ∷ " R" ∷ "BOUNDS" ∷ " MODIFY" ∷ " FR BND Y" ∷ " UP X 7"
-        ∷ " DELETE" ∷ " BND X" ∷ [])
+    ∷ " DELETE" ∷ " BND X" ∷ [])
     ≡ fixed ("RHS" ∷ " MODIFY" ∷ "              LIM       9" ∷ "    B         COST      1" ∷ " DELETE" ∷ "    B         LIM" ∷ "RANGES" ∷ " DELETE" ∷ "    R"
-        ∷ "BOUNDS" ∷ " MODIFY" ∷ " FR BND       Y" ∷ " UP           X         7" ∷ " DELETE" ∷ "    BND       X" ∷ [])
+    ∷ "BOUNDS" ∷ " MODIFY" ∷ " FR BND       Y" ∷ " UP           X         7" ∷ " DELETE" ∷ "    BND       X" ∷ [])
 unfolding revised reading_of words
 sets_edited = refl
 

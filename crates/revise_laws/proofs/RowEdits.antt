@@ -331,7 +331,7 @@ module _ (name : Name) (p : Problem Name) (lawful : IsLawful p) where
         (in_all (without_row name) p.ranges)
         (groups-all (AreRanges p.rows) AreRangesLeft (without_row name)
         (λ items c. record { entries_lawful = entries-left name p.rows rows_left row-left items c.entries_lawful; limited = limited-left items c.limited })
-            p.ranges lawful.ranges);
+        p.ranges lawful.ranges);
     bounds =
         groups-same (AreBoundSets p.columns) (AreBoundSets (in_all (without_row name) p.columns))
         (bound_sets-still p.columns (in_all (without_row name) p.columns) (has_group-all (without_row name) p.columns)) p.bounds lawful.bounds;

@@ -88,8 +88,13 @@ module _ (verb : ParametricVerb) (card : ℕ) (state : State) (present : Present
   asked_gives : (lp : LinearProgram) (parametric_run : ParametricRun) → IsAsked verb present.problem state.cells parametric_run → (outcome : StatementOutcome) →
       Gives linear_programming_of_128_bits card (run_move lp parametric_run) outcome → Gives linear_programming_of_128_bits card (tested_move lp) outcome
   asked_gives lp parametric_run a outcome g =
-      let same : parametric_run ≡ record { changing = parametric_run.changing; from = state.cells.xparam; to = parametric_run.to; limit =
-              steps_allowed state.cells } =
+      let same : parametric_run ≡ record {
+        changing = parametric_run.changing;
+        from = state.cells.xparam;
+        to = parametric_run.to;
+        limit =
+            steps_allowed state.cells;
+      } =
       λ i. record { changing = parametric_run.changing; from = a.is_first i; to = parametric_run.to; limit = a.is_limit i } in
       gives_found card (change_fault verb) (option_and_then (change_of verb present.problem) (name_moved verb state.cells))
       (with_change lp) parametric_run.changing outcome a.changes
@@ -278,7 +283,7 @@ module _ (verb : ParametricVerb) (card : ℕ) (print_old print_new : SinkState) 
       (λ found. act_of (cells_left found old.cells) card found)
       (no_cards_by ready.problem old.cells verb setup new)
       (λ gain found h position executed state s. found_comes verb card cards old setup new is_setup ready.problem ready.on_file demands position executed
-          state s gain found h) print_old print_new finding t))
+      state s gain found h) print_old print_new finding t))
 
   pub parametric_run_cut : (any : Machine) (h : Halt) → ReportsFinding (ParametricRuns ready.problem old.cells verb setup new) print_old print_new (Err h) →
       Executes linear_programming_of_128_bits (verb_of verb) card print_old print_new cards old any (Err h)
@@ -287,4 +292,4 @@ module _ (verb : ParametricVerb) (card : ℕ) (print_old print_new : SinkState) 
       (λ found. act_of (cells_left found old.cells) card found)
       (no_cards_by ready.problem old.cells verb setup new)
       (λ gain found h position executed state s. found_comes verb card cards old setup new is_setup ready.problem ready.on_file demands position executed
-          state s gain found h) print_old print_new any h t
+      state s gain found h) print_old print_new any h t

@@ -216,7 +216,7 @@ module _ (verb : SolvingVerb) (card : ℕ) (print_old print_new : SinkState) (ca
       (λ found. record old { setup = Some new; mark = mark_left found }) (act_of old.cells card)
       (no_cards_by verb ready.problem old.cells setup new)
       (λ gain found h position executed state s. found_comes verb card cards old setup new is_setup ready.problem ready.on_file demands position executed
-          state s gain found h) print_old print_new finding t))
+      state s gain found h) print_old print_new finding t))
 
   pub solving_cut : (any : Machine) (h : Halt) → ReportsFinding (Finds verb ready.problem old.cells setup new) print_old print_new (Err h) →
       Executes linear_programming_of_128_bits (verb_of verb) card print_old print_new cards old any (Err h)
@@ -225,4 +225,4 @@ module _ (verb : SolvingVerb) (card : ℕ) (print_old print_new : SinkState) (ca
       (λ found. record old { setup = Some new; mark = mark_left found }) (act_of old.cells card)
       (no_cards_by verb ready.problem old.cells setup new)
       (λ gain found h position executed state s. found_comes verb card cards old setup new is_setup ready.problem ready.on_file demands position executed
-          state s gain found h) print_old print_new any h t
+      state s gain found h) print_old print_new any h t

@@ -148,7 +148,7 @@ module _ (S : Solving) (solving : KnowsSolving S) where
     step = λ bytes program reports cards state outcome so_far step. step_holds bytes program so_far.is_program reports cards state outcome so_far.reaches step;
     stop =
         λ bytes program reports cards state gain ending so_far step. end_of_step_holds bytes program so_far.is_program reports cards state gain ending
-            so_far.reaches step;
+        so_far.reaches step;
     job = job_holds;
   }
 

@@ -103,8 +103,12 @@ module _ (C : Checker) (reading : ReadingLaw C) (truth : JudgedLaws C) (Holds : 
               (record { from = parametric_run.from; change = changing_name parametric_run.changing; intervals = intervals; end = end }))
               (reported (ShowsProvedChain
               (record { from = parametric_run.from; change = changing_name parametric_run.changing; intervals = intervals; end = end }))
-              (record { is_from = refl; is_change = refl; is_true = truth.chain parametric_run sheet w.rest rest bases intervals end program.is_linear_program
-                  free e })),
+              (record {
+                is_from = refl;
+                is_change = refl;
+                is_true = truth.chain parametric_run sheet w.rest rest bases intervals end program.is_linear_program
+                    free e;
+              })),
         ))
     parametric_run_comes ParametricRunLimit rest e holds =
         absurd (never_limited C sheet parametric_run w.rest rest (left_after (parametric_run_head parametric_run) w.rest) e)

@@ -17,8 +17,16 @@ use Rattle.walk_definitions.specs.Tables.{column_of, multipliers}
 
 abbrev pub part_of : ParametricInterval → Part
 part_of interval =
-    record { from = interval.from; to = interval.to; statuses = []; value = column_of 1 interval.lines; value_rate = column_of 2 interval.lines; price =
-        column_of 3 interval.lines; price_rate = column_of 4 interval.lines }
+    record {
+      from = interval.from;
+      to = interval.to;
+      statuses = [];
+      value = column_of 1 interval.lines;
+      value_rate = column_of 2 interval.lines;
+      price =
+          column_of 3 interval.lines;
+      price_rate = column_of 4 interval.lines;
+    }
 
 abbrev pub past_of : Sheet → ChainEnd → PastBreakpoint
 past_of sheet (EndsAt t) = AtMax

@@ -47,7 +47,7 @@ returns-in_err-exchange-clause-stops g c =
     c.column.new.out c.in_ok-column.ensures.direction c.in-Some.p c.in-Some.ensures
     (g.E.Rates.state c.exchange.new.self).basics
     (g.E.Rates.state c.exchange.new.self).waypoints c.in_err-exchange.field-0.0 c.in_err-exchange.ensures.err c.exchange.ensures.waypoints
-        c.in_err-exchange.ensures.overflow)
+    c.in_err-exchange.ensures.overflow)
 
 pub returns-clause-under_way : goal.returns-clause-under_way
 returns-clause-under_way g c =

@@ -25,5 +25,5 @@ returns-in_err-price-clause-refused c =
           (subst (λ (x : ℚ). IsTermRefusal
           (price_formula (c.loop-k.k + 1) c.args.theta) x c.args.theta c.index-change-k.result c.in_err-price.field-0.0) rate_is
           (subst (λ (f : Formula). IsTermRefusal f c.index-prices-k.result c.args.theta c.index-change-k.result c.in_err-price.field-0.0) c.formula.ensures
-              c.in_err-price.ensures.refused));
+          c.in_err-price.ensures.refused));
     })

@@ -51,7 +51,7 @@ returns-in-Ends-clause-ends g c =
     let counted : c.loop-outcome.steps ≡ counted_steps c.loop-outcome.steps = omega (arith, c.loop-outcome.invariant.within) in
     ends_there dual_turn c.args.lp.now c.args.basis.now (g.R.Rates.state c.args.rates.now).waypoints c.loop-outcome.basis
     (g.R.Rates.state c.loop-outcome.rates).waypoints c.loop-outcome.steps c.loop-outcome.invariant.reached c.args.limit c.loop-outcome.steps c.in-Ends.outcome
-        c.loop-outcome.invariant.within counted ends
+    c.loop-outcome.invariant.within counted ends
 
 pub step_over-requires-clause-step : goal.step_over-requires-clause-step
 step_over-requires-clause-step g c =
@@ -68,7 +68,7 @@ returns-in_err-kept-in-Moves-clause-stops g c =
     (value_at c.next_turn.new.row) c.in-Moves.q c.in-Moves.by (c.args.limit - c.loop-outcome.steps) moves c.requires.no_change c.requires.right
     (g.R.Rates.state c.next_turn.new.rates).waypoints
     (g.R.Rates.state c.step_over.new.rates).waypoints c.in_err-kept-in-Moves.field-0.0 c.args.limit c.loop-outcome.invariant.within refl
-        c.in_ok-outcome.ensures.rates.1 c.in_err-kept-in-Moves.ensures.overflow)
+    c.in_ok-outcome.ensures.rates.1 c.in_err-kept-in-Moves.ensures.overflow)
 
 pub returns-in_err-fill_point-clause-waypoints : goal.returns-in_err-fill_point-clause-waypoints
 returns-in_err-fill_point-clause-waypoints g c =
@@ -118,7 +118,7 @@ returns-in_err-kept_prices-in-Moves-clause-stops g c =
     (value_at c.next_turn.new.row) c.in-Moves.q c.in-Moves.by (c.args.limit - c.loop-outcome.steps) moves c.step_over.new.basis
     (g.R.Rates.state c.next_turn.new.rates).waypoints
     (g.R.Rates.state c.step_over.new.rates).waypoints c.in_ok-kept-in-Moves.ensures.basis c.in_ok-outcome.ensures.rates.1
-        c.in_ok-kept-in-Moves.ensures.waypoints in
+    c.in_ok-kept-in-Moves.ensures.waypoints in
     rw (p.1, p.2)
     (point_stops_there c.args.lp.now c.args.basis.now (g.R.Rates.state c.args.rates.now).waypoints c.step_over.new.basis
     (g.R.Rates.state c.step_over.new.rates).waypoints (c.loop-outcome.steps + 1) next c.args.limit
@@ -134,7 +134,7 @@ returns-in_err-kept_prices-in-Moves-clause-waypoints g c =
     (value_at c.next_turn.new.row) c.in-Moves.q c.in-Moves.by (c.args.limit - c.loop-outcome.steps) moves c.step_over.new.basis
     (g.R.Rates.state c.next_turn.new.rates).waypoints
     (g.R.Rates.state c.step_over.new.rates).waypoints c.in_ok-kept-in-Moves.ensures.basis c.in_ok-outcome.ensures.rates.1
-        c.in_ok-kept-in-Moves.ensures.waypoints in
+    c.in_ok-kept-in-Moves.ensures.waypoints in
     follows_later dual_turn c.args.lp.now c.args.basis.now (g.R.Rates.state c.args.rates.now).waypoints c.step_over.new.basis
     (g.R.Rates.state c.step_over.new.rates).waypoints (c.loop-outcome.steps + 1) next
     (g.R.Rates.state c.kept_prices.new.rates).waypoints c.in_err-kept_prices-in-Moves.ensures.rates.1
@@ -148,7 +148,7 @@ loop-outcome-preserved g c =
     (value_at c.next_turn.new.row) c.in-Moves.q c.in-Moves.by (c.args.limit - c.loop-outcome.steps) moves c.step_over.new.basis
     (g.R.Rates.state c.next_turn.new.rates).waypoints
     (g.R.Rates.state c.step_over.new.rates).waypoints c.in_ok-kept-in-Moves.ensures.basis c.in_ok-outcome.ensures.rates.1
-        c.in_ok-kept-in-Moves.ensures.waypoints in
+    c.in_ok-kept-in-Moves.ensures.waypoints in
     record {
       places = c.in_ok-outcome.ensures.direction_places;
       point_places = omega (arith, c.loop-outcome.invariant.point_places);

@@ -31,7 +31,7 @@ returns-in-Err-clause-turn g c =
     (g.R.Rates.state c.args.rates.now).basics c.requires.rates c.requires.point c.requires.uncrossed c.args.r c.requires.outside
     (value_at c.args.prices.now)
     (value_at c.read_row.new.out) c.requires.prices c.in_ok-read_row.ensures.row c.lies_below-below.result c.lies_below-below.ensures c.args.at.now.left
-        (g.R.Rates.state c.args.rates.now).waypoints (g.R.Rates.state c.read_row.new.rates).waypoints c.in-Err.evidence c.in-Err.ensures.refused
+    (g.R.Rates.state c.args.rates.now).waypoints (g.R.Rates.state c.read_row.new.rates).waypoints c.in-Err.evidence c.in-Err.ensures.refused
 
 pub returns-in_default-clause-turn : goal.returns-in_default-clause-turn
 returns-in_default-clause-turn g c =
@@ -49,8 +49,8 @@ returns-then-at-eq0-clause-turn g c =
     (g.R.Rates.state c.args.rates.now).basics c.requires.rates c.requires.point c.requires.uncrossed c.args.r c.requires.outside
     (value_at c.args.prices.now)
     (value_at c.read_row.new.out) c.requires.prices c.in_ok-read_row.ensures.row c.lies_below-below.result c.lies_below-below.ensures c.in-Some.q
-        (sym c.in-Ok.ensures.cheapest ∙ c.in-Some.is) (if c.lies_below-below.result then Ll else Ul) refl c.args.at.now.left
-        (g.R.Rates.state c.args.rates.now).waypoints (g.R.Rates.state c.read_row.new.rates).waypoints c.if-at-eq0.true
+    (sym c.in-Ok.ensures.cheapest ∙ c.in-Some.is) (if c.lies_below-below.result then Ll else Ul) refl c.args.at.now.left
+    (g.R.Rates.state c.args.rates.now).waypoints (g.R.Rates.state c.read_row.new.rates).waypoints c.if-at-eq0.true
 
 pub return_along-requires-clause-nonbasic : goal.return_along-requires-clause-nonbasic
 return_along-requires-clause-nonbasic g c =
@@ -59,7 +59,7 @@ return_along-requires-clause-nonbasic g c =
     (g.R.Rates.state c.args.rates.now).basics c.requires.rates c.requires.point c.requires.uncrossed c.args.r c.requires.outside
     (value_at c.args.prices.now)
     (value_at c.read_row.new.out) c.requires.prices c.in_ok-read_row.ensures.row c.lies_below-below.result c.lies_below-below.ensures c.in-Some.q
-        (sym c.in-Ok.ensures.cheapest ∙ c.in-Some.is) c.limit_broken.result c.limit_broken.ensures
+    (sym c.in-Ok.ensures.cheapest ∙ c.in-Some.is) c.limit_broken.result c.limit_broken.ensures
 
 pub return_along-requires-clause-basic : goal.return_along-requires-clause-basic
 return_along-requires-clause-basic g c =
@@ -72,7 +72,7 @@ return_along-requires-clause-limit g c =
     (g.R.Rates.state c.args.rates.now).basics c.requires.rates c.requires.point c.requires.uncrossed c.args.r c.requires.outside
     (value_at c.args.prices.now)
     (value_at c.read_row.new.out) c.requires.prices c.in_ok-read_row.ensures.row c.lies_below-below.result c.lies_below-below.ensures c.in-Some.q
-        (sym c.in-Ok.ensures.cheapest ∙ c.in-Some.is) c.limit_broken.result c.limit_broken.ensures
+    (sym c.in-Ok.ensures.cheapest ∙ c.in-Some.is) c.limit_broken.result c.limit_broken.ensures
 
 pub return_along-requires-clause-pivot : goal.return_along-requires-clause-pivot
 return_along-requires-clause-pivot g c =
@@ -81,7 +81,7 @@ return_along-requires-clause-pivot g c =
     (g.R.Rates.state c.args.rates.now).basics c.requires.rates c.requires.point c.requires.uncrossed c.args.r c.requires.outside
     (value_at c.args.prices.now)
     (value_at c.read_row.new.out) c.requires.prices c.in_ok-read_row.ensures.row c.lies_below-below.result c.lies_below-below.ensures c.in-Some.q
-        (sym c.in-Ok.ensures.cheapest ∙ c.in-Some.is) c.limit_broken.result c.limit_broken.ensures
+    (sym c.in-Ok.ensures.cheapest ∙ c.in-Some.is) c.limit_broken.result c.limit_broken.ensures
 
 pub returns-in_err-by-clause-turn : goal.returns-in_err-by-clause-turn
 returns-in_err-by-clause-turn g c =
@@ -92,9 +92,9 @@ returns-in_err-by-clause-turn g c =
     (g.R.Rates.state c.args.rates.now).basics c.requires.rates c.requires.point c.requires.uncrossed c.args.r c.requires.outside
     (value_at c.args.prices.now)
     (value_at c.read_row.new.out) c.requires.prices c.in_ok-read_row.ensures.row c.lies_below-below.result c.lies_below-below.ensures c.in-Some.q
-        (sym c.in-Ok.ensures.cheapest ∙ c.in-Some.is) c.limit_broken.result c.limit_broken.ensures c.args.at.now.left
-        (g.R.Rates.state c.args.rates.now).waypoints (g.R.Rates.state c.read_row.new.rates).waypoints (g.R.Rates.state c.return_along.new.rates).waypoints
-        c.in_err-by.field-0.0 c.in_ok-read_row.ensures.rates.1 c.in_err-by.ensures.overflow)
+    (sym c.in-Ok.ensures.cheapest ∙ c.in-Some.is) c.limit_broken.result c.limit_broken.ensures c.args.at.now.left
+    (g.R.Rates.state c.args.rates.now).waypoints (g.R.Rates.state c.read_row.new.rates).waypoints (g.R.Rates.state c.return_along.new.rates).waypoints
+    c.in_err-by.field-0.0 c.in_ok-read_row.ensures.rates.1 c.in_err-by.ensures.overflow)
 
 pub returns-clause-turn : goal.returns-clause-turn
 returns-clause-turn g c =
@@ -103,8 +103,8 @@ returns-clause-turn g c =
     (g.R.Rates.state c.args.rates.now).basics c.requires.rates c.requires.point c.requires.uncrossed c.args.r c.requires.outside
     (value_at c.args.prices.now)
     (value_at c.read_row.new.out) c.requires.prices c.in_ok-read_row.ensures.row c.lies_below-below.result c.lies_below-below.ensures c.in-Some.q
-        (sym c.in-Ok.ensures.cheapest ∙ c.in-Some.is) c.limit_broken.result c.limit_broken.ensures (value_at c.return_along.new.direction)
-        c.in_ok-by.ensures.direction c.in_ok-by.by c.in_ok-by.ensures.blocking_variable c.args.at.now.left (omega (arith, c.if-at-eq0.false))
+    (sym c.in-Ok.ensures.cheapest ∙ c.in-Some.is) c.limit_broken.result c.limit_broken.ensures (value_at c.return_along.new.direction)
+    c.in_ok-by.ensures.direction c.in_ok-by.by c.in_ok-by.ensures.blocking_variable c.args.at.now.left (omega (arith, c.if-at-eq0.false))
 
 pub returns-in_err-by-clause-rates : goal.returns-in_err-by-clause-rates
 returns-in_err-by-clause-rates g c = kept_then c.in_ok-read_row.ensures.rates c.in_err-by.ensures.rates

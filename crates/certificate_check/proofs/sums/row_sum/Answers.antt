@@ -18,7 +18,7 @@ add_entry-requires-clause-column c =
     let here =
     next_listed c.args.lp.now
     (value_at c.args.values.now) c.args.row c.loop-column.sum c.args.listed.now c.loop-column.column-index c.args.last c.loop-column-test.true
-        c.loop-column.invariant in
+    c.loop-column.invariant in
     let within = next_within c.args.lp.now (value_at c.args.values.now) c.args.row c.loop-column.sum _ _ c.args.last here in
     (within.0, omega (arith, within.1, c.requires.last))
 
@@ -37,7 +37,7 @@ returns-in_err-sum c =
     let here =
     next_listed c.args.lp.now
     (value_at c.args.values.now) c.args.row c.loop-column.sum c.args.listed.now c.loop-column.column-index c.args.last c.loop-column-test.true
-        c.loop-column.invariant in
+    c.loop-column.invariant in
     let p = err_from_is_err_and c.from_residual.result c.from_residual.ensures.1 in
     rw (p.1, p.2)
     (listed_refused c.args.lp.now (value_at c.args.values.now) c.args.row c.loop-column.sum _ _ c.args.last c.requires.last here _ c.in_err-sum.ensures)
@@ -47,7 +47,7 @@ loop-column-preserved c =
     let here =
     next_listed c.args.lp.now
     (value_at c.args.values.now) c.args.row c.loop-column.sum c.args.listed.now c.loop-column.column-index c.args.last c.loop-column-test.true
-        c.loop-column.invariant in
+    c.loop-column.invariant in
     let fits : TermsFit c.in_ok-sum.sum = search rules in
     listed_step c.args.lp.now
     (value_at c.args.values.now) c.args.row c.loop-column.sum _ _ c.args.last c.requires.last here c.in_ok-sum.sum fits c.in_ok-sum.ensures

@@ -29,7 +29,7 @@ returns-in_err-judge c =
     (then_by making making (in_turn (combined ∷ met ∷ low ∷ falling ∷ fallen ∷ [])) result refl c.in_ok-program.ensures.0
     (exit_by c.check_combination.result combined
     (in_turn (met ∷ low ∷ falling ∷ fallen ∷ [])) result c.in_err-judge.field-0.0 c.check_combination.ensures.exact c.in_err-judge.ensures
-        c.from_residual-in_err-judge.ensures.1))
+    c.from_residual-in_err-judge.ensures.1))
 
 pub returns-in_err-sum : goal.returns-in_err-sum
 returns-in_err-sum c =

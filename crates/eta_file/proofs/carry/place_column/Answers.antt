@@ -10,4 +10,4 @@ loop-entry-preserved c k low =
     subst (λ (e : Entry). IsRowWithin c.args.j e) (sym c.entry-item.is) (c.requires.rows c.loop-entry.entry-index c.entry-item.result c.loop-entry-test.true) in
     let high : c.entry-item.result.row ≤ length c.loop-entry.out = omega (arith, row.1, c.requires.high, c.loop-entry.auto.out) in
     filled_row c.args.column.now c.loop-entry.entry-index c.entry-item.result c.loop-entry-test.true c.entry-item.is c.requires.distinct c.loop-entry.out
-        row.0 high k low (c.loop-entry.invariant k low)
+    row.0 high k low (c.loop-entry.invariant k low)

@@ -20,9 +20,9 @@ loop-k-preserved c =
           rw w.entries-is
           (pushed ∙ entry_then
           (value_at d) c.args.listed.now c.loop-k.k-index c.loop-k-test.true c.loop-k.entries.items c.loop-k.invariant c.index-direction-k.result
-              c.is_zero.result rate tested w.if-not-is_zero.true)
+          c.is_zero.result rate tested w.if-not-is_zero.true)
       | else-not-is_zero w ↦
           rw w.entries-is
           (entry_else (value_at d) c.args.listed.now c.loop-k.k-index c.loop-k-test.true c.loop-k.entries.items c.loop-k.invariant c.index-direction-k.result
-              c.is_zero.result rate tested w.if-not-is_zero.false)
+          c.is_zero.result rate tested w.if-not-is_zero.false)
     ]

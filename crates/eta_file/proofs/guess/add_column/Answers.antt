@@ -18,6 +18,6 @@ loop-entry-preserved c =
       rows = λ k low.
           ap (λ xs. value_at xs k) c.in_ok-add_product.ensures.number
           ∙ added_more c.args.column.now c.loop-entry.entry-index c.entry-item.result c.loop-entry-test.true c.entry-item.is c.requires.distinct
-              c.loop-entry.sums row.0 high
+          c.loop-entry.sums row.0 high
           _ _ _ k low refl (c.loop-entry.invariant.rows k low);
     }

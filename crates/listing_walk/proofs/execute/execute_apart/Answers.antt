@@ -12,5 +12,5 @@ pub returns-in-Ok-clause-walks : goal.returns-in-Ok-clause-walks
 returns-in-Ok-clause-walks g c = λ last.
     walks_held last g.T.Checks.checker
     (viewed c.args.statement.now.verb) c.args.statement.now.card c.args.cards.now c.args.machine.now c.execute.new.machine c.args.place.now
-        c.execute.new.place c.requires.apart c.in-Ok.next_step c.as_next.result c.as_next.ensures
+    c.execute.new.place c.requires.apart c.in-Ok.next_step c.as_next.result c.as_next.ensures
     c.in-Ok.ensures.walks

@@ -25,5 +25,5 @@ pub returns-in-Sets-clause-walks : goal.returns-in-Sets-clause-walks
 returns-in-Sets-clause-walks g c =
     walks_set g.T.Checks.checker
     (viewed c.args.statement.now.verb) c.args.statement.now.card c.args.cards.now c.args.machine.now c.execute.new.machine c.args.place.now
-        c.execute.new.place c.args.last.now (sym c.use_of.ensures ∙ c.in-Sets.is)
+    c.execute.new.place c.args.last.now (sym c.use_of.ensures ∙ c.in-Sets.is)
     c.execute.result c.execute.ensures.walks

@@ -16,7 +16,7 @@ problem_on_file-problem-requires c =
 pub returns-in_default-clause-walks : goal.returns-in_default-clause-walks
 returns-in_default-clause-walks c =
     λ C. insert_no_setup C c.args.card c.args.cards.now c.args.machine.now c.args.place.now c.fault.new.place c.in_default.is c.fault.result
-        c.fault.ensures.passes
+    c.fault.ensures.passes
 
 pub is_line_due-requires-clause-names : goal.is_line_due-requires-clause-names
 is_line_due-requires-clause-names c =
@@ -27,20 +27,20 @@ is_line_due-requires-clause-names c =
 pub returns-in-Err-clause-walks : goal.returns-in-Err-clause-walks
 returns-in-Err-clause-walks c = λ C.
     insert_refused C c.args.card c.args.cards.now c.args.machine.now c.args.place.now c.refuse_install.new.place c.in-Some.chosen c.in-Some.is
-        c.problem_on_file-problem.result.now c.problem_on_file-problem.ensures c.take_deck-taken.result
+    c.problem_on_file-problem.result.now c.problem_on_file-problem.ensures c.take_deck-taken.result
     (taken_by c.args.cards.now c.args.machine.now c.name-wanted.result c.name-wanted.ensures c.take_deck-taken.result c.take_deck-taken.ensures.taken)
     (kept_of c.args.machine.now.file c.args.machine.now.setup c.in-Some.chosen c.in-Some.is c.requires.sound.ready c.problem_on_file-problem.result.now
     c.problem_on_file-problem.ensures) c.in_ok-due-in-Err.due
     (due_by c.problem_on_file-problem.result.now c.in-Some.chosen.lp c.args.cards.now c.args.place.now c.take_deck-taken.result c.left-rest.result.now
-        c.left-rest.ensures c.in_ok-due-in-Err.due c.in_ok-due-in-Err.ensures) c.in-Err.refusal c.in-Err.ensures.refused
+    c.left-rest.ensures c.in_ok-due-in-Err.due c.in_ok-due-in-Err.ensures) c.in-Err.refusal c.in-Err.ensures.refused
     c.refuse_install.result c.refuse_install.ensures.refuses
 
 pub returns-in_default-taken-clause-walks : goal.returns-in_default-taken-clause-walks
 returns-in_default-taken-clause-walks c = λ C.
     insert_no_deck C c.args.card c.args.cards.now c.args.machine.now c.args.place.now c.fault-in_default-taken.new.place c.in-Some.chosen c.in-Some.is
-        c.problem_on_file-problem.result.now c.problem_on_file-problem.ensures c.take_deck-taken.result
+    c.problem_on_file-problem.result.now c.problem_on_file-problem.ensures c.take_deck-taken.result
     (taken_by c.args.cards.now c.args.machine.now c.name-wanted.result c.name-wanted.ensures c.take_deck-taken.result c.take_deck-taken.ensures.taken)
-        c.in-Ok.lp c.in-Ok.ensures.made c.in_default-taken.is c.fault-in_default-taken.result
+    c.in-Ok.lp c.in-Ok.ensures.made c.in_default-taken.is c.fault-in_default-taken.result
     c.fault-in_default-taken.ensures.passes
 
 pub read_basis-requires-clause-names : goal.read_basis-requires-clause-names
@@ -54,12 +54,12 @@ read_basis-requires-clause-names c = record {
 pub returns-in-Ok-read_basis-clause-walks : goal.returns-in-Ok-read_basis-clause-walks
 returns-in-Ok-read_basis-clause-walks c = λ C.
     insert_due C c.args.card c.args.cards.now c.args.machine.now c.args.place.now c.args.place.now c.in-Some.chosen c.in-Some.is
-        c.problem_on_file-problem.result.now
+    c.problem_on_file-problem.result.now
     c.problem_on_file-problem.ensures c.take_deck-taken.result
     (taken_by c.args.cards.now c.args.machine.now c.name-wanted.result c.name-wanted.ensures c.take_deck-taken.result c.take_deck-taken.ensures.taken)
-        c.in-Ok.lp c.in-Ok.ensures.made c.in-Some-taken.deck c.in-Some-taken.is c.is_line_of-stands.result
+    c.in-Ok.lp c.in-Ok.ensures.made c.in-Some-taken.deck c.in-Some-taken.is c.is_line_of-stands.result
     (line_by c.args.cards.now c.args.place.now c.take_deck-taken.result c.left.result.now c.left.ensures c.is_line_of-stands.result
-        c.is_line_of-stands.ensures) c.in-Ok-read_basis._basis c.in-Ok-read_basis.ensures.basis c.install_due.result
+    c.is_line_of-stands.ensures) c.in-Ok-read_basis._basis c.in-Ok-read_basis.ensures.basis c.install_due.result
     c.install_due.ensures
 
 pub returns-in-Err-Fault-clause-walks : goal.returns-in-Err-Fault-clause-walks
@@ -68,7 +68,7 @@ returns-in-Err-Fault-clause-walks c = λ C.
     subst (Refuses c.problem_on_file-problem.result.now c.in-Ok.lp
     (cards_between c.in-Some-taken.deck.first c.in-Some-taken.deck.last c.args.cards.now)) c.in-Err-Fault.field-0-is c.in-Err-Fault.ensures.stop in
     insert_bad_deck C c.args.card c.args.cards.now c.args.machine.now c.args.place.now c.follow.new.place c.in-Some.chosen c.in-Some.is
-        c.problem_on_file-problem.result.now c.problem_on_file-problem.ensures c.take_deck-taken.result
+    c.problem_on_file-problem.result.now c.problem_on_file-problem.ensures c.take_deck-taken.result
     (taken_by c.args.cards.now c.args.machine.now c.name-wanted.result c.name-wanted.ensures c.take_deck-taken.result c.take_deck-taken.ensures.taken)
-        c.in-Ok.lp c.in-Ok.ensures.made c.in-Some-taken.deck c.in-Some-taken.is c.in-Err-Fault.why stop
+    c.in-Ok.lp c.in-Ok.ensures.made c.in-Some-taken.deck c.in-Some-taken.is c.in-Err-Fault.why stop
     c.follow.result (rw c.in-Err-Fault.why-is at c.follow.ensures.passes)

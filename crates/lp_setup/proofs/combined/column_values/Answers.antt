@@ -23,7 +23,7 @@ returns-in_err-values-2-clause-overflow c =
     standing c.args.rows.now c.loop-place.place row c.loop-place-test.true c.index-rows-place.is in
     let over =
     subst (λ values. IsRowValueOverflow values row.parts c.loop-place.place c.args.column c.in_err-values-2.field-0.0) c.deref.ensures.value
-        c.in_err-values-2.ensures.overflow in
+    c.in_err-values-2.ensures.overflow in
     let p = err_from_is_err_and c.from_residual-in_err-values-2.result c.from_residual-in_err-values-2.ensures.1 in
     rw (p.1, p.2)
     (overflow_at c.args.rows.now c.args.entries.now c.loop-place.place c.loop-place.values.items c.loop-place.invariant.0 row is_row c.args.column _ over)

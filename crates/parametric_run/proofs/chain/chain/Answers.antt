@@ -86,7 +86,7 @@ returns-then-is_last-clause-ends g c =
     let before = (g.R.Rates.state c.args.rates.now).waypoints in
     rw c.whole_run.ensures
     (ends_at_max m c.args.span.now c.args.basis.now c.args.opened.now.left c.parts.parts.items c.parts.theta c.parts.basis c.parts.left
-        c.parts.invariant.begins c.in_ok-interval.interval c.in_ok-interval.ensures.interval
+    c.parts.invariant.begins c.in_ok-interval.interval c.in_ok-interval.ensures.interval
     c.keep.new.parts.items c.in_ok-keep.ensures before (g.R.Rates.state c.parts.rates).waypoints
     (same_from_test c.in_ok-interval.interval.to c.args.span.now.to (sym c.is_last.ensures ∙ c.if-is_last.true))
     (stood_any m c.args.span.now c.args.basis.now c.args.opened.now.left before c.parts.theta c.parts.basis
@@ -132,7 +132,7 @@ returns-in-Ends-clause-ends g c =
     before_max c.in_ok-interval.interval.to c.args.span.now.to c.in_ok-interval.ensures.interval.reaches.within (sym c.is_last.ensures ∙ c.if-is_last.false) in
     rw c.closed_run.ensures
     (ends_past m c.args.span.now c.args.basis.now c.args.opened.now.left c.parts.parts.items c.parts.theta c.parts.basis c.parts.left c.parts.invariant.begins
-        c.in_ok-interval.interval c.in_ok-interval.ensures.interval
+    c.in_ok-interval.interval c.in_ok-interval.ensures.interval
     c.keep.new.parts.items c.in_ok-keep.ensures before
     (g.R.Rates.state c.faces.new.rates).waypoints c.faces.new.basis last.left c.in-Ends.end before_end last.reach last.ends
     (stood_past m c.args.span.now c.args.basis.now c.args.opened.now.left before c.parts.theta c.parts.basis
@@ -154,9 +154,9 @@ parts-smaller g c =
     let before_end : c.in_ok-interval.interval.to <ℚ c.args.span.now.to =
     before_max c.in_ok-interval.interval.to c.args.span.now.to c.in_ok-interval.ensures.interval.reaches.within (sym c.is_last.ensures ∙ c.if-is_last.false) in
     progress (g.M.Parametric.problem c.args.method.now) c.requires.parametric c.parts.theta c.args.span.now.to c.parts.basis c.faces.new.basis
-        c.in_ok-interval.interval c.parts.left c.in-Done.after
+    c.in_ok-interval.interval c.parts.left c.in-Done.after
     (record { is_basis = c.parts.invariant.rates.is_basis; nonsingular = c.parts.invariant.rates.nonsingular }) c.in_ok-interval.ensures.interval before_end
-        done.reach done.done
+    done.reach done.done
 
 pub parts-preserved : goal.parts-preserved
 parts-preserved g c =
@@ -172,7 +172,7 @@ parts-preserved g c =
       within = let taken = done.reach.taken in let within = c.parts.invariant.within in omega (arith, taken, within);
       begins =
           parts_more m c.args.span.now c.args.basis.now c.args.opened.now.left c.parts.parts.items c.parts.theta c.parts.basis c.parts.left
-              c.parts.invariant.begins c.in_ok-interval.interval c.in_ok-interval.ensures.interval
+          c.parts.invariant.begins c.in_ok-interval.interval c.in_ok-interval.ensures.interval
           c.keep.new.parts.items c.in_ok-keep.ensures c.faces.new.basis c.in-Done.after before_end done.reach done.done;
       any =
           opens_more m c.args.span.now c.args.basis.now c.args.opened.now.left (g.R.Rates.state c.args.rates.now).waypoints c.parts.theta c.parts.basis

@@ -17,7 +17,7 @@ pub returns-then-stands_basic-clause-interval : goal.returns-then-stands_basic-c
 returns-then-stands_basic-clause-interval c =
     let basic =
     basic_by_test c.args.at.now.lp.now c.args.at.now.basis.now c.args.k c.stands_basic.result c.requires.optimum.optimal.is_basis.counted c.requires.variable
-        c.stands_basic.ensures c.if-stands_basic.true in
+    c.stands_basic.ensures c.if-stands_basic.true in
     let past = c.requires.past in
     let rows : c.lp.inside.rows ≡ c.args.at.now.lp.now.matrix.rows = search rules in
     let costs : c.cost.result ≡ cost c.args.at.now.lp.now (c.args.k - c.args.at.now.lp.now.matrix.rows) =
@@ -31,13 +31,13 @@ returns-then-stands_basic-clause-interval c =
     (λ interval is t. subst (λ i. IsIn i t ↔ IsOptimalBasis (with_cost c.args.at.now.lp.now c.args.k t) c.args.at.now.basis.now)
     (sym (is ∙ ap (λ v. taken_from v c.index-found-k.result) costs))
     (column_exact c.args.at.now.lp.now c.args.at.now.basis.now c.requires.optimum.lawful c.requires.optimum.no_change c.requires.optimum.optimal c.args.k
-        c.requires.variable c.requires.past c.index-found-k.result of_row t)) c.cost_interval.ensures.interval
+    c.requires.variable c.requires.past c.index-found-k.result of_row t)) c.cost_interval.ensures.interval
 
 pub returns-then-stands_basic-clause-refused : goal.returns-then-stands_basic-clause-refused
 returns-then-stands_basic-clause-refused c =
     let basic =
     basic_by_test c.args.at.now.lp.now c.args.at.now.basis.now c.args.k c.stands_basic.result c.requires.optimum.optimal.is_basis.counted c.requires.variable
-        c.stands_basic.ensures c.if-stands_basic.true in
+    c.stands_basic.ensures c.if-stands_basic.true in
     let past = c.requires.past in
     let rows : c.lp.inside.rows ≡ c.args.at.now.lp.now.matrix.rows = search rules in
     let costs : c.cost.result ≡ cost c.args.at.now.lp.now (c.args.k - c.args.at.now.lp.now.matrix.rows) =
@@ -49,18 +49,18 @@ returns-then-stands_basic-clause-refused c =
     (c.requires.found.each c.args.k c.requires.variable.0 c.requires.variable.1 basic (λ e. absurd (omega (arith, e, row.1, past)))) in
     IfErr-map c.cost_interval.result
     (λ e h. basic_cost_refused c.args.at.now.lp.now c.args.at.now.basis.now c.requires.optimum.lawful c.requires.optimum.no_change c.requires.optimum.optimal
-        c.args.k (c.requires.variable, basic) c.requires.past c.index-found-k.result of_row e
+    c.args.k (c.requires.variable, basic) c.requires.past c.index-found-k.result of_row e
     (subst (λ v. DifferenceRefused v c.index-found-k.result c.args.k e) costs h)) c.cost_interval.ensures.refused
 
 pub returns-clause-interval : goal.returns-clause-interval
 returns-clause-interval c =
     let out =
     nonbasic_by_test c.args.at.now.lp.now c.args.at.now.basis.now c.args.k c.stands_basic.result c.requires.optimum.optimal.is_basis.counted
-        c.requires.variable c.stands_basic.ensures c.if-stands_basic.false in
+    c.requires.variable c.stands_basic.ensures c.if-stands_basic.false in
     IfOk-map c.nonbasic_cost.result
     (λ interval is t. subst (λ i. IsIn i t ↔ IsOptimalBasis (with_cost c.args.at.now.lp.now c.args.k t) c.args.at.now.basis.now) (sym is)
     (column_exact c.args.at.now.lp.now c.args.at.now.basis.now c.requires.optimum.lawful c.requires.optimum.no_change c.requires.optimum.optimal c.args.k
-        c.requires.variable c.requires.past _
+    c.requires.variable c.requires.past _
     (own_ends_are c.args.at.now.lp.now c.args.at.now.basis.now c.requires.optimum.lawful c.requires.optimum.no_change c.requires.optimum.optimal
     (value_at c.args.at.now.prices.now) c.requires.optimum.prices c.args.k (c.requires.variable, out) c.index-prices-k.result
     (value_read c.args.at.now.prices.now c.args.k c.index-prices-k.result
@@ -70,7 +70,7 @@ pub returns-clause-refused : goal.returns-clause-refused
 returns-clause-refused c =
     let out =
     nonbasic_by_test c.args.at.now.lp.now c.args.at.now.basis.now c.args.k c.stands_basic.result c.requires.optimum.optimal.is_basis.counted
-        c.requires.variable c.stands_basic.ensures c.if-stands_basic.false in
+    c.requires.variable c.stands_basic.ensures c.if-stands_basic.false in
     IfErr-map c.nonbasic_cost.result
     (λ e h. nonbasic_cost_refused c.args.at.now.lp.now c.args.at.now.basis.now c.requires.optimum.lawful c.requires.optimum.no_change c.requires.optimum.optimal
     (value_at c.args.at.now.prices.now) c.requires.optimum.prices c.args.k (c.requires.variable, out) c.index-prices-k.result

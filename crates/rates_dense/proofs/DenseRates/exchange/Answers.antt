@@ -13,10 +13,13 @@ exchange_lines-requires-clause-pivot c =
     let leaves : IsBasic inverse.matrix inverse.basics c.args.p = rw (← c.self.view_is) at c.requires.leaves in
     let enters : IsNonbasic inverse.matrix inverse.basics c.args.q = rw (← c.self.view_is) at c.requires.enters in
     let pivot : HasPivot inverse.matrix inverse.basics c.args.p c.args.q = rw (← c.self.view_is) at c.requires.pivot in
-    rw (c.deref_mut.ensures.value, slot_read inverse.matrix inverse.basics c.self.inside.slots.items c.self.inside.lines.items c.self.inside.quotients.items
-        c.self.invariant.0 c.args.p c.args.q leaves enters pivot c.index-slot.result.now c.index-slot.ensures)
+    rw (
+      c.deref_mut.ensures.value,
+      slot_read inverse.matrix inverse.basics c.self.inside.slots.items c.self.inside.lines.items c.self.inside.quotients.items
+          c.self.invariant.0 c.args.p c.args.q leaves enters pivot c.index-slot.result.now c.index-slot.ensures,
+    )
     (leaver_apart inverse.matrix inverse.basics c.self.inside.slots.items c.self.inside.lines.items c.self.inside.quotients.items c.self.invariant.0 c.args.p
-        c.args.q leaves enters pivot)
+    c.args.q leaves enters pivot)
 
 pub invariant_of-self : goal.invariant_of-self
 invariant_of-self c =
@@ -45,9 +48,12 @@ returns-in-Err-clause-overflow c =
     let pivot : HasPivot inverse.matrix inverse.basics c.args.p c.args.q = rw (← c.self.view_is) at c.requires.pivot in
     rw (← c.self.view_is)
     (lines_refused inverse.matrix inverse.basics c.self.inside.slots.items c.self.inside.lines.items c.self.inside.quotients.items c.self.invariant.0 c.args.p
-        c.args.q leaves enters pivot c.in-Err.evidence
-    (rw (c.deref_mut.ensures.value, slot_read inverse.matrix inverse.basics c.self.inside.slots.items c.self.inside.lines.items c.self.inside.quotients.items
-        c.self.invariant.0 c.args.p c.args.q leaves enters pivot c.index-slot.result.now c.index-slot.ensures) at c.in-Err.ensures.refused))
+    c.args.q leaves enters pivot c.in-Err.evidence
+    (rw (
+      c.deref_mut.ensures.value,
+      slot_read inverse.matrix inverse.basics c.self.inside.slots.items c.self.inside.lines.items c.self.inside.quotients.items
+          c.self.invariant.0 c.args.p c.args.q leaves enters pivot c.index-slot.result.now c.index-slot.ensures,
+    ) at c.in-Err.ensures.refused))
 
 pub returns-in-Err-clause-own : goal.returns-in-Err-clause-own
 returns-in-Err-clause-own c =
@@ -57,11 +63,11 @@ returns-in-Err-clause-own c =
     let pivot : HasPivot inverse.matrix inverse.basics c.args.p c.args.q = rw (← c.self.view_is) at c.requires.pivot in
     let is_slot : c.index-slot.result.now ≡ get_or c.self.inside.slots.items (c.args.p - 1) 0 =
     slot_read inverse.matrix inverse.basics c.self.inside.slots.items c.self.inside.lines.items c.self.inside.quotients.items c.self.invariant.0 c.args.p
-        c.args.q leaves enters pivot c.index-slot.result.now c.index-slot.ensures in
+    c.args.q leaves enters pivot c.index-slot.result.now c.index-slot.ensures in
     let within : c.index-slot.result.now < length c.deref_mut.result.now =
     rw (c.deref_mut.ensures.value, is_slot)
     (slot_within inverse.matrix inverse.basics c.self.inside.slots.items c.self.inside.lines.items c.self.inside.quotients.items c.self.invariant.0 c.args.p
-        c.args.q leaves enters pivot) in
+    c.args.q leaves enters pivot) in
     lines_own c.args.p c.args.q c.deref_mut.result.now c.index-slot.result.now c.in-Err.evidence within c.in-Err.ensures.refused
 
 pub invariant_of-self-2 : goal.invariant_of-self-2
@@ -76,7 +82,7 @@ invariant_of-self-2 c =
     let same_changing : length c.exchange_lines.new.changing ≡ length c.self.inside.changing.items = search rules in
     let is_slot : c.index-slot.result.now ≡ get_or c.self.inside.slots.items (c.args.p - 1) 0 =
     slot_read inverse.matrix inverse.basics c.self.inside.slots.items c.self.inside.lines.items c.self.inside.quotients.items c.self.invariant.0 c.args.p
-        c.args.q leaves enters pivot c.index-slot.result.now c.index-slot.ensures in
+    c.args.q leaves enters pivot c.index-slot.result.now c.index-slot.ensures in
     rw (
       came_back c.exchange_lines.new.lines c.self.inside.lines.items c.self.inside.lines.len same_lines (search rules),
       came_back c.exchange_lines.new.quotients c.self.inside.quotients.items c.self.inside.quotients.len same_quotients (search rules),

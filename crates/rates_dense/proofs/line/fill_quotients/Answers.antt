@@ -14,7 +14,7 @@ returns-in_err-quotients-clause-refused c =
     let is_err : c.from_residual-in_err-quotients.result ≡ Err c.in_err-quotients.field-0.0 = search rules in
     rw is_err
     (rate_refused c.args.exchange.now.p c.args.exchange.now.q c.args.rates.now c.loop-k.k c.index-rates-k.result c.index-rates-q.result
-        c.in_err-quotients.field-0.0
+    c.in_err-quotients.field-0.0
     (search rules) (read_at c.args.rates.now c.loop-k.k c.index-rates-k.result (search rules) c.index-rates-k.is)
     (value_at_place c.args.rates.now c.args.exchange.now.q c.index-rates-q.result c.requires.q_low c.requires.q_high c.index-rates-q.is)
     c.in_err-quotients.ensures.needed c.in_err-quotients.ensures.refused)

@@ -28,7 +28,7 @@ punch_basis-requires g c =
     (ready_of c.args.machine.now.file c.args.machine.now.setup _
     (c.in-Some.is
     ∙ ap Some (sym c.setup.view_is)) c.requires) c.problem_on_file-problem.result.now c.problem_on_file-problem.ensures c.args.machine.now.cells c.in-Ok.lp
-        c.in-Ok.ensures.selected).is_basis
+    c.in-Ok.ensures.selected).is_basis
 
 pub returns-in-Err-punch_basis : goal.returns-in-Err-punch_basis
 returns-in-Err-punch_basis g c = λ cards.
@@ -45,7 +45,7 @@ returns-in_err-text_of g c = λ cards.
     (c.in-Some.is
     ∙ ap Some (sym c.setup.view_is)) c.problem_on_file-problem.result.now c.problem_on_file-problem.ensures c.in-Ok.lp c.in-Ok.ensures.selected
     c.name.result c.name.ensures.name c.in-Ok-punch_basis.count c.in-Ok-punch_basis.ensures.counted c.in-Ok-punch_basis.ensures.writes _
-        c.in_err-text_of.ensures)
+    c.in_err-text_of.ensures)
 
 pub returns : goal.returns
 returns g c = λ cards.

@@ -8,4 +8,4 @@ pub returns-clause-waypoints : goal.returns-clause-waypoints
 returns-clause-waypoints c =
     rw (← c.self.view_is)
     (keeps_exchange c.append_in.result c.self.inside.file c.args.p c.args.q c.append_in.new.self c.size-size.ensures.basics c.append_in.ensures.ok
-        c.append_in.ensures.err)
+    c.append_in.ensures.err)

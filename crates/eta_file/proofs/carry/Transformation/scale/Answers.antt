@@ -47,7 +47,7 @@ loop-entry-preserved g c =
         cost =
             let more =
             others_next_other c.args.entries.now c.loop-entry.entry-index c.entry-item.result c.loop-entry-test.true c.entry-item.is c.args.self.p
-                w.if-entry-self.true in
+            w.if-entry-self.true in
             omega (arith, more, w.in_ok-out.ensures.cost, c.loop-entry.invariant.cost);
       })
       | else-entry-self w ↦ rw (w.out-is, w.steps-is) (record {
@@ -59,7 +59,7 @@ loop-entry-preserved g c =
         cost =
             let same =
             others_next_same c.args.entries.now c.loop-entry.entry-index c.entry-item.result c.loop-entry-test.true c.entry-item.is c.args.self.p
-                w.if-entry-self.false in
+            w.if-entry-self.false in
             omega (arith, same, c.loop-entry.invariant.cost);
       })
     ]

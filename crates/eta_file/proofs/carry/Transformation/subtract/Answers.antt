@@ -38,7 +38,7 @@ returns-in_err-out-clause-refused g c =
       stays = c.if-entry-self.true;
       refused =
           subst (λ (x : ℚ). IsRestRefused c.args.self.way c.args.self.p c.args.self.q c.entry-item.result.i c.args.j x c.args.quotient
-              c.entry-item.result.rate c.in_err-out.field-0.0) is_old c.in_err-out.ensures.refused;
+          c.entry-item.result.rate c.in_err-out.field-0.0) is_old c.in_err-out.ensures.refused;
     })
 
 pub loop-entry-preserved : goal.loop-entry-preserved
@@ -56,7 +56,7 @@ loop-entry-preserved g c =
         cost =
             let more =
             others_next_other c.args.entries.now c.loop-entry.entry-index c.entry-item.result c.loop-entry-test.true c.entry-item.is c.args.self.p
-                w.if-entry-self.true in
+            w.if-entry-self.true in
             omega (arith, more, w.in_ok-out.ensures.cost, c.loop-entry.invariant.cost);
       })
       | else-entry-self w ↦ rw (w.out-is, w.steps-is) (record {
@@ -68,7 +68,7 @@ loop-entry-preserved g c =
         cost =
             let same =
             others_next_same c.args.entries.now c.loop-entry.entry-index c.entry-item.result c.loop-entry-test.true c.entry-item.is c.args.self.p
-                w.if-entry-self.false in
+            w.if-entry-self.false in
             omega (arith, same, c.loop-entry.invariant.cost);
       })
     ]

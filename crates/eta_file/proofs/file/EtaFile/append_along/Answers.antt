@@ -33,6 +33,6 @@ append_entries-requires c =
           ∙ ap (λ xs. value_at xs c.args.p) c.values-values.ensures;
       are_entries =
           entries_along f.matrix f.basics counted c.args.q enters c.args.direction.now places direction c.nonzero.result.now c.nonzero.ensures
-              c.values-values.result.now c.values-values.ensures
+          c.values-values.result.now c.values-values.ensures
           c.in_ok-entries.entries.items c.in_ok-entries.ensures;
     })

@@ -17,5 +17,5 @@ pub append_carried-requires-clause-pivot : goal.append_carried-requires-clause-p
 append_carried-requires-clause-pivot c =
     rw c.deref.ensures.value
     (pivot_apart c.args.self.now.matrix c.args.self.now.basics c.size-size.ensures.nonsingular c.args.p c.args.q c.requires.leaves
-        c.column_to.new.workspace.direction.items
+    c.column_to.new.workspace.direction.items
     c.in_ok-column_to.ensures.direction c.requires.pivot)

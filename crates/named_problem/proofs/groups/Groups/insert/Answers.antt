@@ -23,7 +23,7 @@ overflow_add-self c =
     (c.self.inside.count + c.len-added.result) c.len-added.result c.self.invariant.1 c.in_ok-insert_new.ensures.placed c.len-added.ensures refl in
     let short =
     short_placed c.self.inside.groups.entries c.insert_new.new.values.entries c.args.place c.args.name c.args.items c.len-added.result c.self.invariant.2
-        c.in_ok-insert_new.ensures.placed c.len-added.ensures few in
+    c.in_ok-insert_new.ensures.placed c.len-added.ensures few in
     let fits = total_fits c.insert_new.new.values.entries c.len-names.result short c.len-names.ensures.len names in
     omega (arith, counted, fits)
 

@@ -16,7 +16,7 @@ settle-requires c =
     IfOk-weaker c.take_column_into-taken.result (λ lengths. IsPut name items c.self.inside.groups.entries new lengths.before lengths.after)
     (λ lengths. IsCountBefore (map group_at new) c.self.inside.count lengths.before lengths.after)
     (λ lengths put. put_kept name items c.self.inside.groups.entries new c.self.inside.count lengths.before lengths.after c.self.invariant.1
-        c.self.invariant.2 put)
+    c.self.invariant.2 put)
     c.take_column_into-taken.ensures.put
 
 pub invariant_of-self : goal.invariant_of-self

@@ -39,7 +39,7 @@ returns-in_default-clause-turn g c =
     face_done c.args.self.now.lp.now c.args.self.now.shift.now c.requires.fits.lawful c.requires.fits.no_change c.args.theta c.args.basis.now at
     (value_at c.args.workspace.now.point.items) (value_at c.args.workspace.now.change.items) c.requires.workspace.point c.requires.workspace.change
     (subst (λ (o : Option Leaver). IsFaceLeaver c.args.self.now.lp.now c.args.self.now.shift.now c.args.theta c.args.basis.now o) c.in_default.is
-        c.in-Ok.ensures.leaver)
+    c.in-Ok.ensures.leaver)
 
 pub returns-in_default-clause-rates : goal.returns-in_default-clause-rates
 returns-in_default-clause-rates g c =
@@ -51,7 +51,7 @@ entering-requires-clause-basic g c =
     record { is_basis = c.requires.rates.is_basis; nonsingular = c.requires.rates.nonsingular } in
     let found : IsFaceLeaver c.args.self.now.lp.now c.args.self.now.shift.now c.args.theta c.args.basis.now (Some c.in-Some.leaver)
     = subst (λ (o : Option Leaver). IsFaceLeaver c.args.self.now.lp.now c.args.self.now.shift.now c.args.theta c.args.basis.now o) c.in-Some.is
-        c.in-Ok.ensures.leaver in
+    c.in-Ok.ensures.leaver in
     basic c.args.self.now.lp.now c.args.self.now.shift.now c.requires.fits.lawful c.requires.fits.no_change c.args.theta c.args.basis.now at
     (value_at c.args.workspace.now.point.items)
     (value_at c.args.workspace.now.change.items) c.requires.workspace.point c.requires.workspace.change c.in-Some.leaver found
@@ -62,7 +62,7 @@ returns-in_err-chosen-clause-turn g c =
     record { is_basis = c.requires.rates.is_basis; nonsingular = c.requires.rates.nonsingular } in
     let found : IsFaceLeaver c.args.self.now.lp.now c.args.self.now.shift.now c.args.theta c.args.basis.now (Some c.in-Some.leaver)
     = subst (λ (o : Option Leaver). IsFaceLeaver c.args.self.now.lp.now c.args.self.now.shift.now c.args.theta c.args.basis.now o) c.in-Some.is
-        c.in-Ok.ensures.leaver in
+    c.in-Ok.ensures.leaver in
     let p = err_from_is_err_and c.from_residual.result c.from_residual.ensures.1 in
     rw (p.1, p.2)
     (λ from. entry_stops c.args.self.now.lp.now c.args.self.now.shift.now c.requires.fits.lawful c.requires.fits.no_change c.args.theta c.args.basis.now at
@@ -77,10 +77,10 @@ returns-in_default-chosen-clause-turn g c =
     record { is_basis = c.requires.rates.is_basis; nonsingular = c.requires.rates.nonsingular } in
     let found : IsFaceLeaver c.args.self.now.lp.now c.args.self.now.shift.now c.args.theta c.args.basis.now (Some c.in-Some.leaver)
     = subst (λ (o : Option Leaver). IsFaceLeaver c.args.self.now.lp.now c.args.self.now.shift.now c.args.theta c.args.basis.now o) c.in-Some.is
-        c.in-Ok.ensures.leaver in
+    c.in-Ok.ensures.leaver in
     let read =
     row_kept (rhs_problem c.args.self.now.lp.now c.args.self.now.shift.now) c.args.basis.now c.args.workspace.now c.entering.new.workspace
-        c.requires.workspace c.in_ok-chosen.ensures.others c.in_ok-chosen.ensures.places in
+    c.requires.workspace c.in_ok-chosen.ensures.others c.in_ok-chosen.ensures.places in
     let is = c.in_ok-end.ensures in
     subst (λ (e : ParaEnd). IsRhsFace c.args.self.now.lp.now c.args.self.now.shift.now c.args.theta c.args.basis.now (FaceEnds (end_of e))) (sym is.is_end)
     (face_ends c.args.self.now.lp.now c.args.self.now.shift.now c.requires.fits.lawful c.requires.fits.no_change c.args.theta c.args.basis.now at
@@ -95,19 +95,23 @@ returns-then-left-eq0-clause-turn g c =
     record { is_basis = c.requires.rates.is_basis; nonsingular = c.requires.rates.nonsingular } in
     let found : IsFaceLeaver c.args.self.now.lp.now c.args.self.now.shift.now c.args.theta c.args.basis.now (Some c.in-Some.leaver)
     = subst (λ (o : Option Leaver). IsFaceLeaver c.args.self.now.lp.now c.args.self.now.shift.now c.args.theta c.args.basis.now o) c.in-Some.is
-        c.in-Ok.ensures.leaver in
+    c.in-Ok.ensures.leaver in
     let read =
     row_kept (rhs_problem c.args.self.now.lp.now c.args.self.now.shift.now) c.args.basis.now c.args.workspace.now c.entering.new.workspace
-        c.requires.workspace c.in_ok-chosen.ensures.others c.in_ok-chosen.ensures.places in
+    c.requires.workspace c.in_ok-chosen.ensures.others c.in_ok-chosen.ensures.places in
     λ from. (
       c.if-left-eq0.true,
       (
         after c.args.basis.now (record { enters = c.in-Some-chosen.q; leaves = c.in-Some.leaver.r; to = goes_to c.in-Some.leaver }),
-        (record { enters = c.in-Some-chosen.q; leaves = c.in-Some.leaver.r; to = goes_to c.in-Some.leaver }, face_moves c.args.self.now.lp.now
-            c.args.self.now.shift.now c.requires.fits.lawful c.requires.fits.no_change c.args.theta c.args.basis.now at
-            (value_at c.args.workspace.now.point.items) (value_at c.args.workspace.now.change.items) c.requires.workspace.point c.requires.workspace.change
-            c.in-Some.leaver found (value_at c.entering.new.workspace.prices.items) (value_at c.entering.new.workspace.row.items) read.prices
-            c.in_ok-chosen.ensures.row c.in-Some-chosen.q (sym c.in_ok-chosen.ensures.chosen ∙ c.in-Some-chosen.is), refl),
+        (
+          record { enters = c.in-Some-chosen.q; leaves = c.in-Some.leaver.r; to = goes_to c.in-Some.leaver },
+          face_moves c.args.self.now.lp.now
+              c.args.self.now.shift.now c.requires.fits.lawful c.requires.fits.no_change c.args.theta c.args.basis.now at
+              (value_at c.args.workspace.now.point.items) (value_at c.args.workspace.now.change.items) c.requires.workspace.point c.requires.workspace.change
+              c.in-Some.leaver found (value_at c.entering.new.workspace.prices.items) (value_at c.entering.new.workspace.row.items) read.prices
+              c.in_ok-chosen.ensures.row c.in-Some-chosen.q (sym c.in_ok-chosen.ensures.chosen ∙ c.in-Some-chosen.is),
+          refl,
+        ),
       ),
     )
 
@@ -117,10 +121,10 @@ return_of-requires-clause-nonbasic g c =
     record { is_basis = c.requires.rates.is_basis; nonsingular = c.requires.rates.nonsingular } in
     let found : IsFaceLeaver c.args.self.now.lp.now c.args.self.now.shift.now c.args.theta c.args.basis.now (Some c.in-Some.leaver)
     = subst (λ (o : Option Leaver). IsFaceLeaver c.args.self.now.lp.now c.args.self.now.shift.now c.args.theta c.args.basis.now o) c.in-Some.is
-        c.in-Ok.ensures.leaver in
+    c.in-Ok.ensures.leaver in
     let read =
     row_kept (rhs_problem c.args.self.now.lp.now c.args.self.now.shift.now) c.args.basis.now c.args.workspace.now c.entering.new.workspace
-        c.requires.workspace c.in_ok-chosen.ensures.others c.in_ok-chosen.ensures.places in
+    c.requires.workspace c.in_ok-chosen.ensures.others c.in_ok-chosen.ensures.places in
     face_enters c.args.self.now.lp.now c.args.self.now.shift.now c.requires.fits.lawful c.requires.fits.no_change c.args.theta c.args.basis.now at
     (value_at c.args.workspace.now.point.items)
     (value_at c.args.workspace.now.change.items) c.requires.workspace.point c.requires.workspace.change c.in-Some.leaver found
@@ -134,7 +138,7 @@ return_of-requires-clause-basic g c =
     record { is_basis = c.requires.rates.is_basis; nonsingular = c.requires.rates.nonsingular } in
     let found : IsFaceLeaver c.args.self.now.lp.now c.args.self.now.shift.now c.args.theta c.args.basis.now (Some c.in-Some.leaver)
     = subst (λ (o : Option Leaver). IsFaceLeaver c.args.self.now.lp.now c.args.self.now.shift.now c.args.theta c.args.basis.now o) c.in-Some.is
-        c.in-Ok.ensures.leaver in
+    c.in-Ok.ensures.leaver in
     basic c.args.self.now.lp.now c.args.self.now.shift.now c.requires.fits.lawful c.requires.fits.no_change c.args.theta c.args.basis.now at
     (value_at c.args.workspace.now.point.items)
     (value_at c.args.workspace.now.change.items) c.requires.workspace.point c.requires.workspace.change c.in-Some.leaver found
@@ -145,10 +149,10 @@ return_of-requires-clause-limit g c =
     record { is_basis = c.requires.rates.is_basis; nonsingular = c.requires.rates.nonsingular } in
     let found : IsFaceLeaver c.args.self.now.lp.now c.args.self.now.shift.now c.args.theta c.args.basis.now (Some c.in-Some.leaver)
     = subst (λ (o : Option Leaver). IsFaceLeaver c.args.self.now.lp.now c.args.self.now.shift.now c.args.theta c.args.basis.now o) c.in-Some.is
-        c.in-Ok.ensures.leaver in
+    c.in-Ok.ensures.leaver in
     let read =
     row_kept (rhs_problem c.args.self.now.lp.now c.args.self.now.shift.now) c.args.basis.now c.args.workspace.now c.entering.new.workspace
-        c.requires.workspace c.in_ok-chosen.ensures.others c.in_ok-chosen.ensures.places in
+    c.requires.workspace c.in_ok-chosen.ensures.others c.in_ok-chosen.ensures.places in
     let limit =
     face_limit c.args.self.now.lp.now c.args.self.now.shift.now c.requires.fits.lawful c.requires.fits.no_change c.args.theta c.args.basis.now at
     (value_at c.args.workspace.now.point.items)
@@ -164,10 +168,10 @@ return_of-requires-clause-pivot g c =
     record { is_basis = c.requires.rates.is_basis; nonsingular = c.requires.rates.nonsingular } in
     let found : IsFaceLeaver c.args.self.now.lp.now c.args.self.now.shift.now c.args.theta c.args.basis.now (Some c.in-Some.leaver)
     = subst (λ (o : Option Leaver). IsFaceLeaver c.args.self.now.lp.now c.args.self.now.shift.now c.args.theta c.args.basis.now o) c.in-Some.is
-        c.in-Ok.ensures.leaver in
+    c.in-Ok.ensures.leaver in
     let read =
     row_kept (rhs_problem c.args.self.now.lp.now c.args.self.now.shift.now) c.args.basis.now c.args.workspace.now c.entering.new.workspace
-        c.requires.workspace c.in_ok-chosen.ensures.others c.in_ok-chosen.ensures.places in
+    c.requires.workspace c.in_ok-chosen.ensures.others c.in_ok-chosen.ensures.places in
     face_pivot c.args.self.now.lp.now c.args.self.now.shift.now c.requires.fits.lawful c.requires.fits.no_change c.args.theta c.args.basis.now at
     (value_at c.args.workspace.now.point.items)
     (value_at c.args.workspace.now.change.items) c.requires.workspace.point c.requires.workspace.change c.in-Some.leaver found
@@ -181,24 +185,24 @@ returns-in_err-by-clause-turn g c =
     record { is_basis = c.requires.rates.is_basis; nonsingular = c.requires.rates.nonsingular } in
     let found : IsFaceLeaver c.args.self.now.lp.now c.args.self.now.shift.now c.args.theta c.args.basis.now (Some c.in-Some.leaver)
     = subst (λ (o : Option Leaver). IsFaceLeaver c.args.self.now.lp.now c.args.self.now.shift.now c.args.theta c.args.basis.now o) c.in-Some.is
-        c.in-Ok.ensures.leaver in
+    c.in-Ok.ensures.leaver in
     let read =
     row_kept (rhs_problem c.args.self.now.lp.now c.args.self.now.shift.now) c.args.basis.now c.args.workspace.now c.entering.new.workspace
-        c.requires.workspace c.in_ok-chosen.ensures.others c.in_ok-chosen.ensures.places in
+    c.requires.workspace c.in_ok-chosen.ensures.others c.in_ok-chosen.ensures.places in
     let p = err_from_is_err_and c.from_residual-in_err-by.result c.from_residual-in_err-by.ensures.1 in
     rw (p.1, p.2)
     (λ from. return_stops c.args.self.now.lp.now c.args.self.now.shift.now c.requires.fits.lawful c.requires.fits.no_change c.args.theta c.args.basis.now from
-        c.args.left (g.R.Rates.state c.args.rates.now).waypoints (g.R.Rates.state c.return_of.new.rates).waypoints at
-        (value_at c.entering.new.workspace.point.items) (value_at c.entering.new.workspace.change.items) read.point read.change
-        (g.R.Rates.state c.entering.new.rates).waypoints c.in_ok-chosen.ensures.rates.1
+    c.args.left (g.R.Rates.state c.args.rates.now).waypoints (g.R.Rates.state c.return_of.new.rates).waypoints at
+    (value_at c.entering.new.workspace.point.items) (value_at c.entering.new.workspace.change.items) read.point read.change
+    (g.R.Rates.state c.entering.new.rates).waypoints c.in_ok-chosen.ensures.rates.1
     c.in-Some-chosen.q c.in-Some.leaver.r (goes_to c.in-Some.leaver)
     (basic c.args.self.now.lp.now c.args.self.now.shift.now c.requires.fits.lawful c.requires.fits.no_change c.args.theta c.args.basis.now at
     (value_at c.args.workspace.now.point.items)
     (value_at c.args.workspace.now.change.items) c.requires.workspace.point c.requires.workspace.change c.in-Some.leaver found)
     (face_enters c.args.self.now.lp.now c.args.self.now.shift.now c.requires.fits.lawful c.requires.fits.no_change c.args.theta c.args.basis.now at
-        (value_at c.args.workspace.now.point.items) (value_at c.args.workspace.now.change.items) c.requires.workspace.point c.requires.workspace.change
-        c.in-Some.leaver found (value_at c.entering.new.workspace.prices.items) (value_at c.entering.new.workspace.row.items) read.prices
-        c.in_ok-chosen.ensures.row c.in-Some-chosen.q (sym c.in_ok-chosen.ensures.chosen ∙ c.in-Some-chosen.is) c.requires.optimal)
+    (value_at c.args.workspace.now.point.items) (value_at c.args.workspace.now.change.items) c.requires.workspace.point c.requires.workspace.change
+    c.in-Some.leaver found (value_at c.entering.new.workspace.prices.items) (value_at c.entering.new.workspace.row.items) read.prices
+    c.in_ok-chosen.ensures.row c.in-Some-chosen.q (sym c.in_ok-chosen.ensures.chosen ∙ c.in-Some-chosen.is) c.requires.optimal)
     (face_moves c.args.self.now.lp.now c.args.self.now.shift.now c.requires.fits.lawful c.requires.fits.no_change c.args.theta c.args.basis.now at
     (value_at c.args.workspace.now.point.items)
     (value_at c.args.workspace.now.change.items) c.requires.workspace.point c.requires.workspace.change c.in-Some.leaver found
@@ -206,9 +210,9 @@ returns-in_err-by-clause-turn g c =
     (value_at c.entering.new.workspace.row.items) read.prices c.in_ok-chosen.ensures.row c.in-Some-chosen.q
     (sym c.in_ok-chosen.ensures.chosen ∙ c.in-Some-chosen.is))
     (face_pivot c.args.self.now.lp.now c.args.self.now.shift.now c.requires.fits.lawful c.requires.fits.no_change c.args.theta c.args.basis.now at
-        (value_at c.args.workspace.now.point.items) (value_at c.args.workspace.now.change.items) c.requires.workspace.point c.requires.workspace.change
-        c.in-Some.leaver found (value_at c.entering.new.workspace.prices.items) (value_at c.entering.new.workspace.row.items) read.prices
-        c.in_ok-chosen.ensures.row c.in-Some-chosen.q (sym c.in_ok-chosen.ensures.chosen ∙ c.in-Some-chosen.is) c.requires.optimal)
+    (value_at c.args.workspace.now.point.items) (value_at c.args.workspace.now.change.items) c.requires.workspace.point c.requires.workspace.change
+    c.in-Some.leaver found (value_at c.entering.new.workspace.prices.items) (value_at c.entering.new.workspace.row.items) read.prices
+    c.in_ok-chosen.ensures.row c.in-Some-chosen.q (sym c.in_ok-chosen.ensures.chosen ∙ c.in-Some-chosen.is) c.requires.optimal)
     c.in_err-by.field-0.0 c.in_err-by.ensures.overflow)
 
 pub returns-in_err-by-clause-rates : goal.returns-in_err-by-clause-rates
@@ -221,14 +225,14 @@ returns-clause-turn g c =
     record { is_basis = c.requires.rates.is_basis; nonsingular = c.requires.rates.nonsingular } in
     let found : IsFaceLeaver c.args.self.now.lp.now c.args.self.now.shift.now c.args.theta c.args.basis.now (Some c.in-Some.leaver)
     = subst (λ (o : Option Leaver). IsFaceLeaver c.args.self.now.lp.now c.args.self.now.shift.now c.args.theta c.args.basis.now o) c.in-Some.is
-        c.in-Ok.ensures.leaver in
+    c.in-Ok.ensures.leaver in
     let read =
     row_kept (rhs_problem c.args.self.now.lp.now c.args.self.now.shift.now) c.args.basis.now c.args.workspace.now c.entering.new.workspace
-        c.requires.workspace c.in_ok-chosen.ensures.others c.in_ok-chosen.ensures.places in
+    c.requires.workspace c.in_ok-chosen.ensures.others c.in_ok-chosen.ensures.places in
     let last =
     direction_kept
     (rhs_problem c.args.self.now.lp.now c.args.self.now.shift.now) c.args.basis.now c.entering.new.workspace c.return_of.new.workspace read
-        c.in_ok-by.ensures.others c.in_ok-by.ensures.places in
+    c.in_ok-by.ensures.others c.in_ok-by.ensures.places in
     let left = c.if-left-eq0.false in
     let by_is : c.in_ok-by.by ≡ return_by c.args.self.now.lp.now (value_at c.return_of.new.workspace.point.items)
     (value_at c.return_of.new.workspace.direction) c.in-Some.leaver.r (goes_to c.in-Some.leaver) = c.in_ok-by.ensures.blocking_variable in
@@ -272,11 +276,16 @@ returns-clause-turn g c =
           (value_at c.entering.new.workspace.row.items) read.prices c.in_ok-chosen.ensures.row c.in-Some-chosen.q
           (sym c.in_ok-chosen.ensures.chosen ∙ c.in-Some-chosen.is) c.requires.optimal);
       ready =
-          record { nonbasic = face_enters c.args.self.now.lp.now c.args.self.now.shift.now c.requires.fits.lawful c.requires.fits.no_change c.args.theta
-              c.args.basis.now at (value_at c.return_of.new.workspace.point.items) (value_at c.return_of.new.workspace.change.items) last.point last.change
-              c.in-Some.leaver found (value_at c.entering.new.workspace.prices.items) (value_at c.entering.new.workspace.row.items) read.prices
-              c.in_ok-chosen.ensures.row c.in-Some-chosen.q (sym c.in_ok-chosen.ensures.chosen ∙ c.in-Some-chosen.is) c.requires.optimal; direction =
-              c.in_ok-by.ensures.direction; pivot = pivot; step = step };
+          record {
+            nonbasic = face_enters c.args.self.now.lp.now c.args.self.now.shift.now c.requires.fits.lawful c.requires.fits.no_change c.args.theta
+                c.args.basis.now at (value_at c.return_of.new.workspace.point.items) (value_at c.return_of.new.workspace.change.items) last.point last.change
+                c.in-Some.leaver found (value_at c.entering.new.workspace.prices.items) (value_at c.entering.new.workspace.row.items) read.prices
+                c.in_ok-chosen.ensures.row c.in-Some-chosen.q (sym c.in_ok-chosen.ensures.chosen ∙ c.in-Some-chosen.is) c.requires.optimal;
+            direction =
+                c.in_ok-by.ensures.direction;
+            pivot = pivot;
+            step = step;
+          };
       is_left = omega (arith, left);
       refused = λ from before now e h.
           of_step c.args.self.now.lp.now c.args.self.now.shift.now c.requires.fits.lawful c.requires.fits.no_change c.args.theta c.args.basis.now at
@@ -289,15 +298,15 @@ pub returns-clause-workspace : goal.returns-clause-workspace
 returns-clause-workspace g c =
     let read =
     row_kept (rhs_problem c.args.self.now.lp.now c.args.self.now.shift.now) c.args.basis.now c.args.workspace.now c.entering.new.workspace
-        c.requires.workspace c.in_ok-chosen.ensures.others c.in_ok-chosen.ensures.places in
+    c.requires.workspace c.in_ok-chosen.ensures.others c.in_ok-chosen.ensures.places in
     direction_kept
     (rhs_problem c.args.self.now.lp.now c.args.self.now.shift.now) c.args.basis.now c.entering.new.workspace c.return_of.new.workspace read
-        c.in_ok-by.ensures.others c.in_ok-by.ensures.places
+    c.in_ok-by.ensures.others c.in_ok-by.ensures.places
 
 pub returns-in_default-chosen-clause-workspace : goal.returns-in_default-chosen-clause-workspace
 returns-in_default-chosen-clause-workspace g c =
     row_kept (rhs_problem c.args.self.now.lp.now c.args.self.now.shift.now) c.args.basis.now c.args.workspace.now c.entering.new.workspace
-        c.requires.workspace c.in_ok-chosen.ensures.others c.in_ok-chosen.ensures.places
+    c.requires.workspace c.in_ok-chosen.ensures.others c.in_ok-chosen.ensures.places
 
 pub returns-clause-rates : goal.returns-clause-rates
 returns-clause-rates g c =

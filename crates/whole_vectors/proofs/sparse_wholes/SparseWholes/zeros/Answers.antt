@@ -14,7 +14,7 @@ invariant_of-result c =
     record {
       listed =
           zeros_listed c.args.size c.in_ok-vec.field-0.items c.in_ok-with_capacity.field-0.items c.in_ok-vec-2.field-0.items numbers
-              c.in_ok-with_capacity.ensures.items (search rules);
+          c.in_ok-with_capacity.ensures.items (search rules);
       fit = subst (λ ns. All Fits ns) (sym numbers) (All-replicate Fits c.args.size (pos 0) nought);
     }
 
