@@ -1,5 +1,5 @@
 //! A step that isn't a whole number. The values that it moves have mostly one denominator, so have the rates, and so has what they make:
-//! with these at hand most values take two products and a quotient, and no greatest common divisor.
+//! with these at hand most values take three products, a sum and a quotient, and no greatest common divisor.
 
 ghost use Rattle.std.specs.Prelude.{◌≡◌, ◌<◌, ◌≤ℤ◌, ◌*ℤ◌, pos, IfSome};
 ghost use Rattle.exact_values.specs.Rational.{whole, ◌+ℚ◌, ◌*ℚ◌};
