@@ -9,7 +9,7 @@ use Rattle.exact_values.specs.Rational.{ℚ, zero_ℚ, ◌+ℚ◌, ◌*ℚ◌}
 use Rattle.lp_definitions.specs.LinearProgram.{Matrix, Vector, numbers_from}
 use Rattle.lp_definitions.specs.Basis.{Basics, is_in, IsBasic, IsNonbasic, AreRates}
 use Rattle.lp_definitions.specs.declared.Evidence.{Evidence}
-use Rattle.basis_values.specs.Formulas.{IsTermRefusal}
+use Rattle.basis_values.specs.Formulas.{formula_of_rate, IsTermRefusal}
 use Rattle.basis_values.specs.declared.formula.Formula.{Formula}
 
 abbrev pub nonbasics_to : Basics → ℕ → List ℕ
@@ -32,7 +32,7 @@ added_at b d v z k = if is_in b k then z k +ℚ d k *ℚ v else z k
 
 -- the formula of the sum of i, at the nonbasic j before which so many others stand
 abbrev pub term_of : ℕ → ℕ → ℕ → Formula
-term_of i j term = record { number = 10; p = 0; q = 0; i = i; j = j; term = term; theta = zero_ℚ }
+term_of i j term = formula_of_rate 10 i j term
 
 -- v times d is added at the first n variables
 abbrev pub AreAdded : Basics → Vector → ℚ → Vector → ℕ → Vector → Type 0

@@ -4,7 +4,7 @@
 ghost use Rattle.std.specs.Prelude.{◌≡◌, ◌≢◌, ◌↔◌, IsTrue, IfOk, IfErr, IfSome, OnErr};
 ghost use Rattle.exact_values.specs.Rational.{zero_ℚ, one_ℚ, ◌+ℚ◌, ◌-ℚ◌, ◌*ℚ◌, ◌/ℚ◌};
 ghost use Rattle.lp_definitions.specs.RatesEvidence.{Names};
-ghost use Rattle.basis_values.specs.Formulas.{IsRefusal, IsTermRefusal};
+ghost use Rattle.basis_values.specs.Formulas.{formula_of_rate, IsRefusal, IsTermRefusal};
 
 use frac128::{Frac, Op, Refused};
 use lp_model::Evidence;
@@ -37,6 +37,22 @@ pub fn plus_product(sum: Frac, x: Frac, y: Frac) -> Option<Frac>
 }
 
 impl Formula {
+    /// A formula of the rate of `i` at `j`, with its term.
+    #[inline(always)]
+    pub fn of_rate(number: u8, i: u32, j: u32, term: u32) -> Formula
+        ensures { result ≡ formula_of_rate number i j term }
+    {
+        Formula {
+            number,
+            p: 0,
+            q: 0,
+            i,
+            j,
+            term,
+            theta: Frac::whole(0),
+        }
+    }
+
     /// Evidence that an operation is refused.
     pub fn evidence(self, refused: Refused) -> Evidence
         ensures names { Names result self.number self.p self.q self.i self.j self.term }

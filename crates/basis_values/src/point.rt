@@ -56,15 +56,7 @@ impl Summand {
     fn formula(&self, i: u32) -> Formula
         ensures { result ≡ term_of i self.now.j self.now.before }
     {
-        Formula {
-            number: 10,
-            p: 0,
-            q: 0,
-            i,
-            j: self.j,
-            term: self.before,
-            theta: Frac::whole(0),
-        }
+        Formula::of_rate(10, i, self.j, self.before)
     }
 
     /// What `i` comes to, whose rate this is: a basic's sum with the rate times the value, and a nonbasic's value as it is.

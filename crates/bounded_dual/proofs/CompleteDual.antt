@@ -19,9 +19,10 @@ use Rattle.bounded_primal.proofs.CompletePaths.{answers_end}
 use Rattle.bounded_primal.proofs.TrueOutcomes.{true_end}
 use Rattle.simplex_laws.proofs.DualTurns.{dual_end, never_unbounded, not_both_prices}
 use Rattle.simplex_laws.proofs.OneDualPath.{dual_path_leads, path_right, one_path, not_both}
+use Rattle.bounded_primal.specs.declared.moves.PrimalStop.TheVariants.{Limit, Overflow, NoMemory}
 use Rattle.bounded_dual.specs.Stops.{DualEnds, DualStopsAlong, IsNotUnbounded}
 use Rattle.bounded_dual.specs.declared.moves.DualStop.{DualStop}
-use Rattle.bounded_dual.specs.declared.moves.DualStop.TheVariants.{NotDualFeasible, Limit, Overflow, NoMemory}
+use Rattle.bounded_dual.specs.declared.moves.DualStop.TheVariants.{NotDualFeasible, Path}
 
 module _ (p : LinearProgram) (lawful : IsLinearProgram p) (no_change : p.change ≡ None) (a : Matrix) (b : Basics) (s : List Status)
     (has : HasRates a b p s) where
@@ -69,11 +70,11 @@ module _ (p : LinearProgram) (lawful : IsLinearProgram p) (no_change : p.change 
   -- where the path ends from right prices and nothing stops the call, it answers this end
   pub dual_answered : (now : List Status) (limit : ℕ) (before more : List Basics) (bases : List (List Status)) (ending : PathEnding)
       (result : Result Outcome DualStop) → IfOk result (DualEnds p s now limit) → IfErr result (DualStopsAlong p s now limit before more) →
-      HasRightPrices p s → RuleEndsOverflowFree dual_turn (Dual p) p s limit before bases ending → IsEndOr NoMemory s bases ending now result
+      HasRightPrices p s → RuleEndsOverflowFree dual_turn (Dual p) p s limit before bases ending → IsEndOr (Path NoMemory) s bases ending now result
   dual_answered now limit before more bases ending (Ok outcome) ends stops right goes =
-      answers_end dual_turn p (one_path p lawful) s at now bases ending limit NoMemory outcome goes.ends ends.call
+      answers_end dual_turn p (one_path p lawful) s at now bases ending limit (Path NoMemory) outcome goes.ends ends.call
   dual_answered now limit before more bases ending (Err (NotDualFeasible j)) ends stops right goes = absurd (not_both_prices p s j lawful at right stops.0)
-  dual_answered now limit before more bases ending (Err Limit) ends stops right goes =
+  dual_answered now limit before more bases ending (Err (Path Limit)) ends stops right goes =
       absurd (not_both p lawful limit s at (record { bases = bases; ending = ending; ends = goes.ends; within = goes.within }) stops.1.goes_on)
-  dual_answered now limit before more bases ending (Err (Overflow e)) ends stops right goes = absurd (goes.no_evidence now more e stops)
-  dual_answered now limit before more bases ending (Err NoMemory) ends stops right goes = inr refl
+  dual_answered now limit before more bases ending (Err (Path (Overflow e))) ends stops right goes = absurd (goes.no_evidence now more e stops)
+  dual_answered now limit before more bases ending (Err (Path NoMemory)) ends stops right goes = inr refl

@@ -38,9 +38,10 @@ use Rattle.dual_step.specs.Cheapest.{brings, cheapest_by, SomeRatioRefused}
 use Rattle.dual_step.proofs.BestRatio.{brings_apart}
 use Rattle.dual_step.proofs.RatioChoice.{row_at, brings_is, cheapest_is}
 use Rattle.dual_step.proofs.StepEvidence.{of_point, of_ratio, of_return}
+use Rattle.bounded_primal.specs.declared.moves.PrimalStop.TheVariants.{Limit}
 use Rattle.bounded_dual.specs.Stops.{dual_stop_of}
 use Rattle.bounded_dual.specs.Turns.{DualMovesOn, DualTurnStops}
-use Rattle.bounded_dual.specs.declared.moves.DualStop.TheVariants.{Limit}
+use Rattle.bounded_dual.specs.declared.moves.DualStop.TheVariants.{Path}
 use Rattle.bounded_dual.proofs.DualEvidence.{dual_own}
 
 limit_apart : (b : Bool) → (if b then Ll else Ul) ≢ Bs
@@ -131,7 +132,7 @@ module _ (p : LinearProgram) (lawful : IsLinearProgram p) (no_change : p.change 
     return_move : RuleMoves dual_turn p s (record { enters = q; leaves = r; to = to })
     return_move = (t, is_t, turn_is (Some q) chosen ∙ ap (λ (x : Status). Moves (record { enters = q; leaves = r; to = x })) limit_is)
 
-    pub return_at_limit : (left : ℕ) (before now : List Basics) → left ≡ 0 → DualTurnStops p s left before now Limit
+    pub return_at_limit : (left : ℕ) (before now : List Basics) → left ≡ 0 → DualTurnStops p s left before now (Path Limit)
     return_at_limit left before now none = (
       none,
       (

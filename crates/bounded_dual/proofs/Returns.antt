@@ -8,11 +8,12 @@ use Rattle.simplex_definitions.specs.DualPath.{dual_turn, HasRightPrices}
 use Rattle.simplex_laws.specs.Laws.{IsNonsingularBasis}
 use Rattle.basis_values.specs.Calls.{HasRates}
 use Rattle.bounded_primal.specs.Calls.{RuleNeverReturned, RuleWaypointsFollow}
+use Rattle.bounded_primal.specs.declared.moves.PrimalStop.TheVariants.{Limit, Overflow, NoMemory}
 use Rattle.termination_laws.specs.Laws.{lists_of}
 use Rattle.termination_laws.proofs.Ending.{dual_apart, dual_limited}
 use Rattle.bounded_dual.specs.Stops.{DualStopsAlong}
 use Rattle.bounded_dual.specs.declared.moves.DualStop.{DualStop}
-use Rattle.bounded_dual.specs.declared.moves.DualStop.TheVariants.{NotDualFeasible, Limit, Overflow, NoMemory}
+use Rattle.bounded_dual.specs.declared.moves.DualStop.TheVariants.{NotDualFeasible, Path}
 
 module _ (p : LinearProgram) (lawful : IsLinearProgram p) (no_change : p.change ≡ None) (a : Matrix) (b : Basics) (s : List Status)
     (has : HasRates a b p s) where
@@ -26,9 +27,9 @@ module _ (p : LinearProgram) (lawful : IsLinearProgram p) (no_change : p.change 
 
   -- a path that goes on after as many steps as the limit allows
   pub limit_below : {T : Type 0} (now : List Status) (limit : ℕ) (before after : List Basics) (result : Result T DualStop) →
-      IfErr result (DualStopsAlong p s now limit before after) → IsErrOf result Limit → limit < lists_of p
+      IfErr result (DualStopsAlong p s now limit before after) → IsErrOf result (Path Limit) → limit < lists_of p
   limit_below now limit before after (Ok value) h is = cc
   limit_below now limit before after (Err (NotDualFeasible j)) h is = cc
-  limit_below now limit before after (Err Limit) h is = let few = dual_limited p lawful no_change s limit begun h.0 h.1.goes_on in omega (arith, few)
-  limit_below now limit before after (Err (Overflow e)) h is = cc
-  limit_below now limit before after (Err NoMemory) h is = cc
+  limit_below now limit before after (Err (Path Limit)) h is = let few = dual_limited p lawful no_change s limit begun h.0 h.1.goes_on in omega (arith, few)
+  limit_below now limit before after (Err (Path (Overflow e))) h is = cc
+  limit_below now limit before after (Err (Path NoMemory)) h is = cc

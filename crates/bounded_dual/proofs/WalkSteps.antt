@@ -17,6 +17,7 @@ use Rattle.lp_model.specs.declared.reports.Outcome.{Outcome}
 use Rattle.bounded_primal.specs.Calls.{RuleWaypointsFollow}
 use Rattle.bounded_primal.specs.Moves.{move_by, StepRefused}
 use Rattle.bounded_primal.specs.declared.moves.BlockingVariable.{BlockingVariable}
+use Rattle.bounded_primal.specs.declared.moves.PrimalStop.TheVariants.{Limit, Overflow, NoMemory}
 use Rattle.bounded_primal.proofs.PathWalk.{HasReached, begins, goes_over, goes_on_there, overflows_there}
 use Rattle.bounded_primal.proofs.TurnEvidence.{step_refused_later}
 use Rattle.bounded_primal.proofs.Within.{lie_same}
@@ -26,7 +27,7 @@ use Rattle.dual_step.proofs.StepPrices.{prices_after}
 use Rattle.bounded_dual.specs.Stops.{dual_stop_of, DualStopsAlong}
 use Rattle.bounded_dual.specs.Turns.{DualMovesOn, DualTurnStops}
 use Rattle.bounded_dual.specs.declared.moves.DualStop.{DualStop}
-use Rattle.bounded_dual.specs.declared.moves.DualStop.TheVariants.{NotDualFeasible, Limit, Overflow, NoMemory}
+use Rattle.bounded_dual.specs.declared.moves.DualStop.TheVariants.{NotDualFeasible, Path}
 use Rattle.bounded_dual.proofs.DualEvidence.{dual_own, point_stops}
 
 module _ (p : LinearProgram) (s : List Status) (before : List Basics) (now : List Status) (ways : List Basics) (steps : ℕ)
@@ -35,10 +36,11 @@ module _ (p : LinearProgram) (s : List Status) (before : List Basics) (now : Lis
   pub stops_there : (limit : ℕ) (more : List Basics) (why : DualStop) → HasRightPrices p s → steps ≤ limit → DualTurnStops p now (limit - steps) ways more why →
       DualStopsAlong p s now limit before more why
   stops_there limit more (NotDualFeasible j) right within t = absurd t
-  stops_there limit more Limit right within t = (right, goes_on_there dual_turn p s before now ways steps h limit (omega (arith, t.0, within)) t.1.0 t.1.1)
-  stops_there limit more (Overflow e) right within t =
+  stops_there limit more (Path Limit) right within t =
+      (right, goes_on_there dual_turn p s before now ways steps h limit (omega (arith, t.0, within)) t.1.0 t.1.1)
+  stops_there limit more (Path (Overflow e)) right within t =
       overflows_there dual_turn p s before now ways steps h (Dual p) limit more e within t.is_way (λ earlier lie. t.shows [] earlier lie)
-  stops_there limit more NoMemory right within t = (h.bases, (h.path.0, h.path.1), omega (arith, h.taken, within))
+  stops_there limit more (Path NoMemory) right within t = (h.bases, (h.path.0, h.path.1), omega (arith, h.taken, within))
 
   -- a call at the basis stops; no price is found wrong there
   pub point_stops_there : (limit : ℕ) (more : List Basics) (why : Stop) → p.change ≡ None → steps ≤ limit → IfOverflow why (PointRefused p ways now more) →
@@ -104,8 +106,8 @@ module _ (p : LinearProgram) (s : List Status) (before ways : List Basics) (keep
   stop_before : (now : List Status) (limit : ℕ) (more : List Basics) (why : DualStop) → DualStopsAlong p s now limit ways more why →
       DualStopsAlong p s now limit before more why
   stop_before now limit more (NotDualFeasible j) h = h
-  stop_before now limit more Limit h = h
-  stop_before now limit more (Overflow e) h =
+  stop_before now limit more (Path Limit) h = h
+  stop_before now limit more (Path (Overflow e)) h =
       record {
         bases = h.bases;
         is_path = h.is_path;
@@ -115,7 +117,7 @@ module _ (p : LinearProgram) (s : List Status) (before ways : List Basics) (keep
         shows = λ earlier lie. h.shows earlier
             (lie_same p.matrix earlier s before ways keeps lie);
       }
-  stop_before now limit more NoMemory h = h
+  stop_before now limit more (Path NoMemory) h = h
 
   pub stops_before : (now : List Status) (limit : ℕ) (more : List Basics) (result : Result Outcome DualStop) →
       IfErr result (DualStopsAlong p s now limit ways more) → IfErr result (DualStopsAlong p s now limit before more)

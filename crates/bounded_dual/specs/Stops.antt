@@ -10,19 +10,19 @@ use Rattle.lp_definitions.specs.Basis.{Basics}
 use Rattle.lp_definitions.specs.declared.Status.{Status}
 use Rattle.lp_model.specs.RatesState.{RatesState}
 use Rattle.lp_model.specs.declared.Stop.{Stop}
-use Rattle.lp_model.specs.declared.Stop.TheVariants as stop
 use Rattle.lp_model.specs.declared.reports.Outcome.{Outcome}
 use Rattle.lp_model.specs.declared.reports.Outcome.TheVariants.{Optimal, Crossed, Infeasible, Unbounded}
 use Rattle.simplex_definitions.specs.Path.{last_of}
 use Rattle.simplex_definitions.specs.DualPath.{dual_turn, HasRightPrices, IsWrongAt, IsDualPath}
 use Rattle.simplex_definitions.specs.Statements.{Dual}
 use Rattle.bounded_primal.specs.Calls.{RuleCallEnds, RuleCallGoesOn, RuleStopsOnPath, RuleWaypointsFollow}
+use Rattle.bounded_primal.specs.Stops.{primal_stop_of}
+use Rattle.bounded_primal.specs.declared.moves.PrimalStop.TheVariants.{Limit, Overflow, NoMemory}
 use Rattle.bounded_dual.specs.declared.moves.DualStop.{DualStop}
-use Rattle.bounded_dual.specs.declared.moves.DualStop.TheVariants.{NotDualFeasible, Limit, Overflow, NoMemory}
+use Rattle.bounded_dual.specs.declared.moves.DualStop.TheVariants.{NotDualFeasible, Path}
 
 abbrev pub dual_stop_of : Stop → DualStop
-dual_stop_of (stop.Overflow e) = Overflow e
-dual_stop_of stop.NoMemory = NoMemory
+dual_stop_of why = Path (primal_stop_of why)
 
 -- the prices of s are right, and so are those of the basis where the path ends
 pub record DualEnds (p : LinearProgram) (s now : List Status) (limit : ℕ) (outcome : Outcome) : Type 0 where
@@ -34,9 +34,10 @@ pub record DualEnds (p : LinearProgram) (s now : List Status) (limit : ℕ) (out
 -- evidence on the path so far
 abbrev pub DualStopsAlong : LinearProgram → List Status → List Status → ℕ → List Basics → List Basics → DualStop → Type 0
 DualStopsAlong p s now limit before after (NotDualFeasible j) = IsWrongAt p s j × (now ≡ s)
-DualStopsAlong p s now limit before after Limit = HasRightPrices p s × RuleCallGoesOn dual_turn p s now limit
-DualStopsAlong p s now limit before after (Overflow e) = RuleStopsOnPath dual_turn (Dual p) p s now limit before after e
-DualStopsAlong p s now limit before after NoMemory = (bases : List (List Status)) × (IsDualPath p s bases × (last_of s bases ≡ now)) × (length bases ≤ limit)
+DualStopsAlong p s now limit before after (Path Limit) = HasRightPrices p s × RuleCallGoesOn dual_turn p s now limit
+DualStopsAlong p s now limit before after (Path (Overflow e)) = RuleStopsOnPath dual_turn (Dual p) p s now limit before after e
+DualStopsAlong p s now limit before after (Path NoMemory) =
+    (bases : List (List Status)) × (IsDualPath p s bases × (last_of s bases ≡ now)) × (length bases ≤ limit)
 
 -- of how the rates stand before and after the call
 abbrev pub DualStops : LinearProgram → List Status → List Status → ℕ → RatesState → RatesState → DualStop → Type 0

@@ -18,8 +18,9 @@ use Rattle.bounded_primal.specs.Turns.{RuleEndsHere}
 use Rattle.bounded_primal.specs.declared.moves.BlockingVariable.{BlockingVariable}
 use Rattle.bounded_primal.specs.declared.turns.Turn.{Turn}
 use Rattle.bounded_primal.specs.declared.turns.Turn.TheVariants.{Ends, Moves}
+use Rattle.bounded_primal.specs.declared.moves.PrimalStop.TheVariants.{Limit, Overflow, NoMemory}
 use Rattle.bounded_dual.specs.declared.moves.DualStop.{DualStop}
-use Rattle.bounded_dual.specs.declared.moves.DualStop.TheVariants.{NotDualFeasible, Limit, Overflow, NoMemory}
+use Rattle.bounded_dual.specs.declared.moves.DualStop.TheVariants.{NotDualFeasible, Path}
 
 -- the basic that leaves has the rates xs, and q the direction d
 pub record DualMovesOn (p : LinearProgram) (s : List Status) (d xs : Vector) (q : ℕ) (by : BlockingVariable) (left : ℕ) : Type 0 where
@@ -36,9 +37,9 @@ pub record DualMovesOn (p : LinearProgram) (s : List Status) (d xs : Vector) (q 
 
 abbrev pub DualTurnStops : LinearProgram → List Status → ℕ → List Basics → List Basics → DualStop → Type 0
 DualTurnStops p s left before after (NotDualFeasible j) = ⊥
-DualTurnStops p s left before after Limit = (left ≡ 0) × ((next : List Status) × IsDualStep p s next)
-DualTurnStops p s left before after (Overflow e) = EvidenceHere (Dual p) p.matrix None left s before after e
-DualTurnStops p s left before after NoMemory = Unit {0}
+DualTurnStops p s left before after (Path Limit) = (left ≡ 0) × ((next : List Status) × IsDualStep p s next)
+DualTurnStops p s left before after (Path (Overflow e)) = EvidenceHere (Dual p) p.matrix None left s before after e
+DualTurnStops p s left before after (Path NoMemory) = Unit {0}
 
 -- after so many steps, where so many more are allowed
 abbrev pub DualTurnFound : Result Turn DualStop → LinearProgram → List Status → ℕ → ℕ → Vector → Vector → RatesState → RatesState → Type 0

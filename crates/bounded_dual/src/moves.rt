@@ -1,30 +1,27 @@
 //! Why the dual method stops.
 
-use lp_model::{Evidence, NoMemory, Stop};
+use bounded_primal::PrimalStop;
+use lp_model::{NoMemory, Stop};
 use thiserror::Error;
 
-/// Why a call of the dual method stopped: the price of this nonbasic is wrong, its limit of steps, a number that was too large, as the
-/// evidence shows, or no memory.
+/// Why a call of the dual method stopped: the price of this nonbasic is wrong, or its path stopped.
 #[derive(Clone, Copy, Debug, PartialEq, Eq, Error)]
 pub enum DualStop {
     #[error("the price of variable {0} is wrong")]
     NotDualFeasible(u32),
-    #[error("the limit of steps is reached")]
-    Limit,
-    #[error("formula {}: {}", .0.formula, .0.refused)]
-    Overflow(Evidence),
-    #[error("there is no memory")]
-    NoMemory,
+    #[error("{0}")]
+    Path(PrimalStop),
 }
 
 impl From<NoMemory> for DualStop {
     ghost use Rattle.std.specs.Prelude.{◌≡◌};
+    ghost use Rattle.bounded_primal.specs.declared.moves.PrimalStop.TheVariants as path_stops;
     ghost use Rattle.bounded_dual.specs.declared.moves.DualStop.TheVariants as stops;
 
-    ghost from_gives = { λ _ stop. stop ≡ stops.NoMemory };
+    ghost from_gives = { λ _ stop. stop ≡ stops.Path path_stops.NoMemory };
 
     fn from(_refused: NoMemory) -> DualStop {
-        DualStop::NoMemory
+        DualStop::Path(PrimalStop::NoMemory)
     }
 }
 
@@ -35,9 +32,6 @@ impl From<Stop> for DualStop {
     ghost from_gives = { λ stop dual. dual ≡ dual_stop_of stop };
 
     fn from(stop: Stop) -> DualStop {
-        match stop {
-            Stop::Overflow(evidence) => DualStop::Overflow(evidence),
-            Stop::NoMemory => DualStop::NoMemory,
-        }
+        DualStop::Path(PrimalStop::from(stop))
     }
 }

@@ -20,7 +20,7 @@ ghost use Rattle.bounded_dual.specs.Stops.{DualEnds, DualStops, IsNotUnbounded, 
 use crate::moves::DualStop;
 use crate::turns::next_turn;
 use basis_values::{crossed, fill_prices, outside, wrong_price};
-use bounded_primal::{Kept, Move, Position, Turn, Workspace, step_over};
+use bounded_primal::{Kept, Move, Position, PrimalStop, Turn, Workspace, step_over};
 use dual_step::prices_over;
 use frac128::Frac;
 use lp_model::{Basis, Lp, Outcome, Rates, Stop};
@@ -164,11 +164,11 @@ pub fn dual<R: Rates>(
     // From right prices no basis comes twice, and so no path has as many steps as there are status lists, three for each variable.
     ensures apart { HasRightPrices lp.now basis.old →
         RuleNeverReturned dual_turn lp.now basis.old basis.new }
-    ensures limited { IsErrOf result DualStop.Limit → limit < lists_of lp.now }
+    ensures limited { IsErrOf result (DualStop.Path PrimalStop.Limit) → limit < lists_of lp.now }
     ensures complete { (bases : List (List Status)) (ending : PathEnding) →
         HasRightPrices lp.now basis.old →
         RuleEndsOverflowFree dual_turn (Dual lp.now) lp.now basis.old limit
-        (R.state rates.old).waypoints bases ending → IsEndOr DualStop.NoMemory basis.old bases
+        (R.state rates.old).waypoints bases ending → IsEndOr (DualStop.Path PrimalStop.NoMemory) basis.old bases
         ending basis.new result }
 {
     let _size = lp.number_of_variables();

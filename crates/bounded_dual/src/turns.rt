@@ -11,7 +11,9 @@ ghost use Rattle.bounded_dual.specs.Turns.{DualTurnFound};
 
 use crate::moves::DualStop;
 use basis_values::lies_below;
-use bounded_primal::{Position, Turn, best, limit_broken, ray_of, return_along, whole_point};
+use bounded_primal::{
+    Position, PrimalStop, Turn, best, limit_broken, ray_of, return_along, whole_point,
+};
 use dual_step::{cheapest, read_row};
 use frac128::Frac;
 use lp_model::{Outcome, Rates, SparseVector};
@@ -46,7 +48,7 @@ fn restore_feasibility<R: Rates>(
     read_row(at.lp, at.basis, rates, r, row)?;
     let chosen = match cheapest(at.lp, at.basis, prices, row, r, below) {
         Ok(chosen) => chosen,
-        Err(evidence) => return Err(DualStop::Overflow(evidence)),
+        Err(evidence) => return Err(DualStop::Path(PrimalStop::Overflow(evidence))),
     };
     let Some(q) = chosen else {
         let ray = ray_of(at.alloc, at.lp, row, r, below)?;
@@ -56,7 +58,7 @@ fn restore_feasibility<R: Rates>(
         }));
     };
     if at.left == 0 {
-        return Err(DualStop::Limit);
+        return Err(DualStop::Path(PrimalStop::Limit));
     }
     let by = return_along(at, rates, direction, q, r, limit_broken(below))?;
     Ok(Turn::Moves { q, by })

@@ -229,34 +229,8 @@ fn improving(lp: &Lp, basis: &Basis, prices: &[Frac]) -> Option<EnteringVariable
     Some(entering_variable_at(lp, prices, q))
 }
 
-/// The variable that improves the objective, if there is one, where there is no change row: the prices are the rates of the objective,
-/// and no more of them are computed than are needed.
-fn entering_variable_by_row<R: Rates>(
-    at: &Position<'_>,
-    rates: &mut R,
-    wanted: &[Wanted],
-    prices: &mut [Frac],
-) -> Result<Option<EnteringVariable>, Stop>
-    requires rates { IsAtBasis (R.state rates.old) at.now.lp.now at.now.basis.now }
-    requires lawful { IsLinearProgram at.now.lp.now }
-    requires wants { AreWants at.now.lp.now at.now.basis.now wanted.now }
-    requires unchanged { at.now.lp.now.change ≡ None }
-    requires places { length prices.old ≡ size at.now.lp.now.matrix }
-    ensures found { IfOk result
-        (IsEnteringVariableFound at.now.lp.now at.now.basis.now (value_at prices.new)) }
-    ensures rates { StaysAt (R.state rates.old) (R.state rates.new) at.now.lp.now at.now.basis.now }
-    ensures overflow { PointOverflow result at.now.lp.now at.now.basis.now (R.state rates.old)
-        (R.state rates.new) }
-{
-    let lp = at.lp;
-    match rates.first_wanted(lp.objective, wanted, is_minimized(lp), prices) {
-        Ok(None) => Ok(None),
-        Ok(Some(q)) => Ok(Some(entering_variable_at(lp, prices, q))),
-        Err(stop) => Err(stop),
-    }
-}
-
-/// The variable that improves the objective, if there is one. Where there is none, `prices` takes the prices. `row` is a workspace.
+/// The variable that improves the objective, if there is one. Where there is none, `prices` takes the prices. `row` is a workspace. Without
+/// a change row the prices are the rates of the objective, and no more of them are computed than are needed.
 fn entering_variable_of<R: Rates>(
     at: &Position<'_>,
     rates: &mut R,
@@ -277,7 +251,11 @@ fn entering_variable_of<R: Rates>(
 {
     let lp = at.lp;
     match lp.change {
-        None => entering_variable_by_row(at, rates, wanted, prices),
+        None => match rates.first_wanted(lp.objective, wanted, is_minimized(lp), prices) {
+            Ok(None) => Ok(None),
+            Ok(Some(q)) => Ok(Some(entering_variable_at(lp, prices, q))),
+            Err(stop) => Err(stop),
+        },
         Some(_) => match fill_prices(at.lp, at.basis, rates, row, prices) {
             Ok(()) => Ok(improving(at.lp, at.basis, prices)),
             Err(stop) => Err(stop),
@@ -431,44 +409,9 @@ fn run<R: Rates>(
     }
 }
 
-/// The second phase: moves the least-numbered variable that improves the objective, or answers that none does or that nothing stops
-/// it. `prices`, `row` and `direction` are workspaces.
-fn second_phase<R: Rates>(
-    at: &Position<'_>,
-    rates: &mut R,
-    wanted: &[Wanted],
-    prices: &mut [Frac],
-    row: &mut [Frac],
-    direction: &mut SparseVector,
-) -> Result<Turn, PrimalStop>
-    requires lawful { IsLinearProgram at.now.lp.now }
-    requires rates { IsAtBasis (R.state rates.old) at.now.lp.now at.now.basis.now }
-    requires wants { AreWants at.now.lp.now at.now.basis.now wanted.now }
-    requires price_places { length prices.old ≡ size at.now.lp.now.matrix }
-    requires row_places { length row.old ≡ size at.now.lp.now.matrix }
-    requires direction_places { length direction.old ≡ size at.now.lp.now.matrix }
-    requires point { AgreesWithPoint at.now.lp.now at.now.basis.now (value_at at.now.point.now) }
-    requires kept { IsTrue (all_kept at.now.kept) →
-        IsPointOf at.now.lp.now at.now.basis.now (value_at at.now.point.now) }
-    requires uncrossed { IsUncrossed at.now.lp.now }
-    requires inside { least_outside at.now.lp.now at.now.basis.now
-        (value_at at.now.point.now) ≡ None }
-    ensures turn { TurnFound result at.now.lp.now at.now.basis.now at.now.steps at.now.left
-        (value_at direction.new) (R.state rates.old) (R.state rates.new) }
-    ensures direction_places { OnOk result (length direction.new ≡ size at.now.lp.now.matrix) }
-    ensures rates { StaysAt (R.state rates.old) (R.state rates.new) at.now.lp.now at.now.basis.now }
-{
-    match entering_variable_of(at, rates, wanted, row, prices)? {
-        None => {
-            let point = whole_point(at, rates)?;
-            Ok(Turn::Ends(best(at.alloc, point, prices, at.steps)?))
-        }
-        Some(moved) => run(at, rates, direction, moved),
-    }
-}
-
-/// What the path does where it stands. `wanted` has the signs of the rates that let a nonbasic lower a quantity. `prices`, `row` and
-/// `direction` are workspaces.
+/// What the path does where it stands: the first phase, where a basic is outside its limits; and else the second one, in which the
+/// least-numbered variable that improves the objective moves, or none does, or nothing stops it. `wanted` has the signs of the rates that
+/// let a nonbasic lower a quantity. `prices`, `row` and `direction` are workspaces.
 pub fn next_turn<R: Rates>(
     at: &Position<'_>,
     rates: &mut R,
@@ -494,8 +437,14 @@ pub fn next_turn<R: Rates>(
     ensures direction_places { OnOk result (length direction.new ≡ size at.now.lp.now.matrix) }
     ensures rates { StaysAt (R.state rates.old) (R.state rates.new) at.now.lp.now at.now.basis.now }
 {
-    match at.broken {
-        Some(r) => first_phase(at, rates, wanted, row, direction, r),
-        None => second_phase(at, rates, wanted, prices, row, direction),
+    if let Some(r) = at.broken {
+        return first_phase(at, rates, wanted, row, direction, r);
+    }
+    match entering_variable_of(at, rates, wanted, row, prices)? {
+        None => {
+            let point = whole_point(at, rates)?;
+            Ok(Turn::Ends(best(at.alloc, point, prices, at.steps)?))
+        }
+        Some(moved) => run(at, rates, direction, moved),
     }
 }

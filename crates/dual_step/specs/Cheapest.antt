@@ -11,14 +11,14 @@
 --     SomeRatioRefused             that of some variable which may bring the basic back
 use Rattle.std.specs.Prelude.{◌≡◌, ℕ, Bool, true, not, ◌&&◌, ◌||◌, List, Option, Some, None, IfSome, option_map, if◌then◌else◌}
 use Rattle.std.specs.List.{list_all}
-use Rattle.exact_values.specs.Rational.{ℚ, zero_ℚ, ◌/ℚ◌}
+use Rattle.exact_values.specs.Rational.{ℚ, ◌/ℚ◌}
 use Rattle.exact_values.specs.Tests.{le_ℚ, magnitude}
 use Rattle.frac128.specs.declared.Op.TheVariants.{Div}
 use Rattle.lp_definitions.specs.LinearProgram.{LinearProgram, Vector, IsVariable, variables}
 use Rattle.lp_definitions.specs.declared.Evidence.{Evidence}
 use Rattle.lp_definitions.specs.declared.Status.{Status}
 use Rattle.simplex_definitions.specs.Moves.{least, lowers, signed}
-use Rattle.basis_values.specs.Formulas.{IsRefusal}
+use Rattle.basis_values.specs.Formulas.{formula_of_rate, IsRefusal}
 use Rattle.basis_values.specs.Reach.{IsNearest}
 use Rattle.basis_values.specs.declared.formula.Formula.{Formula}
 use Rattle.basis_values.specs.declared.reach.Reach.{Reach}
@@ -55,7 +55,7 @@ pub record IsBest (p : LinearProgram) (s : List Status) (prices row : Vector) (b
   pub nearest : IsNearest (ratio_if p s prices row below) n (option_map reach_by best)
 
 abbrev pub ratio_formula : ℕ → ℕ → Formula
-ratio_formula r q = record { number = 14; p = 0; q = 0; i = r; j = q; term = 0; theta = zero_ℚ }
+ratio_formula r q = formula_of_rate 14 r q 0
 
 pub data KeptRefused (r : ℕ) (best other : Candidate) (e : Evidence) : Type 0 where
   of_best : IsRefusal (ratio_formula r best.q) Div best.price best.rate e → KeptRefused r best other e

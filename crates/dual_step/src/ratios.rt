@@ -34,15 +34,7 @@ pub struct Candidate {
 fn formula(r: u32, q: u32) -> Formula
     ensures { result ≡ ratio_formula r q }
 {
-    Formula {
-        number: 14,
-        p: 0,
-        q: 0,
-        i: r,
-        j: q,
-        term: 0,
-        theta: Frac::whole(0),
-    }
+    Formula::of_rate(14, r, q, 0)
 }
 
 /// The value without its sign.

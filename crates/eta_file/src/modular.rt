@@ -12,7 +12,7 @@ use std::alloc::Global;
 use whole_vectors::SparseWholes;
 
 /// The smaller prime, 2^61 - 1.
-const SMALL_PRIME: u64 = 2_305_843_009_213_693_951;
+const SMALL_PRIME: u64 = (1 << 61) - 1;
 
 /// The larger prime, 2^64 - 2^32 + 1.
 const LARGE_PRIME: u64 = 18_446_744_069_414_584_321;
@@ -27,13 +27,13 @@ const HALF: u128 = 21_267_647_927_606_893_801_248_941_334_788_571_135;
 const INVERSE: u64 = 16_930_573_323_512_567_275;
 
 /// The lowest 61 bits.
-const LOW_61: u128 = 2_305_843_009_213_693_951;
+const LOW_61: u128 = (1 << 61) - 1;
 
 /// The lowest 64 bits.
-const LOW_64: u128 = 18_446_744_073_709_551_615;
+const LOW_64: u128 = (1 << 64) - 1;
 
 /// The lowest 32 bits, which is also 2^64 less the larger prime.
-const LOW_32: u64 = 4_294_967_295;
+const LOW_32: u64 = (1 << 32) - 1;
 
 /// A numerator of this size or more isn't looked for.
 const MOST: u128 = 1 << 67;

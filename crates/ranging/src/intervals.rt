@@ -19,15 +19,7 @@ use lp_model::{Basis, Evidence, Interval, Lp, Status};
 fn formula(i: u32, j: u32, term: u32) -> Formula
     ensures { result ≡ end_formula i j term }
 {
-    Formula {
-        number: 15,
-        p: 0,
-        q: 0,
-        i,
-        j,
-        term,
-        theta: Frac::whole(0),
-    }
+    Formula::of_rate(15, i, j, term)
 }
 
 /// The cost, less the end. `i` is the basic whose rate makes the end, or 0.

@@ -39,15 +39,7 @@ impl PricedRate {
     fn formula(&self) -> Formula
         ensures { result ≡ ratio_formula self.now.basic self.now.nonbasic }
     {
-        Formula {
-            number: 14,
-            p: 0,
-            q: 0,
-            i: self.basic,
-            j: self.nonbasic,
-            term: 0,
-            theta: Frac::whole(0),
-        }
+        Formula::of_rate(14, self.basic, self.nonbasic, 0)
     }
 
     /// The bound of the price on the multiple that is taken off.

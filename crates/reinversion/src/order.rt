@@ -180,20 +180,11 @@ impl Pattern {
         self.columns.lines.push(column).map_err(|_| NoMemory)
     }
 
-    /// A column and a row by their places.
-    fn pair(&self, column: usize, row: usize) -> Entering {
-        Entering {
-            column: self.columns.number(column),
-            row: self.rows.number(row),
-        }
-    }
-
     /// A row with one column left comes next.
     fn to_front(&mut self, row: usize) -> Result<(), NoMemory> {
         if let Some(column) = self.rows.only(&self.columns, row) {
-            let pair = self.pair(column, row);
+            let pair = self.close(column, row)?;
             self.front.push(pair).map_err(|_| NoMemory)?;
-            self.close(column, row)?;
         }
         Ok(())
     }
@@ -201,17 +192,20 @@ impl Pattern {
     /// A column with one row left goes before those that went to the back earlier.
     fn to_back(&mut self, column: usize) -> Result<(), NoMemory> {
         if let Some(row) = self.columns.only(&self.rows, column) {
-            let pair = self.pair(column, row);
+            let pair = self.close(column, row)?;
             self.back.push(pair).map_err(|_| NoMemory)?;
-            self.close(column, row)?;
         }
         Ok(())
     }
 
-    /// A column and its row have their place.
-    fn close(&mut self, column: usize, row: usize) -> Result<(), NoMemory> {
+    /// Closes a column and its row, whose place in the order is known, and gives them by their numbers.
+    fn close(&mut self, column: usize, row: usize) -> Result<Entering, NoMemory> {
         self.columns.close(&mut self.rows, column)?;
-        self.rows.close(&mut self.columns, row)
+        self.rows.close(&mut self.columns, row)?;
+        Ok(Entering {
+            column: self.columns.number(column),
+            row: self.rows.number(row),
+        })
     }
 
     /// A column that no row waits for is set aside, to enter after all others but those set aside before it.

@@ -51,11 +51,7 @@ fn dual_end(alloc: Global, answer: Result<Outcome, DualStop>) -> Result<PathResu
         Err(DualStop::NotDualFeasible(k)) => {
             Ok(PathResult::Reported(format!(in alloc; "WRONG PRICE {k}")?))
         }
-        Err(DualStop::Limit) => reported(alloc, "LIMIT"),
-        Err(DualStop::Overflow(evidence)) => Ok(PathResult::Reported(evidence_text(
-            alloc, &evidence,
-        )?)),
-        Err(DualStop::NoMemory) => Err(Fail::from("memory")),
+        Err(DualStop::Path(stop)) => primal_end(alloc, Err(stop)),
     }
 }
 

@@ -116,9 +116,11 @@ fn follow_dual<P: Sink, R: Rates>(
     match dual_from(alloc, sheet, basis, rates, limit) {
         Ok(report) => print_verdict(Solver::Dual, sheet, &report, print),
         Err(DualStop::NotDualFeasible(variable)) => Ok(Finding::WrongPrices(variable)),
-        Err(DualStop::Limit) => Ok(Finding::Limit),
-        Err(DualStop::Overflow(evidence)) => overflow_at(alloc, sheet.lp, basis, rates, evidence),
-        Err(DualStop::NoMemory) => Err(Halt::NoMemory),
+        Err(DualStop::Path(PrimalStop::Limit)) => Ok(Finding::Limit),
+        Err(DualStop::Path(PrimalStop::Overflow(evidence))) => {
+            overflow_at(alloc, sheet.lp, basis, rates, evidence)
+        }
+        Err(DualStop::Path(PrimalStop::NoMemory)) => Err(Halt::NoMemory),
     }
 }
 

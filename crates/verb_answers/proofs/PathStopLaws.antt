@@ -81,7 +81,7 @@ module _ (sheet : Sheet) (no_change : sheet.lp.now.change ≡ None) (s now : Bas
 module _ (sheet : Sheet) (s now : Basis) (limit : ℕ) (before after : List Basics) where
   pub dual_stops : (stop : DualStop) → DualStopsAlong sheet.lp.now s now limit before after stop → DualPathStops sheet s now limit before after stop
   dual_stops (dual_stop.NotDualFeasible j) h = h
-  dual_stops dual_stop.Limit h = h
-  dual_stops (dual_stop.Overflow e) h =
+  dual_stops (dual_stop.Path Limit) h = h
+  dual_stops (dual_stop.Path (Overflow e)) h =
       overflows dual_turn (Dual sheet.lp.now) sheet s now limit (Some limit) (left_is sheet.lp.now (Some limit)) before after e h
-  dual_stops dual_stop.NoMemory h = (h.0, h.1)
+  dual_stops (dual_stop.Path NoMemory) h = (h.0, h.1)

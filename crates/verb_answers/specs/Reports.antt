@@ -93,6 +93,7 @@ IsDualReached sheet s now limit report = HasRightPrices sheet.lp.now s × RuleIs
 -- a wrong price stops it before any step; its limit stops only a path that goes on from right prices; memory may run out anywhere
 abbrev pub DualPathStops : Sheet → Basis → Basis → ℕ → List Basics → List Basics → DualStop → Type 0
 DualPathStops sheet s now limit before after (dual_stop.NotDualFeasible j) = IsWrongAt sheet.lp.now s j × (now ≡ s)
-DualPathStops sheet s now limit before after dual_stop.Limit = HasRightPrices sheet.lp.now s × RuleCallGoesOn dual_turn sheet.lp.now s now limit
-DualPathStops sheet s now limit before after (dual_stop.Overflow e) = RuleOverflowsThere dual_turn (Dual sheet.lp.now) sheet s now (Some limit) before after e
-DualPathStops sheet s now limit before after dual_stop.NoMemory = (bases : List Basis) × (IsDualPath sheet.lp.now s bases × (last_of s bases ≡ now))
+DualPathStops sheet s now limit before after (dual_stop.Path Limit) = HasRightPrices sheet.lp.now s × RuleCallGoesOn dual_turn sheet.lp.now s now limit
+DualPathStops sheet s now limit before after (dual_stop.Path (Overflow e)) =
+    RuleOverflowsThere dual_turn (Dual sheet.lp.now) sheet s now (Some limit) before after e
+DualPathStops sheet s now limit before after (dual_stop.Path NoMemory) = (bases : List Basis) × (IsDualPath sheet.lp.now s bases × (last_of s bases ≡ now))

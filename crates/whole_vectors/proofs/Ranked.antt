@@ -162,9 +162,8 @@ pub put_same : (ns : List ℤ) (i : ℕ) (x n : ℤ) → x ≡ get_or ns i x →
 put_same ns i x n is same =
     sym (ap (λ m. set (wholes ns) i (whole m)) (sym same) ∙ sym (map-set whole ns i x) ∙ ap (λ m. wholes (set ns i m)) is ∙ ap wholes (set-get_or ns i x))
 
--- a number that something is added to
-pub put_sum : (ns : List ℤ) (i : ℕ) (x n : ℤ) (more : ℚ) → i < length ns → x ≡ get_or ns i x → whole n ≡ whole x +ℚ more →
-    wholes (set ns i n) ≡ set (wholes ns) i (get_or (wholes ns) i zero_ℚ +ℚ more)
-put_sum ns i x n more inside is sum =
-    map-set whole ns i n
-    ∙ ap (λ q. set (wholes ns) i q) (sum ∙ ap (λ q. q +ℚ more) (ap whole (is ∙ get_or_default ns i x (pos 0) inside) ∙ sym (read_whole ns i)))
+-- the sum with a number that stands there
+pub sum_there : (ns : List ℤ) (i : ℕ) (x n : ℤ) (more : ℚ) → i < length ns → x ≡ get_or ns i x → whole n ≡ whole x +ℚ more →
+    whole n ≡ get_or (wholes ns) i zero_ℚ +ℚ more
+sum_there ns i x n more inside is sum =
+    sum ∙ ap (λ q. q +ℚ more) (ap whole (is ∙ get_or_default ns i x (pos 0) inside) ∙ sym (read_whole ns i))

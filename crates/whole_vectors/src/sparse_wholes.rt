@@ -65,8 +65,7 @@ fn multiply_listed(numbers: &mut [i128], listed: &[usize], by: i128) -> Option<(
 {
     for rank in 0..listed.len() {
         let place = listed[rank];
-        let number = numbers[place];
-        let made = frac128::product(number, by)?;
+        let made = frac128::product(numbers[place], by)?;
         numbers[place] = made;
     }
     Some(())
@@ -110,8 +109,7 @@ fn take_out(numbers: &mut [i128], listed: &[usize], factor: i128) -> Option<()>
 {
     for rank in 0..listed.len() {
         let place = listed[rank];
-        let number = numbers[place];
-        let made = whole_multiple(number, factor)?;
+        let made = whole_multiple(numbers[place], factor)?;
         numbers[place] = made;
     }
     Some(())
@@ -168,6 +166,24 @@ impl SparseWholes {
         &self.listed
     }
 
+    /// Makes `n` the number at a place, and lists the place if 0 stands there.
+    #[inline(always)]
+    fn write(&mut self, place: usize, n: i128) -> Option<()>
+        requires within { place < length self.old }
+        requires fits { Fits n }
+        ensures number { IfSome result (λ _. self.new ≡ set self.old place (whole n)) }
+        ensures places { length self.new ≡ length self.old }
+    {
+        let held = self.numbers[place];
+        if held != 0 {
+            self.numbers[place] = n;
+            return Some(());
+        }
+        enlist(&mut self.listed, &mut self.ranks, place)?;
+        self.numbers[place] = n;
+        Some(())
+    }
+
     /// Makes `n` the number of the variable `k`, from 1.
     #[inline(always)]
     pub fn put(&mut self, k: u32, n: i128) -> Option<()>
@@ -181,14 +197,7 @@ impl SparseWholes {
         if self.numbers[place] == n {
             return Some(());
         }
-        let held = self.numbers[place];
-        if held != 0 {
-            self.numbers[place] = n;
-            return Some(());
-        }
-        enlist(&mut self.listed, &mut self.ranks, place)?;
-        self.numbers[place] = n;
-        Some(())
+        self.write(place, n)
     }
 
     /// Adds a product to the number of the variable `k`, from 1.
@@ -203,13 +212,7 @@ impl SparseWholes {
         let place = k as usize - 1;
         let held = self.numbers[place];
         let next = whole_sum(held, x, y)?;
-        if held != 0 {
-            self.numbers[place] = next;
-            return Some(());
-        }
-        enlist(&mut self.listed, &mut self.ranks, place)?;
-        self.numbers[place] = next;
-        Some(())
+        self.write(place, next)
     }
 
     /// Makes all numbers 0.

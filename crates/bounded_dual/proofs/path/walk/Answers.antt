@@ -1,12 +1,14 @@
-use Rattle.std.proofs.Common.{◌≡◌, ◌+◌, ◌-◌, ◌∙◌, rules, length, refl, sym, ap, arith}
+use Rattle.std.proofs.Common.{◌≡◌, ◌+◌, ◌-◌, ◌∙◌, rules, List, length, refl, sym, ap, subst, arith}
 use Rattle.std.proofs.lemmas.Result.{err_from_is_err_and}
 use Rattle.lp_definitions.specs.LinearProgram.{value_at}
 use Rattle.lp_definitions.specs.Basis.{basics_of}
+use Rattle.lp_definitions.specs.declared.Status.{Status}
 use Rattle.lp_laws.proofs.WaypointLaws.{keeps_then}
 use Rattle.simplex_definitions.specs.Counts.{counted_steps}
 use Rattle.simplex_definitions.specs.DualPath.{dual_turn}
 use Rattle.bounded_primal.proofs.Agreement.{point_agrees}
 use Rattle.bounded_primal.proofs.PathWalk.{begins_at, ends_there, follows, follows_later, reached_later}
+use Rattle.bounded_dual.specs.Stops.{dual_stop_of, DualStopsAlong}
 use Rattle.bounded_dual.proofs.WalkSteps.{stops_there, point_stops_there, walk_more, walk_stops, carried_prices, stops_at_once}
 use Rattle.bounded_dual.proofs.path.walk.Goals as goal
 
@@ -62,13 +64,15 @@ pub returns-in_err-kept-in-Moves-clause-stops : goal.returns-in_err-kept-in-Move
 returns-in_err-kept-in-Moves-clause-stops g c =
     let p = err_from_is_err_and c.from_residual-in_err-kept-in-Moves.result c.from_residual-in_err-kept-in-Moves.ensures.1 in
     let moves = rw c.in-Moves.is at c.in_ok-outcome.ensures.turn in
-    rw (p.1, p.2, c.in_err-kept-in-Moves.ensures.unchanged)
+    rw (p.1, p.2)
+    (subst (λ (now : List Status). DualStopsAlong c.args.lp.now c.args.basis.now now c.args.limit (g.R.Rates.state c.args.rates.now).waypoints
+    (g.R.Rates.state c.step_over.new.rates).waypoints (dual_stop_of c.in_err-kept-in-Moves.field-0.0)) (sym c.in_err-kept-in-Moves.ensures.unchanged)
     (walk_stops c.args.lp.now c.args.basis.now (g.R.Rates.state c.args.rates.now).waypoints c.loop-outcome.basis
     (g.R.Rates.state c.loop-outcome.rates).waypoints c.loop-outcome.steps c.loop-outcome.invariant.reached (value_at c.next_turn.new.direction)
     (value_at c.next_turn.new.row) c.in-Moves.q c.in-Moves.by (c.args.limit - c.loop-outcome.steps) moves c.requires.no_change c.requires.right
     (g.R.Rates.state c.next_turn.new.rates).waypoints
     (g.R.Rates.state c.step_over.new.rates).waypoints c.in_err-kept-in-Moves.field-0.0 c.args.limit c.loop-outcome.invariant.within refl
-    c.in_ok-outcome.ensures.rates.1 c.in_err-kept-in-Moves.ensures.overflow)
+    c.in_ok-outcome.ensures.rates.1 c.in_err-kept-in-Moves.ensures.overflow))
 
 pub returns-in_err-fill_point-clause-waypoints : goal.returns-in_err-fill_point-clause-waypoints
 returns-in_err-fill_point-clause-waypoints g c =
