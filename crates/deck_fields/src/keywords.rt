@@ -35,16 +35,12 @@ pub fn first_word(card: &[u8]) -> &[u8]
 pub fn row_kind(word: &[u8]) -> Option<RowKind>
     ensures { result ≡ named row_kinds word.now }
 {
-    if is_word(b"N", word) {
-        Some(RowKind::N)
-    } else if is_word(b"G", word) {
-        Some(RowKind::G)
-    } else if is_word(b"L", word) {
-        Some(RowKind::L)
-    } else if is_word(b"E", word) {
-        Some(RowKind::E)
-    } else {
-        None
+    match word {
+        b"N" => Some(RowKind::N),
+        b"G" => Some(RowKind::G),
+        b"L" => Some(RowKind::L),
+        b"E" => Some(RowKind::E),
+        _ => None,
     }
 }
 
@@ -52,16 +48,12 @@ pub fn row_kind(word: &[u8]) -> Option<RowKind>
 pub fn combination_kind(word: &[u8]) -> Option<RowKind>
     ensures { result ≡ named combination_kinds word.now }
 {
-    if is_word(b"DN", word) {
-        Some(RowKind::N)
-    } else if is_word(b"DG", word) {
-        Some(RowKind::G)
-    } else if is_word(b"DL", word) {
-        Some(RowKind::L)
-    } else if is_word(b"DE", word) {
-        Some(RowKind::E)
-    } else {
-        None
+    match word {
+        b"DN" => Some(RowKind::N),
+        b"DG" => Some(RowKind::G),
+        b"DL" => Some(RowKind::L),
+        b"DE" => Some(RowKind::E),
+        _ => None,
     }
 }
 
@@ -96,20 +88,14 @@ pub fn is_row_type(word: &[u8]) -> bool
 pub fn bound_kind(word: &[u8]) -> Option<BoundKind>
     ensures { result ≡ named bound_kinds word.now }
 {
-    if is_word(b"UP", word) {
-        Some(BoundKind::Up)
-    } else if is_word(b"LO", word) {
-        Some(BoundKind::Lo)
-    } else if is_word(b"FX", word) {
-        Some(BoundKind::Fx)
-    } else if is_word(b"FR", word) {
-        Some(BoundKind::Fr)
-    } else if is_word(b"MI", word) {
-        Some(BoundKind::Mi)
-    } else if is_word(b"PL", word) {
-        Some(BoundKind::Pl)
-    } else {
-        None
+    match word {
+        b"UP" => Some(BoundKind::Up),
+        b"LO" => Some(BoundKind::Lo),
+        b"FX" => Some(BoundKind::Fx),
+        b"FR" => Some(BoundKind::Fr),
+        b"MI" => Some(BoundKind::Mi),
+        b"PL" => Some(BoundKind::Pl),
+        _ => None,
     }
 }
 
@@ -137,22 +123,15 @@ pub fn has_value(kind: BoundKind) -> bool
 pub fn section_named(word: &[u8]) -> Option<Section>
     ensures { result ≡ named section_words word.now }
 {
-    if is_word(b"NAME", word) {
-        Some(Section::Header)
-    } else if is_word(b"ROWS", word) {
-        Some(Section::Rows)
-    } else if is_word(b"COLUMNS", word) {
-        Some(Section::Columns)
-    } else if is_word(b"RHS", word) {
-        Some(Section::Rhs)
-    } else if is_word(b"RANGES", word) {
-        Some(Section::Ranges)
-    } else if is_word(b"BOUNDS", word) {
-        Some(Section::Bounds)
-    } else if is_word(b"ENDATA", word) {
-        Some(Section::Endata)
-    } else {
-        None
+    match word {
+        b"NAME" => Some(Section::Header),
+        b"ROWS" => Some(Section::Rows),
+        b"COLUMNS" => Some(Section::Columns),
+        b"RHS" => Some(Section::Rhs),
+        b"RANGES" => Some(Section::Ranges),
+        b"BOUNDS" => Some(Section::Bounds),
+        b"ENDATA" => Some(Section::Endata),
+        _ => None,
     }
 }
 
