@@ -52,7 +52,8 @@ range_testprob : range_text
       rows = ends 2 (Some (fraction (negsuc 0) 1)) (None) ∷ [];
     })
     ≡ codes "RANGE\nSECTION 1 - ROWS AT LIMIT LEVEL\n    3 LIM2     LL 10 6 10\n    4 MYEQN    EQ 7 7 11\nSECTION 2 - COLUMNS AT LIMIT LEVEL\n    6 YTWO     LL -1 -1 1 4 -8 NONE\nSECTION 3 - ROWS AT INTERMEDIATE LEVEL\n    2 LIM1     BS 3 -1 NONE\nSECTION 4 - COLUMNS AT INTERMEDIATE LEVEL\n    5 XONE     BS 4 1 0 13\n    7 ZTHREE   BS 6 9 -3 NONE\n"
-unfolding ends range_text chain_text sheet_of card_fault deck_fault conversion described numbered number_of number_fault value_of reading_of cards_of tableau_for table_for fraction whole ◌+ℚ◌ ◌*ℚ◌ neg_ℚ inverse_ℚ reciprocal compare_ℚ sum_to gcd digits
+unfolding ends range_text chain_text sheet_of card_fault deck_fault conversion described numbered number_of number_fault value_of reading_of cards_of
+    tableau_for table_for fraction whole ◌+ℚ◌ ◌*ℚ◌ neg_ℚ inverse_ℚ reciprocal compare_ℚ sum_to gcd digits
 range_testprob = refl
 
 range_two : range_text
@@ -62,7 +63,8 @@ range_two : range_text
       rows = ends 2 (None) (Some (fraction (pos 1) 1)) ∷ [];
     })
     ≡ codes "RANGE\nSECTION 1 - ROWS AT LIMIT LEVEL\n    3 LIM      UL 4 0 NONE\nSECTION 2 - COLUMNS AT LIMIT LEVEL\n    4 X        LL 0 NONE 3 -1 -2 NONE\nSECTION 3 - ROWS AT INTERMEDIATE LEVEL\n    2 CHG      BS 0 NONE 1\nSECTION 4 - COLUMNS AT INTERMEDIATE LEVEL\n    5 Y        BS 4 -2 NONE -1\n"
-unfolding ends range_text chain_text sheet_of card_fault deck_fault conversion described numbered number_of number_fault value_of reading_of cards_of tableau_for table_for fraction whole ◌+ℚ◌ ◌*ℚ◌ neg_ℚ inverse_ℚ reciprocal compare_ℚ sum_to gcd digits
+unfolding ends range_text chain_text sheet_of card_fault deck_fault conversion described numbered number_of number_fault value_of reading_of cards_of
+    tableau_for table_for fraction whole ◌+ℚ◌ ◌*ℚ◌ neg_ℚ inverse_ℚ reciprocal compare_ℚ sum_to gcd digits
 range_two = refl
 
 paraobj_two_intervals : chain_text
@@ -87,7 +89,8 @@ paraobj_two_intervals : chain_text
     } ∷ [])
     (AtMax)
     ≡ codes "PARAOBJ FROM 0 CHANGE CHG\nINTERVAL 1 FROM 0 TO 1\n    1 COST     BS -8 0 0 0\n    2 CHG      BS 0 0 0 0\n    3 LIM      UL 4 0 -2 0\n    4 X        LL 0 0 1 -1\n    5 Y        BS 4 0 0 0\nINTERVAL 2 FROM 1 TO 5\n    1 COST     BS -5 0 0 0\n    2 CHG      BS -3 0 0 0\n    3 LIM      UL 4 0 -2 0\n    4 X        UL 3 0 1 -1\n    5 Y        BS 1 0 0 0\nPARAOBJ ENDS AT 5\n"
-unfolding ends range_text chain_text sheet_of card_fault deck_fault conversion described numbered number_of number_fault value_of reading_of cards_of tableau_for table_for fraction whole ◌+ℚ◌ ◌*ℚ◌ neg_ℚ inverse_ℚ reciprocal compare_ℚ sum_to gcd digits
+unfolding ends range_text chain_text sheet_of card_fault deck_fault conversion described numbered number_of number_fault value_of reading_of cards_of
+    tableau_for table_for fraction whole ◌+ℚ◌ ◌*ℚ◌ neg_ℚ inverse_ℚ reciprocal compare_ℚ sum_to gcd digits
 paraobj_two_intervals = refl
 
 paraobj_unbounded_past : chain_text
@@ -106,7 +109,8 @@ paraobj_unbounded_past : chain_text
     (PastUnbounded (fraction (pos 1) 1) (fraction (pos 0) 1 ∷ fraction (pos 0) 1 ∷ fraction (pos 0) 1 ∷ [])
     (fraction (pos 1) 1 ∷ fraction (negsuc 0) 1 ∷ fraction (pos 1) 1 ∷ []))
     ≡ codes "PARAOBJ FROM 0 CHANGE CHG\nINTERVAL 1 FROM 0 TO 1\n    1 COST     BS 0 0 0 0\n    2 CHG      BS 0 0 0 0\n    3 X        LL 0 0 1 -1\nPARAOBJ UNBOUNDED PAST 1\n    1 COST     0 1\n    2 CHG      0 -1\n    3 X        0 1\n"
-unfolding ends range_text chain_text sheet_of card_fault deck_fault conversion described numbered number_of number_fault value_of reading_of cards_of tableau_for table_for fraction whole ◌+ℚ◌ ◌*ℚ◌ neg_ℚ inverse_ℚ reciprocal compare_ℚ sum_to gcd digits
+unfolding ends range_text chain_text sheet_of card_fault deck_fault conversion described numbered number_of number_fault value_of reading_of cards_of
+    tableau_for table_for fraction whole ◌+ℚ◌ ◌*ℚ◌ neg_ℚ inverse_ℚ reciprocal compare_ℚ sum_to gcd digits
 paraobj_unbounded_past = refl
 
 pararhs_infeasible_past : chain_text
@@ -122,7 +126,8 @@ pararhs_infeasible_past : chain_text
     } ∷ [])
     (PastInfeasible (fraction (pos 2) 1) (fraction (pos 0) 1 ∷ fraction (negsuc 0) 1 ∷ fraction (pos 1) 1 ∷ []))
     ≡ codes "PARARHS FROM 0 CHANGE C\nINTERVAL 1 FROM 0 TO 2\n    1 COST     BS 1 1 0 0\n    2 LOW      LL 1 1 1 0\n    3 X        BS 1 1 0 0\nPARARHS INFEASIBLE PAST 2\n    2 LOW      -1\n    3 X        1\n"
-unfolding ends range_text chain_text sheet_of card_fault deck_fault conversion described numbered number_of number_fault value_of reading_of cards_of tableau_for table_for fraction whole ◌+ℚ◌ ◌*ℚ◌ neg_ℚ inverse_ℚ reciprocal compare_ℚ sum_to gcd digits
+unfolding ends range_text chain_text sheet_of card_fault deck_fault conversion described numbered number_of number_fault value_of reading_of cards_of
+    tableau_for table_for fraction whole ◌+ℚ◌ ◌*ℚ◌ neg_ℚ inverse_ℚ reciprocal compare_ℚ sum_to gcd digits
 pararhs_infeasible_past = refl
 
 pararhs_two_intervals : chain_text
@@ -147,7 +152,8 @@ pararhs_two_intervals : chain_text
     } ∷ [])
     (AtMax)
     ≡ codes "PARARHS FROM 0 CHANGE C\nINTERVAL 1 FROM 0 TO 2\n    1 COST     BS 1 1 0 0\n    2 LOW      LL 1 1 1 0\n    3 X        BS 1 1 0 0\n    4 Y        LL 0 0 1 0\nINTERVAL 2 FROM 2 TO 5\n    1 COST     BS -1 2 0 0\n    2 LOW      LL 1 1 2 0\n    3 X        UL 3 0 -1 0\n    4 Y        BS -2 1 0 0\nPARARHS ENDS AT 5\n"
-unfolding ends range_text chain_text sheet_of card_fault deck_fault conversion described numbered number_of number_fault value_of reading_of cards_of tableau_for table_for fraction whole ◌+ℚ◌ ◌*ℚ◌ neg_ℚ inverse_ℚ reciprocal compare_ℚ sum_to gcd digits
+unfolding ends range_text chain_text sheet_of card_fault deck_fault conversion described numbered number_of number_fault value_of reading_of cards_of
+    tableau_for table_for fraction whole ◌+ℚ◌ ◌*ℚ◌ neg_ℚ inverse_ℚ reciprocal compare_ℚ sum_to gcd digits
 pararhs_two_intervals = refl
 
 pararhs_point_interval : chain_text
@@ -162,6 +168,8 @@ pararhs_point_interval : chain_text
       price_rate = fraction (pos 0) 1 ∷ fraction (pos 0) 1 ∷ fraction (pos 0) 1 ∷ [];
     } ∷ [])
     (AtMax)
-    ≡ codes "PARARHS FROM 0 CHANGE C\nINTERVAL 1 FROM 0 TO 0\n    1 COST     BS 1 1 0 0\n    2 LOW      LL 1 1 1 0\n    3 X        BS 1 1 0 0\nPARARHS ENDS AT 0\n"
-unfolding ends range_text chain_text sheet_of card_fault deck_fault conversion described numbered number_of number_fault value_of reading_of cards_of tableau_for table_for fraction whole ◌+ℚ◌ ◌*ℚ◌ neg_ℚ inverse_ℚ reciprocal compare_ℚ sum_to gcd digits
+    ≡ codes
+    "PARARHS FROM 0 CHANGE C\nINTERVAL 1 FROM 0 TO 0\n    1 COST     BS 1 1 0 0\n    2 LOW      LL 1 1 1 0\n    3 X        BS 1 1 0 0\nPARARHS ENDS AT 0\n"
+unfolding ends range_text chain_text sheet_of card_fault deck_fault conversion described numbered number_of number_fault value_of reading_of cards_of
+    tableau_for table_for fraction whole ◌+ℚ◌ ◌*ℚ◌ neg_ℚ inverse_ℚ reciprocal compare_ℚ sum_to gcd digits
 pararhs_point_interval = refl

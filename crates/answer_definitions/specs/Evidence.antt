@@ -14,7 +14,8 @@ use Rattle.basis_deck_definitions.specs.Dependencies.{InstallRefused}
 use Rattle.listing_definitions.specs.declared.Solver.{Solver}
 use Rattle.listing_definitions.specs.declared.Solver.TheVariants.{Primal as ByPrimal, Dual as ByDual, Paraobj as ByParaobj, Pararhs as ByPararhs}
 use Rattle.listing_definitions.specs.Ending.{Place}
-use Rattle.question_definitions.specs.Answers.{Basis, Sheet, Changing, Row, Set, ParametricRun, Question, OfPath, OfSolution, OfRanges, OfParametricRun, OfPunch, OfInstall}
+use Rattle.question_definitions.specs.Answers.{Basis, Sheet, Changing, Row, Set, ParametricRun, Question, OfPath, OfSolution, OfRanges, OfParametricRun}
+use Rattle.question_definitions.specs.Answers.{OfPunch, OfInstall}
 use Rattle.answer_definitions.specs.ParametricRuns.{row_of, shifts_of, family_of, IsFace}
 
 -- the basis that a path has reached

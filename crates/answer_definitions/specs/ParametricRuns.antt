@@ -7,7 +7,8 @@ use Rattle.exact_values.specs.Rational.{ℚ, zero_ℚ}
 use Rattle.lp_definitions.specs.declared.Status.{Status}
 use Rattle.lp_definitions.specs.LinearProgram.{LinearProgram, value_at, variables}
 use Rattle.simplex_definitions.specs.Path.{PathEnding}
-use Rattle.simplex_definitions.specs.Chain.{Part, ChainEnd as PastBreakpoint, AtMax, UnboundedPast as PastUnbounded, InfeasiblePast as PastInfeasible, FaceTurn, IsRun, IsFailedOpening, RunGoesOnFor}
+use Rattle.simplex_definitions.specs.Chain.{Part, ChainEnd as PastBreakpoint, AtMax, UnboundedPast as PastUnbounded, InfeasiblePast as PastInfeasible, FaceTurn}
+use Rattle.simplex_definitions.specs.Chain.{IsRun, IsFailedOpening, RunGoesOnFor}
 use Rattle.simplex_definitions.specs.ObjectiveRun.{objective_family, IsObjectiveFace}
 use Rattle.simplex_definitions.specs.RhsRun.{rhs_family, IsRhsFace}
 use Rattle.problem_definitions.specs.Names.{Name, number_in}

@@ -10,15 +10,18 @@ use Rattle.listing_definitions.specs.declared.Mark.{Mark}
 use Rattle.listing_definitions.specs.declared.Solver.{Solver}
 use Rattle.listing_definitions.specs.declared.Solver.TheVariants.{Primal, Dual, Paraobj, Pararhs}
 use Rattle.listing_definitions.specs.Numbers.{digits, rational_text}
-use Rattle.listing_definitions.specs.Report.{Value, Line, Number, Check, Checked, Unchecked, OptimalAt, InfeasibleBy, UnboundedBy, SolutionLines, ChainEnd, EndsAt, UnboundedPast, InfeasiblePast}
+use Rattle.listing_definitions.specs.Report.{Value, Line, Number, Check, Checked, Unchecked, OptimalAt, InfeasibleBy, UnboundedBy, SolutionLines, ChainEnd}
+use Rattle.listing_definitions.specs.Report.{EndsAt, UnboundedPast, InfeasiblePast}
 use Rattle.listing_definitions.specs.Text.{solver_text, mark_text}
 use Rattle.question_definitions.specs.Answers.{Sheet}
 use Rattle.answer_definitions.specs.Lines.{row_numbers, column_numbers}
 use Rattle.walk_definitions.specs.Checkers.{checker_of_128_bits}
 use Rattle.walk_definitions.specs.Words.{Parsed, left_after, with_text, with_word, fraction_in, count_in, max_count}
 use Rattle.walk_definitions.specs.Forms.{all_operations}
-use Rattle.walk_definitions.specs.Tables.{Slot, AnyCode, AnyNumber, Known, value_in, slot_in, then_more, values_in, begins_table_line, line_head, line_in, table_in, multiplier_in, ray_in, pair_slots, part_slots}
-use Rattle.walk_definitions.specs.Reading.{Claim, with_check, optimal_in, crossed_in, infeasible_in, unbounded_in, claim_in, verdict_in, row_slots, column_slots, solution_in, interval_in, close_in}
+use Rattle.walk_definitions.specs.Tables.{Slot, AnyCode, AnyNumber, Known, value_in, slot_in, then_more, values_in, begins_table_line, line_head, line_in}
+use Rattle.walk_definitions.specs.Tables.{table_in, multiplier_in, ray_in, pair_slots, part_slots}
+use Rattle.walk_definitions.specs.Reading.{Claim, with_check, optimal_in, crossed_in, infeasible_in, unbounded_in, claim_in, verdict_in, row_slots}
+use Rattle.walk_definitions.specs.Reading.{column_slots, solution_in, interval_in, close_in}
 use Rattle.walk_definitions.proofs.Texts.{is_text}
 use Rattle.any_length_laws.proofs.Readers.{Widens, same, after_text, after_word, mapped, gone_on, more, by_text, either, text_stands}
 

@@ -5,12 +5,14 @@ use Rattle.check_definitions.specs.declared.Verdict.{Verdict}
 use Rattle.check_definitions.specs.declared.Verdict.TheVariants.{Checked, Failed, Unchecked}
 use Rattle.check_definitions.specs.Steps.{in_turn}
 use Rattle.listing_definitions.specs.Report.{ParametricInterval, ChainEnd}
-use Rattle.question_definitions.specs.Answers.{Sheet, parametric_solver, ParametricRun, Question, OfPath, OfSolution, OfRanges, OfParametricRun, OfPunch, OfInstall, AnswerTo, PathEnd, Reached, Opening, Chained}
+use Rattle.question_definitions.specs.Answers.{Sheet, parametric_solver, ParametricRun, Question, OfPath, OfSolution, OfRanges, OfParametricRun, OfPunch}
+use Rattle.question_definitions.specs.Answers.{OfInstall, AnswerTo, PathEnd, Reached, Opening, Chained}
 use Rattle.answer_definitions.specs.ParametricRuns.{sheet_at}
 use Rattle.walk_definitions.specs.Checkers.{Checker, checker_of_128_bits, checker_of_any_length}
 use Rattle.walk_definitions.specs.Words.{Parsed, left_after, fraction_in}
 use Rattle.walk_definitions.specs.Tests.{says, making_steps, verdict_test, solution_test, interval_test, close_test}
-use Rattle.walk_definitions.specs.Reading.{Judged, Right, Fails, Refuses, Claim, Run, by_verdict, tested_or, unread, tested_by, judged_map, verdict_in, solution_in, interval_in, close_in, parametric_run_head, onward, part_in, run_in, parametric_run_in, judged}
+use Rattle.walk_definitions.specs.Reading.{Judged, Right, Fails, Refuses, Claim, Run, by_verdict, tested_or, unread, tested_by, judged_map, verdict_in}
+use Rattle.walk_definitions.specs.Reading.{solution_in, interval_in, close_in, parametric_run_head, onward, part_in, run_in, parametric_run_in, judged}
 use Rattle.any_length_laws.proofs.Short.{fraction_widens}
 use Rattle.any_length_laws.proofs.Readers as readers
 use Rattle.any_length_laws.proofs.Grammar as grammar

@@ -1,5 +1,6 @@
 -- What is read of a report whose long numbers may stand is read by its values, or a long number stands in it.
-use Rattle.std.proofs.Common.{◌≡◌, ◌⊎◌, inl, inr, ℕ, Bool, true, false, List, [], ◌∷◌, ◌++◌, Option, Some, None, codes, if◌then◌else◌, nat_eq, pos, subst, refl, ap, ◌∙◌}
+use Rattle.std.proofs.Common.{◌≡◌, ◌⊎◌, inl, inr, ℕ, Bool, true, false, List, [], ◌∷◌, ◌++◌, Option, Some, None, codes, if◌then◌else◌, nat_eq, pos, subst, refl}
+use Rattle.std.proofs.Common.{ap, ◌∙◌}
 use Rattle.std.specs.Prelude.{option_map, option_and_then, bytes_eq, ◌&&◌}
 use Rattle.std.specs.Option.{option_or}
 use Rattle.exact_values.specs.Rational.{ℚ, whole, zero_ℚ}
@@ -11,19 +12,23 @@ use Rattle.listing_definitions.specs.declared.Mark.{Mark}
 use Rattle.listing_definitions.specs.declared.Solver.{Solver}
 use Rattle.listing_definitions.specs.declared.Solver.TheVariants.{Primal, Dual, Paraobj, Pararhs}
 use Rattle.listing_definitions.specs.Numbers.{digits, rational_text}
-use Rattle.listing_definitions.specs.Report.{Value, Line, Number, Check, Checked, Unchecked, OptimalAt, CrossedAt, InfeasibleBy, UnboundedBy, SolutionLines, ParametricInterval, ChainEnd, EndsAt, UnboundedPast, InfeasiblePast}
+use Rattle.listing_definitions.specs.Report.{Value, Line, Number, Check, Checked, Unchecked, OptimalAt, CrossedAt, InfeasibleBy, UnboundedBy, SolutionLines}
+use Rattle.listing_definitions.specs.Report.{ParametricInterval, ChainEnd, EndsAt, UnboundedPast, InfeasiblePast}
 use Rattle.listing_definitions.specs.Text.{solver_text, mark_text, value_text}
 use Rattle.question_definitions.specs.Answers.{Sheet}
 use Rattle.answer_definitions.specs.Lines.{row_numbers, column_numbers}
 use Rattle.walk_definitions.specs.Checkers.{Checker, checker_of_128_bits}
 use Rattle.walk_definitions.specs.Words.{Parsed, left_after, with_text, with_word, is_long, spelled, fraction_in, form_in, count_in, max_count}
 use Rattle.walk_definitions.specs.Forms.{all_operations}
-use Rattle.walk_definitions.specs.Tables.{Slot, AnyCode, AnyNumber, Known, value_in, slot_in, then_more, values_in, number_at, begins_table_line, line_head, line_of, line_in, table_in, multiplier_in, ray_in, pair_slots, part_slots}
-use Rattle.walk_definitions.specs.Reading.{Claim, with_check, optimal_in, crossed_in, infeasible_in, unbounded_in, claim_in, verdict_in, row_slots, column_slots, solution_in, interval_in, close_in}
+use Rattle.walk_definitions.specs.Tables.{Slot, AnyCode, AnyNumber, Known, value_in, slot_in, then_more, values_in, number_at, begins_table_line, line_head}
+use Rattle.walk_definitions.specs.Tables.{line_of, line_in, table_in, multiplier_in, ray_in, pair_slots, part_slots}
+use Rattle.walk_definitions.specs.Reading.{Claim, with_check, optimal_in, crossed_in, infeasible_in, unbounded_in, claim_in, verdict_in, row_slots}
+use Rattle.walk_definitions.specs.Reading.{column_slots, solution_in, interval_in, close_in}
 use Rattle.any_length_laws.specs.Laws.{HasLong}
 use Rattle.any_length_laws.proofs.Readers as readers
 use Rattle.any_length_laws.proofs.Grammar as grammar
-use Rattle.any_length_laws.proofs.Longer.{IsSuffix, text_suffix, Reads, done, nothing, unless, after_text, after_word, number_known, alike, mapped, gone_on, more, by_text, either}
+use Rattle.any_length_laws.proofs.Longer.{IsSuffix, text_suffix, Reads, done, nothing, unless, after_text, after_word, number_known, alike, mapped, gone_on}
+use Rattle.any_length_laws.proofs.Longer.{more, by_text, either}
 
 module _ (C : Checker) where
   -- a number that is read by its value has the form of one

@@ -2,7 +2,8 @@
 --     IsSuffix rest left           so much is left of it
 --     HasLong C rest               a word in it is a number that is too long for the checker
 --     Reads forms values           what the first reads, the second reads, or a long number stands there; and what is left is left of the text
-use Rattle.std.proofs.Common.{◌≡◌, ◌⊎◌, inl, inr, ℕ, pos, subst, Bool, true, false, List, [], ◌∷◌, ◌++◌, Option, Some, None, take, drop, length, if◌then◌else◌, refl, sym, ap, ◌∙◌, append_assoc, take-append-drop}
+use Rattle.std.proofs.Common.{◌≡◌, ◌⊎◌, inl, inr, ℕ, pos, subst, Bool, true, false, List, [], ◌∷◌, ◌++◌, Option, Some, None, take, drop, length, if◌then◌else◌}
+use Rattle.std.proofs.Common.{refl, sym, ap, ◌∙◌, append_assoc, take-append-drop}
 use Rattle.std.specs.Prelude.{option_map, option_and_then}
 use Rattle.std.specs.Option.{option_or}
 use Rattle.exact_values.specs.Rational.{ℚ, whole}

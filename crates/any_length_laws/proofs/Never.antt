@@ -6,12 +6,14 @@ use Rattle.check_definitions.specs.declared.Verdict.{Verdict}
 use Rattle.check_definitions.specs.declared.Verdict.TheVariants.{Checked, Failed, Unchecked}
 use Rattle.check_definitions.specs.Steps.{in_turn}
 use Rattle.listing_definitions.specs.Report.{ParametricInterval, ChainEnd}
-use Rattle.question_definitions.specs.Answers.{Sheet, parametric_solver, ParametricRun, OfPath, OfSolution, OfRanges, OfParametricRun, OfPunch, OfInstall, Reached, Opening, Chained}
+use Rattle.question_definitions.specs.Answers.{Sheet, parametric_solver, ParametricRun, OfPath, OfSolution, OfRanges, OfParametricRun, OfPunch, OfInstall}
+use Rattle.question_definitions.specs.Answers.{Reached, Opening, Chained}
 use Rattle.answer_definitions.specs.ParametricRuns.{sheet_at}
 use Rattle.walk_definitions.specs.Checkers.{Checker}
 use Rattle.walk_definitions.specs.Words.{Parsed, left_after, fraction_in}
 use Rattle.walk_definitions.specs.Tests.{says, making_steps, verdict_test, solution_test, interval_test, close_test}
-use Rattle.walk_definitions.specs.Reading.{Judged, Right, Fails, Refuses, Claim, Run, by_verdict, tested_or, tested_by, judged_map, verdict_in, solution_in, interval_in, close_in, parametric_run_head, onward, part_in, run_in, parametric_run_in}
+use Rattle.walk_definitions.specs.Reading.{Judged, Right, Fails, Refuses, Claim, Run, by_verdict, tested_or, tested_by, judged_map, verdict_in, solution_in}
+use Rattle.walk_definitions.specs.Reading.{interval_in, close_in, parametric_run_head, onward, part_in, run_in, parametric_run_in}
 use Rattle.any_length_laws.specs.Laws.{without_limit, NeverRefuses}
 use Rattle.any_length_laws.proofs.Tests.{IsTest, of_steps, over, next, verdict_is, solution_is, interval_is, close_is}
 

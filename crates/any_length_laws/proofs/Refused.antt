@@ -1,5 +1,6 @@
 -- Where an answer is refused by a checker of any length, a number that is too long stands in the text of the listing.
-use Rattle.std.proofs.Common.{◌≡◌, ◌⊎◌, inl, inr, ℕ, ◌+◌, Bool, true, false, List, [], ◌∷◌, ◌++◌, Option, Some, None, codes, nat_eq, if◌then◌else◌, refl, sym, ap, ◌∙◌, subst}
+use Rattle.std.proofs.Common.{◌≡◌, ◌⊎◌, inl, inr, ℕ, ◌+◌, Bool, true, false, List, [], ◌∷◌, ◌++◌, Option, Some, None, codes, nat_eq, if◌then◌else◌, refl, sym}
+use Rattle.std.proofs.Common.{ap, ◌∙◌, subst}
 use Rattle.std.specs.Prelude.{◌&&◌, is_some}
 use Rattle.exact_values.specs.Rational.{ℚ}
 use Rattle.frac128.specs.declared.Refused.{Refused}
@@ -7,12 +8,14 @@ use Rattle.check_definitions.specs.declared.Verdict.{Verdict}
 use Rattle.check_definitions.specs.declared.Verdict.TheVariants.{Checked, Failed, Unchecked}
 use Rattle.check_definitions.specs.Steps.{in_turn}
 use Rattle.listing_definitions.specs.Report.{ParametricInterval, ChainEnd}
-use Rattle.question_definitions.specs.Answers.{Sheet, parametric_solver, ParametricRun, OfPath, OfSolution, OfRanges, OfParametricRun, OfPunch, OfInstall, Reached, Opening, Chained}
+use Rattle.question_definitions.specs.Answers.{Sheet, parametric_solver, ParametricRun, OfPath, OfSolution, OfRanges, OfParametricRun, OfPunch, OfInstall}
+use Rattle.question_definitions.specs.Answers.{Reached, Opening, Chained}
 use Rattle.answer_definitions.specs.ParametricRuns.{sheet_at}
 use Rattle.walk_definitions.specs.Checkers.{Checker, checker_of_any_length}
 use Rattle.walk_definitions.specs.Words.{Parsed, left_after, fraction_in, form_in}
 use Rattle.walk_definitions.specs.Tests.{says, making_steps, verdict_test, solution_test, interval_test, close_test}
-use Rattle.walk_definitions.specs.Reading.{Judged, Right, Fails, Refuses, Claim, Run, by_verdict, tested_or, tested_by, judged_map, verdict_in, solution_in, interval_in, close_in, parametric_run_head, onward, part_in, run_in, parametric_run_in}
+use Rattle.walk_definitions.specs.Reading.{Judged, Right, Fails, Refuses, Claim, Run, by_verdict, tested_or, tested_by, judged_map, verdict_in, solution_in}
+use Rattle.walk_definitions.specs.Reading.{interval_in, close_in, parametric_run_head, onward, part_in, run_in, parametric_run_in}
 use Rattle.any_length_laws.specs.Laws.{HasLong, RefusesLong}
 use Rattle.any_length_laws.proofs.Tests.{any, IsTest, of_steps, over, next, verdict_is, solution_is, interval_is, close_is}
 use Rattle.any_length_laws.proofs.Longer.{IsSuffix, text_suffix, long_before, Reads}

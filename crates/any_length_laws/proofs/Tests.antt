@@ -11,19 +11,23 @@ use Rattle.frac128.specs.declared.Refused.{Refused}
 use Rattle.check_definitions.specs.declared.Verdict.{Verdict}
 use Rattle.check_definitions.specs.declared.Verdict.TheVariants.{Checked, Failed, Unchecked}
 use Rattle.check_definitions.specs.Steps.{Step, of_128_bits, followed_by, sum_steps, sum_of}
-use Rattle.check_definitions.specs.Checks.{equations, feasible_point, reduced_costs, ray_columns, multiplied, limit_product, ray_limits, free_direction, optimal_steps, crossed_steps, infeasible_steps, unbounded_steps}
+use Rattle.check_definitions.specs.Checks.{equations, feasible_point, reduced_costs, ray_columns, multiplied, limit_product, ray_limits, free_direction}
+use Rattle.check_definitions.specs.Checks.{optimal_steps, crossed_steps, infeasible_steps, unbounded_steps}
 use Rattle.check_definitions.proofs.Holding.{checked_widens, never_refused}
 use Rattle.check_definitions.proofs.Passing.{both_checked}
 use Rattle.simplex_definitions.specs.Chain.{along}
 use Rattle.listing_definitions.specs.declared.Mark.{Mark}
 use Rattle.listing_definitions.specs.declared.Mark.TheVariants.{Optimal, Infeasible, Unbounded}
-use Rattle.listing_definitions.specs.Report.{PathVerdict, OptimalAt, CrossedAt, InfeasibleBy, UnboundedBy, Check, SolutionLines, ParametricInterval, ChainEnd, EndsAt, UnboundedPast, InfeasiblePast}
+use Rattle.listing_definitions.specs.Report.{PathVerdict, OptimalAt, CrossedAt, InfeasibleBy, UnboundedBy, Check, SolutionLines, ParametricInterval, ChainEnd}
+use Rattle.listing_definitions.specs.Report.{EndsAt, UnboundedPast, InfeasiblePast}
 use Rattle.question_definitions.specs.Answers.{Sheet, Changing, Row, Set}
 use Rattle.answer_definitions.specs.Lines.{row_numbers}
 use Rattle.answer_definitions.specs.ParametricRuns.{row_of, shifts_of, family_of}
 use Rattle.walk_definitions.specs.Checkers.{Checker, checker_of_128_bits, checker_of_any_length}
 use Rattle.walk_definitions.specs.Tables.{column_of, multipliers}
-use Rattle.walk_definitions.specs.Tests.{asked, says, point_of, prices_of, slacks_of, slack_steps, making_steps, along_steps, keeping_steps, shift_products, claim_test, verdict_test, best_test, solution_test, end_test, part_test, interval_test, unbounded_past, infeasible_past, past_test, close_test}
+use Rattle.walk_definitions.specs.Tests.{asked, says, point_of, prices_of, slacks_of, slack_steps, making_steps, along_steps, keeping_steps, shift_products}
+use Rattle.walk_definitions.specs.Tests.{claim_test, verdict_test, best_test, solution_test, end_test, part_test, interval_test, unbounded_past}
+use Rattle.walk_definitions.specs.Tests.{infeasible_past, past_test, close_test}
 
 abbrev pub any : Option ℕ → Checker
 any limit = record checker_of_any_length { most_digits = limit }

@@ -18,7 +18,8 @@ use Rattle.run_definitions.specs.Answer.{job_decks}
 use Rattle.walk_definitions.specs.Checkers.{checker_of_128_bits, checker_of_any_length}
 use Rattle.walk_definitions.specs.Tests.{point_of}
 use Rattle.walk_definitions.specs.Reading.{Judged, Right, Fails, Refuses, judged}
-use Rattle.walk_definitions.specs.Walker.{Pending, Walker, Found, Attested, Wrong, Unchecked, WalkTurn, Walks, Finds, opened, refuses_selection, unless_found, closes, follows, passed, settled, noted, settling, answered, due, walk_move, walk_statement, turn}
+use Rattle.walk_definitions.specs.Walker.{Pending, Walker, Found, Attested, Wrong, Unchecked, WalkTurn, Walks, Finds, opened, refuses_selection, unless_found}
+use Rattle.walk_definitions.specs.Walker.{closes, follows, passed, settled, noted, settling, answered, due, walk_move, walk_statement, turn}
 use Rattle.walk_definitions.specs.Found.{Reaches, begun, walked, EndsIn, of_cards, of_control, of_walk}
 use Rattle.any_length_laws.specs.Laws.{Widens}
 use Rattle.any_length_laws.proofs.Judged.{judged_widens}

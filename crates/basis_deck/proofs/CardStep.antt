@@ -1,5 +1,6 @@
 -- The tests of a card of a basis deck, and what it adds, by what is known of the cards before it.
-use Rattle.std.proofs.Common.{◌≡◌, ℕ, ◌-◌, Bool, true, false, cond, not, ◌||◌, List, [], ◌∷◌, ◌++◌, Option, Some, None, set, replicate, refl, ap, ap₂, sym, ◌∙◌, unwrap_or, arith}
+use Rattle.std.proofs.Common.{◌≡◌, ℕ, ◌-◌, Bool, true, false, cond, not, ◌||◌, List, [], ◌∷◌, ◌++◌, Option, Some, None, set, replicate, refl, ap, ap₂, sym, ◌∙◌}
+use Rattle.std.proofs.Common.{unwrap_or, arith}
 use Rattle.std.specs.Prelude.{fold}
 use Rattle.std.specs.List.{list_any}
 use Rattle.std.specs.Option.{option_or, option_map}
@@ -25,7 +26,8 @@ use Rattle.deck_definitions.proofs.Steps.{section_after-push}
 use Rattle.basis_deck_definitions.specs.declared.Code.{Code}
 use Rattle.basis_deck_definitions.specs.declared.Code.TheVariants.{Exchanges, Stands}
 use Rattle.basis_deck_definitions.specs.Placings.{code_words, HasNames, Placing, placings_by, row_variable, column_variable}
-use Rattle.basis_deck_definitions.specs.Reading.{has_limit_of, is_named_in, filled_after, placings_on, placings_of, stands_for, code_fault, by_code, basis_card_fault}
+use Rattle.basis_deck_definitions.specs.Reading.{has_limit_of, is_named_in, filled_after, placings_on, placings_of, stands_for, code_fault, by_code}
+use Rattle.basis_deck_definitions.specs.Reading.{basis_card_fault}
 use Rattle.basis_deck_laws.proofs.Lawful.{row_is, column_is}
 use Rattle.basis_deck.specs.Reading.{marks_of, state_of, is_marked, ends_after, code_test, read_test, fault_at, with_code, with_read, state_with}
 use Rattle.basis_deck.proofs.Marks.{unmarked, marked_at, marks_more}

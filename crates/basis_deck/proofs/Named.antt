@@ -1,5 +1,6 @@
 -- The numbers of names in a table, and names that are put into one.
-use Rattle.std.proofs.Common.{◌≡◌, ℕ, zero, suc, ◌+◌, ◌<◌, Bool, true, false, cond, not, ◌||◌, List, [], ◌∷◌, Some, None, length, take, slice_get, refl, sym, ap, subst, ◌∙◌, unwrap_or, arith}
+use Rattle.std.proofs.Common.{◌≡◌, ℕ, zero, suc, ◌+◌, ◌<◌, Bool, true, false, cond, not, ◌||◌, List, [], ◌∷◌, Some, None, length, take, slice_get, refl, sym}
+use Rattle.std.proofs.Common.{ap, subst, ◌∙◌, unwrap_or, arith}
 use Rattle.std.specs.List.{AllByRecursion, list_any, position, position_or_len, IsDistinct}
 use Rattle.std.specs.Option.{option_map}
 use Rattle.std.proofs.lemmas.Bool.{lt-ltb}

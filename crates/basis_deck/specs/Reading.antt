@@ -1,5 +1,6 @@
 -- What a reader of a basis deck knows after the cards so far, what one more card does to it, and how reading stops.
-use Rattle.std.specs.Prelude.{◌≡◌, ℕ, ◌-◌, Bool, true, false, not, ◌&&◌, List, [], ◌∷◌, Option, Some, None, Err, fold, map, if◌then◌else◌, nat_eq, unwrap_or, option_map, slice_index_or, slice_set}
+use Rattle.std.specs.Prelude.{◌≡◌, ℕ, ◌-◌, Bool, true, false, not, ◌&&◌, List, [], ◌∷◌, Option, Some, None, Err, fold, map, if◌then◌else◌, nat_eq, unwrap_or}
+use Rattle.std.specs.Prelude.{option_map, slice_index_or, slice_set}
 use Rattle.std.specs.List.{list_any}
 use Rattle.std.specs.Option.{option_or}
 use Rattle.lp_definitions.specs.LinearProgram.{LinearProgram, variables}

@@ -55,7 +55,8 @@ impl<'a> BasisDraft<'a> {
     ghost use Rattle.deck_fields.specs.Views.{viewed};
     ghost use Rattle.basis_deck_definitions.specs.declared.Code.TheVariants.{Exchanges, Stands};
     ghost use Rattle.basis_deck_definitions.specs.Placings.{code_words, HasNames, row_variable, column_variable};
-    ghost use Rattle.basis_deck.specs.Reading.{State, state_of, code_test, read_test, inner_test, fault_at, with_placing, with_code, with_read, with_data, state_with};
+    ghost use Rattle.basis_deck.specs.Reading.{State, state_of, code_test, read_test, inner_test, fault_at, with_placing, with_code, with_read, with_data};
+    ghost use Rattle.basis_deck.specs.Reading.{state_with};
     ghost use Rattle.basis_deck.specs.DraftView.{state_view};
 
     /// A draft after no card: each variable stands as it opens.

@@ -1,5 +1,6 @@
 -- The cards of the bounds are accepted, and add those bounds.
-use Rattle.std.proofs.Common.{◌≡◌, ℕ, Bool, true, false, cond, not, ◌&&◌, ◌||◌, List, [], ◌∷◌, ◌++◌, Option, Some, None, map, is_some, refl, ap, ap₂, sym, ◌∙◌, subst, lit≤}
+use Rattle.std.proofs.Common.{◌≡◌, ℕ, Bool, true, false, cond, not, ◌&&◌, ◌||◌, List, [], ◌∷◌, ◌++◌, Option, Some, None, map, is_some, refl, ap, ap₂, sym, ◌∙◌}
+use Rattle.std.proofs.Common.{subst, lit≤}
 use Rattle.std.specs.List.{AllByRecursion, IsDistinct, flat_map}
 use Rattle.std.specs.Option.{IfSome, option_map}
 use Rattle.card_definitions.specs.Words.{is_empty, without_leading, ◌⟹◌}

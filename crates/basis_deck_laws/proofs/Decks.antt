@@ -1,5 +1,6 @@
 -- The cards of a written deck are one deck of a job, under the problem's name.
-use Rattle.std.proofs.Common.{◌≡◌, ℕ, ◌+◌, Bool, true, false, cond, not, List, [], ◌∷◌, ◌++◌, Option, Some, None, is_none, map, filter, take, drop, unwrap_or, refl, ap, sym, ◌∙◌, subst}
+use Rattle.std.proofs.Common.{◌≡◌, ℕ, ◌+◌, Bool, true, false, cond, not, List, [], ◌∷◌, ◌++◌, Option, Some, None, is_none, map, filter, take, drop, unwrap_or}
+use Rattle.std.proofs.Common.{refl, ap, sym, ◌∙◌, subst}
 use Rattle.std.specs.List.{AllByRecursion, flat_map, onto_first, prefix_len}
 use Rattle.std.specs.Option.{option_map}
 use Rattle.std.specs.Prelude.{codes}
@@ -16,7 +17,8 @@ use Rattle.deck_definitions.specs.declared.Section.TheVariants.{Header, Endata}
 use Rattle.deck_definitions.specs.Sections.{is_section, section_words, section_word, section_begun, begins, header_name}
 use Rattle.deck_definitions.specs.Decks.{parts_ended_by, decks_of, name_of_deck}
 use Rattle.deck_definitions.specs.DataCards.{combination_text}
-use Rattle.deck_definitions.specs.Written.{row_kind_text, bound_kind_text, bound_text, data_card, row_cards, entry_cards, column_cards, bound_cards, set_section, written}
+use Rattle.deck_definitions.specs.Written.{row_kind_text, bound_kind_text, bound_text, data_card, row_cards, entry_cards, column_cards, bound_cards}
+use Rattle.deck_definitions.specs.Written.{set_section, written}
 use Rattle.basis_deck_laws.proofs.Cards.{no_section, reassoc}
 use Rattle.basis_deck_laws.proofs.Whole.{name_card, after_word, name_card-is, begun_by, header-is}
 

@@ -1,5 +1,6 @@
 -- The deck that is written for a basis stands for that basis.
-use Rattle.std.proofs.Common.{◌≡◌, ◌≢◌, ℕ, zero, suc, ◌+◌, ◌-◌, ◌<◌, ◌≤◌, ◌⊎◌, inl, inr, Bool, true, false, cond, not, ◌||◌, ◌&&◌, unwrap_or, List, [], ◌∷◌, ◌++◌, Option, Some, None, Ok, length, map, get_or, refl, sym, ap, ap₂, subst, ◌∙◌, arith, zero-add}
+use Rattle.std.proofs.Common.{◌≡◌, ◌≢◌, ℕ, zero, suc, ◌+◌, ◌-◌, ◌<◌, ◌≤◌, ◌⊎◌, inl, inr, Bool, true, false, cond, not, ◌||◌, ◌&&◌, unwrap_or, List, [], ◌∷◌}
+use Rattle.std.proofs.Common.{◌++◌, Option, Some, None, Ok, length, map, get_or, refl, sym, ap, ap₂, subst, ◌∙◌, arith, zero-add}
 use Rattle.std.specs.Prelude.{nat_eq, nat_le, eqb, IsSome, codes, filter, zip}
 use Rattle.std.proofs.lemmas.List.Recursion.{is_count_by}
 use Rattle.std.specs.List.{AllByRecursion, list_any, flat_map, last_or, cons_option}
@@ -31,7 +32,8 @@ use Rattle.basis_deck_definitions.specs.Placings.{HasNames, Placing, code_words,
 use Rattle.basis_deck_definitions.specs.Reading.{placings_of, stands_for, basis_card_fault, basis_reading}
 use Rattle.basis_deck_definitions.specs.Writing.{is_up, is_raised, basic_columns, nonbasic_rows, raised, exchange_card, limit_card, basis_deck}
 use Rattle.basis_deck_laws.proofs.Lawful.{places, put, row_opens, column_opens}
-use Rattle.basis_deck_laws.proofs.Spoken.{row_limit, exchange_placings, limit_placings, AreFreeInTurn, Speaks, exchange_speaks, limit_speaks, AreAccepted, accepted, accepted-then, card_placed}
+use Rattle.basis_deck_laws.proofs.Spoken.{row_limit, exchange_placings, limit_placings, AreFreeInTurn, Speaks, exchange_speaks, limit_speaks, AreAccepted}
+use Rattle.basis_deck_laws.proofs.Spoken.{accepted, accepted-then, card_placed}
 
 -- ---- numbers that pass
 

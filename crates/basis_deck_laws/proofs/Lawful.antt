@@ -1,5 +1,6 @@
 -- What a deck without a fault stands for is a basis.
-use Rattle.std.proofs.Common.{◌≡◌, ◌≢◌, ℕ, ◌<◌, ◌≤◌, ◌⊎◌, inl, inr, Bool, true, false, cond, not, ◌||◌, ◌&&◌, unwrap_or, List, [], ◌∷◌, ◌++◌, Option, Some, None, Ok, length, refl, sym, ap, subst, ◌∙◌, arith}
+use Rattle.std.proofs.Common.{◌≡◌, ◌≢◌, ℕ, ◌<◌, ◌≤◌, ◌⊎◌, inl, inr, Bool, true, false, cond, not, ◌||◌, ◌&&◌, unwrap_or, List, [], ◌∷◌, ◌++◌, Option, Some}
+use Rattle.std.proofs.Common.{None, Ok, length, refl, sym, ap, subst, ◌∙◌, arith}
 use Rattle.std.specs.Prelude.{nat_le, nat_eq, IsSome, is_none, fold, codes, bytes_eq}
 use Rattle.std.specs.List.{list_any}
 use Rattle.std.specs.Option.{option_map}
@@ -30,7 +31,8 @@ use Rattle.deck_definitions.specs.Conversion.{section_card_fault, gaps_fault, fi
 use Rattle.basis_deck_definitions.specs.declared.Code.{Code}
 use Rattle.basis_deck_definitions.specs.declared.Code.TheVariants.{Exchanges, Stands}
 use Rattle.basis_deck_definitions.specs.Placings.{code_words, HasNames, Placing, placings_by, row_variable, column_variable}
-use Rattle.basis_deck_definitions.specs.Reading.{has_limit_of, placings_on, placings_of, stands_for, is_named_in, row_fault, filled_after, code_fault, by_code, basis_data_fault, basis_card_fault, basis_reading}
+use Rattle.basis_deck_definitions.specs.Reading.{has_limit_of, placings_on, placings_of, stands_for, is_named_in, row_fault, filled_after, code_fault, by_code}
+use Rattle.basis_deck_definitions.specs.Reading.{basis_data_fault, basis_card_fault, basis_reading}
 
 -- ---- tests and codes
 

@@ -1,12 +1,14 @@
 -- A number's text and a written card have printable bytes alone.
-use Rattle.std.proofs.Common.{◌≡◌, ℕ, suc, ◌+◌, ◌-◌, ◌≤◌, Bool, true, false, cond, not, eqb, ◌&&◌, ◌||◌, List, [], ◌∷◌, length, take, drop, refl, ap, ◌∙◌, subst, arith, nat_le, nat_lt}
+use Rattle.std.proofs.Common.{◌≡◌, ℕ, suc, ◌+◌, ◌-◌, ◌≤◌, Bool, true, false, cond, not, eqb, ◌&&◌, ◌||◌, List, [], ◌∷◌, length, take, drop, refl, ap, ◌∙◌}
+use Rattle.std.proofs.Common.{subst, arith, nat_le, nat_lt}
 use Rattle.std.specs.List.{list_all, prefix_len, before_first, after_first, position_or_len}
 use Rattle.std.proofs.lemmas.List.{length-take}
 use Rattle.std.proofs.lemmas.Bool.{leb-true, leb-false, eqb-true, and_from}
 use Rattle.card_definitions.specs.declared.NumberFault.TheVariants.{Empty, BadCharacter, NoDigit, ExponentRange}
 use Rattle.card_definitions.specs.Words.{without_leading, is_empty, ◌⟹◌}
 use Rattle.card_definitions.specs.Cards.{is_blank, is_printable}
-use Rattle.card_definitions.specs.Numbers.{Decimal, is_digit, is_sign, is_point, is_exponent_letter, after_one, trimmed, mantissa, exponent, after_whole_digits, rest_of_mantissa, rest_of_exponent, formed_length, lacks_digit, exponent_size, number_fault}
+use Rattle.card_definitions.specs.Numbers.{Decimal, is_digit, is_sign, is_point, is_exponent_letter, after_one, trimmed, mantissa, exponent, after_whole_digits}
+use Rattle.card_definitions.specs.Numbers.{rest_of_mantissa, rest_of_exponent, formed_length, lacks_digit, exponent_size, number_fault}
 use Rattle.card_definitions.proofs.FirstFaults.{passes, test_fails}
 use Rattle.problem_definitions.specs.Valid.{IsDecimal}
 use Rattle.basis_deck_laws.proofs.Facts.{reads-as}

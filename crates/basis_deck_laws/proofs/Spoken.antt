@@ -1,5 +1,6 @@
 -- What the cards say that are written for a basis, whatever cards stand before them.
-use Rattle.std.proofs.Common.{◌≡◌, ℕ, ◌+◌, ◌-◌, ◌<◌, Bool, true, false, cond, not, ◌||◌, ◌&&◌, unwrap_or, List, [], ◌∷◌, ◌++◌, Option, Some, None, length, map, refl, sym, ap, ap₂, subst, ◌∙◌, arith}
+use Rattle.std.proofs.Common.{◌≡◌, ℕ, ◌+◌, ◌-◌, ◌<◌, Bool, true, false, cond, not, ◌||◌, ◌&&◌, unwrap_or, List, [], ◌∷◌, ◌++◌, Option, Some, None, length, map}
+use Rattle.std.proofs.Common.{refl, sym, ap, ap₂, subst, ◌∙◌, arith}
 use Rattle.std.specs.Prelude.{IsSome, is_none, codes}
 use Rattle.std.specs.List.{AllByRecursion, list_any, flat_map}
 use Rattle.std.specs.Option.{option_or, option_map}
@@ -35,7 +36,8 @@ use Rattle.basis_deck_laws.proofs.Facts.{none_found, not_found, fits-name, label
 use Rattle.basis_deck_definitions.specs.declared.Code.{Code}
 use Rattle.basis_deck_definitions.specs.declared.Code.TheVariants.{Exchanges, Stands}
 use Rattle.basis_deck_definitions.specs.Placings.{code_words, HasNames, Placing, placings_by, row_variable, column_variable}
-use Rattle.basis_deck_definitions.specs.Reading.{has_limit_of, placings_on, placings_of, is_named_in, filled_after, code_fault, by_code, basis_data_fault, basis_card_fault}
+use Rattle.basis_deck_definitions.specs.Reading.{has_limit_of, placings_on, placings_of, is_named_in, filled_after, code_fault, by_code, basis_data_fault}
+use Rattle.basis_deck_definitions.specs.Reading.{basis_card_fault}
 use Rattle.basis_deck_definitions.specs.Writing.{is_up, exchange_card, limit_card}
 use Rattle.basis_deck_laws.proofs.Lawful.{places}
 

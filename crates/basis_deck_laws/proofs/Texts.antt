@@ -1,5 +1,6 @@
 -- The text of a written deck, read as cards, is those cards.
-use Rattle.std.proofs.Common.{◌≡◌, ℕ, zero, suc, ◌-◌, Bool, true, false, cond, eqb, ◌&&◌, ◌||◌, List, [], ◌∷◌, ◌++◌, Option, Some, None, is_none, length, map, filter, take, replicate, refl, ap, ap₂, sym, ◌∙◌}
+use Rattle.std.proofs.Common.{◌≡◌, ℕ, zero, suc, ◌-◌, Bool, true, false, cond, eqb, ◌&&◌, ◌||◌, List, [], ◌∷◌, ◌++◌, Option, Some, None, is_none, length, map}
+use Rattle.std.proofs.Common.{filter, take, replicate, refl, ap, ap₂, sym, ◌∙◌}
 use Rattle.std.specs.List.{AllByRecursion, list_all, flat_map, slice_split, suffix_len}
 use Rattle.std.specs.Option.{IfSome}
 use Rattle.std.specs.Prelude.{codes}
@@ -25,7 +26,8 @@ use Rattle.problem_definitions.proofs.Each.{each-all, each-append, each-change}
 use Rattle.problem_definitions.proofs.Parts.{parts-there}
 use Rattle.problem_definitions.proofs.Lawful.{IsLabel, AreLawfulEntries, AreLawfulBounds, IsLawful}
 use Rattle.deck_definitions.specs.DataCards.{combination_text}
-use Rattle.deck_definitions.specs.Written.{row_kind_text, bound_kind_text, data_card, row_cards, entry_cards, column_cards, bound_text, bound_cards, set_section, written, card_text}
+use Rattle.deck_definitions.specs.Written.{row_kind_text, bound_kind_text, data_card, row_cards, entry_cards, column_cards, bound_text, bound_cards}
+use Rattle.deck_definitions.specs.Written.{set_section, written, card_text}
 use Rattle.revise_laws.proofs.Lists.{each-filter}
 use Rattle.revise_laws.proofs.ByNames.{named-lawful}
 use Rattle.basis_deck_laws.proofs.Facts.{from-map, label-of}

@@ -1,5 +1,6 @@
 -- How long a motion lasts until a variable reaches the limit ahead of it.
-use Rattle.std.proofs.Common.{◌≡◌, ◌≢◌, ℕ, ◌+◌, ◌≤◌, Bool, true, false, refl, sym, ◌∙◌, ap, ap₂, subst, arith, add-one, ℤ, pos, ◌<◌, ◌*◌, ◌^◌, ◌+ℤ◌, ◌*ℤ◌, ◌<ℤ◌, ◌≤ℤ◌, to_z, of_z, FitsSigned}
+use Rattle.std.proofs.Common.{◌≡◌, ◌≢◌, ℕ, ◌+◌, ◌≤◌, Bool, true, false, refl, sym, ◌∙◌, ap, ap₂, subst, arith, add-one, ℤ, pos, ◌<◌, ◌*◌, ◌^◌, ◌+ℤ◌, ◌*ℤ◌, ◌<ℤ◌}
+use Rattle.std.proofs.Common.{◌≤ℤ◌, to_z, of_z, FitsSigned}
 use Rattle.std.specs.Int.{w8}
 use Rattle.frac128.proofs.Parts.{zero-minus, read, read_fitting}
 use Rattle.frac128.specs.Terms.{Fits}
@@ -14,7 +15,8 @@ use Rattle.exact_values.proofs.RingLaws.{zero-add}
 use Rattle.exact_values.proofs.Inverse.{inverse-neg}
 use Rattle.exact_values.proofs.Order.{lt_irrefl, le_of_lt}
 use Rattle.exact_values.proofs.Ring.{by_ring1, by_ring2, number, ◌⊗◌, ◌≐◌, opposite}
-use Rattle.exact_values.proofs.TestsLaws.{lt_from_test, test_from_lt, lt_fails_from_le, above_from_positive, below_from_negative, sign_from_above, sign_from_below, sign_from_zero, zero_from_sign}
+use Rattle.exact_values.proofs.TestsLaws.{lt_from_test, test_from_lt, lt_fails_from_le, above_from_positive, below_from_negative, sign_from_above}
+use Rattle.exact_values.proofs.TestsLaws.{sign_from_below, sign_from_zero, zero_from_sign}
 use Rattle.exact_values.proofs.Compare.{lt_from_compare, same_from_compare, gt_from_compare}
 use Rattle.exact_values.proofs.Signs.{neg_above, neg_below}
 use Rattle.lp_definitions.specs.LinearProgram.{LinearProgram, Vector, lower_of, upper_of}
@@ -158,7 +160,8 @@ whole_less_made limit value n d top scaled left one some is n_fits d_fits top_fi
     let small : unsigned_abs n < 2 ^ 127 = n_fits in
     let opposite_fits : Fits (pos 0 -ℤ n) = omega (arith, ints, small) in
     let scaled_is : read scaled ≡ limit.numerator *ℤ d =
-    ap read scaled_made.1 ∙ read_fitting (read top *ℤ read d) scaled_made.0 ∙ ap₂ (λ x y. x *ℤ y) (read_fitting top top_fits ∙ top_is) (read_fitting d d_fits) in
+    ap read scaled_made.1 ∙ read_fitting (read top *ℤ read d) scaled_made.0 ∙ ap₂ (λ x y. x *ℤ y) (read_fitting top top_fits ∙ top_is)
+    (read_fitting d d_fits) in
     let turned : read (pos 0 -ℤ read n) ≡ neg_ℤ n =
     ap (λ m. read (pos 0 -ℤ m)) (read_fitting n n_fits) ∙ read_fitting (pos 0 -ℤ n) opposite_fits ∙ zero-minus n in
     let left_is : read left ≡ limit.numerator *ℤ d +ℤ neg_ℤ n =

@@ -1,11 +1,13 @@
 -- The sums of a point, column by column.
-use Rattle.std.proofs.Common.{◌≡◌, ℕ, zero, suc, ◌+◌, ◌-◌, ◌<◌, ◌≤◌, List, [], ◌∷◌, ◌++◌, map, take, length, Bool, true, false, cond, refl, sym, ◌∙◌, ap, ap₂, subst, arith, add-one}
+use Rattle.std.proofs.Common.{◌≡◌, ℕ, zero, suc, ◌+◌, ◌-◌, ◌<◌, ◌≤◌, List, [], ◌∷◌, ◌++◌, map, take, length, Bool, true, false, cond, refl, sym, ◌∙◌, ap, ap₂}
+use Rattle.std.proofs.Common.{subst, arith, add-one}
 use Rattle.std.specs.Prelude.{Some, not, filter, slice_get}
 use Rattle.std.proofs.lemmas.List.{length-append}
 use Rattle.exact_values.specs.Rational.{ℚ, zero_ℚ, ◌+ℚ◌, ◌*ℚ◌}
 use Rattle.exact_values.proofs.RingLaws.{add-zero, mul-zero}
 use Rattle.lp_definitions.specs.LinearProgram.{Matrix, LinearProgram, Vector, size, IsVariable, numbers_from, lower_of, upper_of}
-use Rattle.lp_definitions.specs.Basis.{Basics, basics_of, is_in, status_of, IsBasis, IsBasic, IsNonbasic, IsNonsingular, IsPointOf, IsDirectionOf, AreRates, StandsAt}
+use Rattle.lp_definitions.specs.Basis.{Basics, basics_of, is_in, status_of, IsBasis, IsBasic, IsNonbasic, IsNonsingular, IsPointOf, IsDirectionOf, AreRates}
+use Rattle.lp_definitions.specs.Basis.{StandsAt}
 use Rattle.lp_definitions.specs.RatesEvidence.{sum_from}
 use Rattle.lp_definitions.specs.declared.Evidence.{Evidence}
 use Rattle.lp_definitions.specs.declared.Status.{Status}

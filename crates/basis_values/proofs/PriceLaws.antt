@@ -3,7 +3,8 @@ use Rattle.std.proofs.Common.{◌≡◌, ℕ, inl, List, [], ◌∷◌, ◌++◌
 use Rattle.std.specs.Prelude.{Option, Some, None, IsTrue, Contains}
 use Rattle.exact_values.specs.Rational.{ℚ, zero_ℚ, ◌+ℚ◌, ◌*ℚ◌}
 use Rattle.exact_values.proofs.RingLaws.{add-zero, mul-zero, zero-mul}
-use Rattle.lp_definitions.specs.LinearProgram.{LinearProgram, Vector, size, IsVariable, IsRow, HasNoLimits, IsLinearProgram, ChangeIsFree, with_change, with_change_row}
+use Rattle.lp_definitions.specs.LinearProgram.{LinearProgram, Vector, size, IsVariable, IsRow, HasNoLimits, IsLinearProgram, ChangeIsFree, with_change}
+use Rattle.lp_definitions.specs.LinearProgram.{with_change_row}
 use Rattle.lp_definitions.specs.Basis.{Basics, basics_of, is_in, is_basic, IsBasis, IsBasic, IsNonsingular, ArePricesOf, price_at, Tableau}
 use Rattle.lp_definitions.specs.Waypoints.{waypoint}
 use Rattle.lp_definitions.specs.declared.Change.{Change}

@@ -5,7 +5,8 @@ use Rattle.exact_values.specs.Rational.{ℚ}
 use Rattle.lp_definitions.specs.LinearProgram.{Matrix, LinearProgram}
 use Rattle.lp_definitions.specs.Basis.{Basics, basics_of, IsBasis, IsNonsingular, AreRates, Tableau, IsTableau}
 use Rattle.lp_definitions.specs.Waypoints.{IsWaypoint, IsWithinOne, KeepsWaypoints, waypoint}
-use Rattle.lp_definitions.specs.RatesEvidence.{ExchangeRefused, CarriedRefused, EntryRefused, RowRefused, ExchangeFormula, f1, f2, f3, f4, f5, CarriedFormula, f12_product, f12_sum, f12_quotient, EntryFormula, f11_product, f11_sum}
+use Rattle.lp_definitions.specs.RatesEvidence.{ExchangeRefused, CarriedRefused, EntryRefused, RowRefused, ExchangeFormula, f1, f2, f3, f4, f5, CarriedFormula}
+use Rattle.lp_definitions.specs.RatesEvidence.{f12_product, f12_sum, f12_quotient, EntryFormula, f11_product, f11_sum}
 use Rattle.lp_definitions.specs.declared.Change.{Change}
 use Rattle.lp_definitions.specs.declared.Evidence.{Evidence}
 use Rattle.lp_definitions.specs.declared.Status.{Status}

@@ -1,5 +1,6 @@
 -- The text of a written deck, section by section.
-use Rattle.std.proofs.Common.{◌≡◌, ◌+◌, ℕ, List, [], ◌∷◌, ◌++◌, Option, Some, None, is_none, codes, length, map, take, filter, refl, ap, ap₂, sym, ◌∙◌, append_assoc, arith}
+use Rattle.std.proofs.Common.{◌≡◌, ◌+◌, ℕ, List, [], ◌∷◌, ◌++◌, Option, Some, None, is_none, codes, length, map, take, filter, refl, ap, ap₂, sym, ◌∙◌}
+use Rattle.std.proofs.Common.{append_assoc, arith}
 use Rattle.std.specs.List.{flat_map, sum_by}
 use Rattle.std.specs.Option.{option_to_list}
 use Rattle.std.proofs.lemmas.List.{append-nil, length-append, length-map}
@@ -12,8 +13,10 @@ use Rattle.problem_definitions.specs.Names.{Name, name_at}
 use Rattle.problem_definitions.specs.Problem.{Row, Entry, Bound, Group, Problem, group_names}
 use Rattle.problem_definitions.specs.Numbering.{entry_by, row_by, bound_by, group_by, by_names}
 use Rattle.deck_definitions.specs.DataCards.{combination_text}
-use Rattle.deck_definitions.specs.Written.{data_card, row_cards, bound_kind_text, bound_text, entry_cards, bound_cards, column_cards, set_section, written, card_text}
-use Rattle.bcd_out.specs.Lines.{line, row_lines, first_plain, zero_line, entry_lines, column_lines, bound_lines, section_lines, row_count, column_count, section_count}
+use Rattle.deck_definitions.specs.Written.{data_card, row_cards, bound_kind_text, bound_text, entry_cards, bound_cards, column_cards, set_section, written}
+use Rattle.deck_definitions.specs.Written.{card_text}
+use Rattle.bcd_out.specs.Lines.{line, row_lines, first_plain, zero_line, entry_lines, column_lines, bound_lines, section_lines, row_count, column_count}
+use Rattle.bcd_out.specs.Lines.{section_count}
 
 -- the names of rows
 abbrev labels : List (Row ℕ) → List Name

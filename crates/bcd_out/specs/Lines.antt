@@ -1,7 +1,8 @@
 -- The lines of a written deck, by the numbers of rows and columns.
 use denote.Bor.{Bor}
 use Rattle.std.specs.Borrow.{MutBor}
-use Rattle.std.specs.Prelude.{◌≡◌, ℕ, ◌+◌, length, sum_by, List, [], ◌∷◌, ◌++◌, codes, if◌then◌else◌, map, Option, Some, None, is_none, unwrap_or, option_map, Result}
+use Rattle.std.specs.Prelude.{◌≡◌, ℕ, ◌+◌, length, sum_by, List, [], ◌∷◌, ◌++◌, codes, if◌then◌else◌, map, Option, Some, None, is_none, unwrap_or, option_map}
+use Rattle.std.specs.Prelude.{Result}
 use Rattle.std.specs.List.{flat_map, find}
 use Rattle.std.specs.Option.{option_to_list}
 use Rattle.card_definitions.specs.Words.{is_empty, padded}

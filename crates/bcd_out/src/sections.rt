@@ -7,7 +7,8 @@ ghost use Rattle.problem_definitions.specs.Names.{name_at};
 ghost use Rattle.problem_definitions.specs.Problem.{group_names};
 ghost use Rattle.deck_definitions.specs.Written.{row_kind_text, bound_kind_text};
 ghost use Rattle.job_devices.specs.Text.{Writes, text_of_pieces};
-ghost use Rattle.bcd_out.specs.Lines.{WritesEach, line, bare_line, item_line, combination_lines, row_lines, first_plain, zero_line, entry_lines, column_lines, bound_line, number_text, bound_lines, section_lines};
+ghost use Rattle.bcd_out.specs.Lines.{WritesEach, line, bare_line, item_line, combination_lines, row_lines, first_plain, zero_line, entry_lines, column_lines};
+ghost use Rattle.bcd_out.specs.Lines.{bound_line, number_text, bound_lines, section_lines};
 
 use crate::card::{WrittenCard, put_card};
 use deck_fields::combination_word;

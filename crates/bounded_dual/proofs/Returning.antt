@@ -137,7 +137,14 @@ module _ (p : LinearProgram) (lawful : IsLinearProgram p) (no_change : p.change 
       (
         after s
             (record { enters = q; leaves = r; to = to }),
-        record { tableau = return_move.0; is_tableau = return_move.1; move = record { enters = q; leaves = r; to = to }; turns = return_move.2; is_next = refl },
+        record {
+          tableau = return_move.0;
+          is_tableau = return_move.1;
+          move = record { enters = q; leaves = r; to = to };
+          turns = return_move.2;
+          is_next =
+              refl;
+        },
       ),
     )
 

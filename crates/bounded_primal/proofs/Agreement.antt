@@ -12,7 +12,8 @@ use Rattle.lp_definitions.specs.declared.Status.{Status}
 use Rattle.lp_laws.specs.Vectors.{along}
 use Rattle.lp_laws.proofs.Uniqueness.{one_point}
 use Rattle.frac128.specs.declared.Op.TheVariants.{Sub, Div}
-use Rattle.simplex_definitions.specs.Moves.{on_limit, is_below, is_above, is_outside, limit_ahead, step_length, blocking_variable, is_no_later, reaches_first, signed, reached}
+use Rattle.simplex_definitions.specs.Moves.{on_limit, is_below, is_above, is_outside, limit_ahead, step_length, blocking_variable, is_no_later, reaches_first}
+use Rattle.simplex_definitions.specs.Moves.{signed, reached}
 use Rattle.simplex_laws.proofs.Numbered.{find_same, list_all_same}
 use Rattle.simplex_laws.proofs.BlockingVariables.{blocking_variable_some}
 use Rattle.simplex_definitions.specs.Formulas.{limit_numbered, number_of_limit}
@@ -142,7 +143,8 @@ module _ (p : LinearProgram) (z w : Vector) (agrees : AgreesAtLimits p z w) wher
         (step_length_agrees (motion d up) k (blocking_variable_some p w (motion d up) k found).0)
 
     pub blocking_variable_of_same : blocking_variable_of p z d up ≡ blocking_variable_of p w d up
-    blocking_variable_of_same = ap (option_map (stop_at p z d up)) (blocking_variable_agrees (motion d up)) ∙ stop_same (blocking_variable p w (motion d up)) refl
+    blocking_variable_of_same = ap (option_map (stop_at p z d up)) (blocking_variable_agrees (motion d up)) ∙ stop_same (blocking_variable p w (motion d up))
+        refl
 
     pub step_length_refused : (q : ℕ) (e : Evidence) → SomeStepLengthRefused p z d up q e → SomeStepLengthRefused p w d up q e
     step_length_refused q e h = (h.0, h.1, at h.0 h.1 h.2)

@@ -71,14 +71,16 @@ module _ (p : LinearProgram) (s : List Status) (basis : IsBasis p s) (ws : List 
     one_improves found q m is m_is h = subst (Improves p s) (sym m_is) (found_one q (subst (IsFirstWanted p.matrix (basics_of s) p.objective ws min xs) is h))
 
 -- what is wanted after a step, but for what is renewed
-pub wants_moved : (p : LinearProgram) (s : List Status) (basis : IsBasis p s) (ws : List Wanted) (wants : AreWants p s ws) (d : Vector) (q : ℕ) (by : BlockingVariable)
+pub wants_moved : (p : LinearProgram) (s : List Status) (basis : IsBasis p s) (ws : List Wanted) (wants : AreWants p s ws) (d : Vector) (q : ℕ)
+    (by : BlockingVariable)
     (left : ℕ) (h : MovesOn p s d q by left) (next : List Status)
     → next ≡ after s (move_by q by) → AreWantsBut p next by.p q ws
 wants_moved p s basis ws wants d q by left h next is =
     wants_after p s ws wants basis (move_by q by) next h.nonbasic.0 (step_reaches p s h.step.point d q by h.step.is_step h.pivot).is_variable is
 
 -- what leaves is a variable
-pub leaves_variable : (p : LinearProgram) (s : List Status) (d : Vector) (q : ℕ) (by : BlockingVariable) (left : ℕ) → MovesOn p s d q by left → IsVariable p.matrix by.p
+pub leaves_variable : (p : LinearProgram) (s : List Status) (d : Vector) (q : ℕ) (by : BlockingVariable) (left : ℕ) → MovesOn p s d q by left →
+    IsVariable p.matrix by.p
 leaves_variable p s d q by left h = (step_reaches p s h.step.point d q by h.step.is_step h.pivot).is_variable
 
 -- what improves the objective by all prices

@@ -8,7 +8,8 @@ use Rattle.lp_definitions.specs.Basis.{is_in, basics_of, status_of, is_basic, Is
 use Rattle.lp_definitions.specs.declared.Status.{Status}
 use Rattle.lp_laws.proofs.Uniqueness.{is_in-basics_of}
 use Rattle.lp_model.specs.RatesCalls.{IsRowOf}
-use Rattle.simplex_definitions.specs.Moves.{signed, is_fixed, rises_from, falls_from, lowers, entering, step_length, is_no_later, reaches_first, blocking_variable}
+use Rattle.simplex_definitions.specs.Moves.{signed, is_fixed, rises_from, falls_from, lowers, entering, step_length, is_no_later, reaches_first}
+use Rattle.simplex_definitions.specs.Moves.{blocking_variable}
 use Rattle.simplex_definitions.specs.Path.{listed, ray_of}
 use Rattle.simplex_laws.proofs.Numbered.{find_same, list_all_same, get_or-listed}
 use Rattle.simplex_laws.proofs.OneTurn.{idle_basic}
@@ -36,7 +37,8 @@ step_length_same p z v w k e =
     ap (λ v. option_map (λ l. (l -ℚ z k) /ℚ v) (if lt_ℚ zero_ℚ v then upper_of p k else (if lt_ℚ v zero_ℚ then lower_of p k else None))) e
 
 -- motions with the same speeds at the variables are stopped by the same variable
-pub blocking_variable_same : (p : LinearProgram) (z v w : Vector) → ((k : ℕ) → IsVariable p.matrix k → v k ≡ w k) → blocking_variable p z v ≡ blocking_variable p z w
+pub blocking_variable_same : (p : LinearProgram) (z v w : Vector) → ((k : ℕ) → IsVariable p.matrix k → v k ≡ w k) → blocking_variable p z v
+    ≡ blocking_variable p z w
 blocking_variable_same p z v w same =
     find_same (reaches_first p z v) (reaches_first p z w) (size p.matrix) 1 (λ k low high.
     list_all_same (λ i. is_no_later (step_length p z v k) (step_length p z v i)) (λ i. is_no_later (step_length p z w k) (step_length p z w i))

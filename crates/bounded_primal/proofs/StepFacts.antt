@@ -9,7 +9,8 @@ use Rattle.exact_values.proofs.Inverse.{mul-inverse}
 use Rattle.exact_values.proofs.Ring.{by_ring1, by_ring3, by_ring4, ◌⊕◌, ◌⊖◌, ◌⊗◌, ◌≐◌, opposite}
 use Rattle.exact_values.proofs.RingLaws.{mul-one}
 use Rattle.lp_definitions.specs.LinearProgram.{Matrix, LinearProgram, Vector, size, IsVariable, lower_of, upper_of}
-use Rattle.lp_definitions.specs.Basis.{Basics, basics_of, is_in, is_basic, status_of, with_status, exchanged, IsBasis, IsBasic, IsNonbasic, IsNonsingular, IsDirectionOf, IsPointOf, IsAllowed, StandsAt}
+use Rattle.lp_definitions.specs.Basis.{Basics, basics_of, is_in, is_basic, status_of, with_status, exchanged, IsBasis, IsBasic, IsNonbasic, IsNonsingular}
+use Rattle.lp_definitions.specs.Basis.{IsDirectionOf, IsPointOf, IsAllowed, StandsAt}
 use Rattle.lp_definitions.specs.declared.Status.{Status}
 use Rattle.lp_definitions.specs.declared.Status.TheVariants.{Bs, Ll, Ul, Fr}
 use Rattle.lp_laws.specs.Vectors.{along}
@@ -70,7 +71,8 @@ stops_reaches p z d up by (Some k) found e moves =
     let same : stop_at p z d up k ≡ by = cc in
     subst (ReachesLimit p z d) same (stop_reaches p z d up k found (subst (λ (b : BlockingVariable). d b.p ≢ zero_ℚ) (sym same) moves))
 
-pub step_reaches : (p : LinearProgram) (s : List Status) (z d : Vector) (q : ℕ) (by : BlockingVariable) → IsStepBy p s z d q by → d by.p ≢ zero_ℚ → ReachesLimit p z d by
+pub step_reaches : (p : LinearProgram) (s : List Status) (z d : Vector) (q : ℕ) (by : BlockingVariable) → IsStepBy p s z d q by → d by.p ≢ zero_ℚ →
+    ReachesLimit p z d by
 step_reaches p s z d q by (is_blocking_variable up feasible may found) moves = stops_reaches p z d up by (blocking_variable p z (motion d up)) refl found moves
 step_reaches p s z d q by (brings l basic limit step) moves = record { is_variable = basic.0; limit = l; is_limit = limit; is_step = step }
 
@@ -112,7 +114,8 @@ comes_to z l d some =
     back : (z l : ℚ) → z +ℚ (l -ℚ z) ≡ l
     back z l = by_ring3 z l z (λ z l u. z ⊕ (l ⊖ z) ≐ l) refl
 
-module _ (p : LinearProgram) (s : List Status) (z d : Vector) (q : ℕ) (by : BlockingVariable) (basis : IsBasis p s) (nonsingular : IsNonsingular p.matrix (basics_of s))
+module _ (p : LinearProgram) (s : List Status) (z d : Vector) (q : ℕ) (by : BlockingVariable) (basis : IsBasis p s) (nonsingular : IsNonsingular p.matrix
+    (basics_of s))
     (out : IsNonbasic p.matrix (basics_of s) q)
     (direction : IsDirectionOf p.matrix (basics_of s) q d) (moves : d by.p ≢ zero_ℚ) (step : IsStepBy p s z d q by) where
   pub reaches : ReachesLimit p z d by

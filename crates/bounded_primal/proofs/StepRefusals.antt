@@ -84,7 +84,8 @@ module _ (p : LinearProgram) (s : List Status) (t : Tableau) (to : Status) (e : 
     }
 
 -- formula 8 or 9 of the step
-module _ (p : LinearProgram) (s : List Status) (z d : Vector) (q : ℕ) (by : BlockingVariable) (basis : IsBasis p s) (nonsingular : IsNonsingular p.matrix (basics_of s))
+module _ (p : LinearProgram) (s : List Status) (z d : Vector) (q : ℕ) (by : BlockingVariable) (basis : IsBasis p s) (nonsingular : IsNonsingular p.matrix
+    (basics_of s))
     (out : IsNonbasic p.matrix (basics_of s) q)
     (direction : IsDirectionOf p.matrix (basics_of s) q d) (moves : d by.p ≢ zero_ℚ) (step : IsStepBy p s z d q by) (point : IsPointOf p s z)
     (e : Evidence) where
@@ -188,7 +189,8 @@ module _ (p : LinearProgram) (s : List Status) (q : ℕ) (by : BlockingVariable)
             (Covers-insert p.matrix after (basics_of s) (exchanged (basics_of s) by.p q) before (kept_within p.matrix (basics_of s) before after keeps)) e h;
       }
 
-pub exchange_refused : (p : LinearProgram) (s : List Status) (q : ℕ) (by : BlockingVariable) (a : Matrix) (b c : Basics) (before after : List Basics) (stop : Stop) →
+pub exchange_refused : (p : LinearProgram) (s : List Status) (q : ℕ) (by : BlockingVariable) (a : Matrix) (b c : Basics) (before after : List Basics)
+    (stop : Stop) →
     HasRates a b p s → c ≡ b → KeepsWaypoints a b before c after →
     IfOverflow stop (ExchangeRefused a (b ∷ exchanged b by.p q ∷ before) b after) → IfOverflow stop (StepRefused p before s q by after)
 exchange_refused p s q by a b c before after stop has same keeps h =

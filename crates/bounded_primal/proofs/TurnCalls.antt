@@ -14,7 +14,8 @@ use Rattle.simplex_definitions.specs.Path.{Move, after, IsStep}
 use Rattle.simplex_laws.proofs.Numbered.{find_some}
 use Rattle.simplex_definitions.specs.Statements.{PathMoves}
 use Rattle.basis_values.specs.Motions.{motion}
-use Rattle.bounded_primal.specs.Turns.{IsUncrossed, least_outside, entering_variable_by, ReturnStops, by_column, by_return, RunStops, by_direction, by_blocking_variable, EvidenceAt, TurnStops, TurnFound}
+use Rattle.bounded_primal.specs.Turns.{IsUncrossed, least_outside, entering_variable_by, ReturnStops, by_column, by_return, RunStops, by_direction}
+use Rattle.bounded_primal.specs.Turns.{by_blocking_variable, EvidenceAt, TurnStops, TurnFound}
 use Rattle.bounded_primal.specs.declared.moves.PrimalStop.{PrimalStop}
 use Rattle.bounded_primal.specs.declared.moves.PrimalStop.TheVariants.{Limit, Overflow, NoMemory}
 use Rattle.bounded_primal.specs.declared.turns.EnteringVariable.{EnteringVariable}

@@ -20,14 +20,16 @@ use Rattle.basis_values.specs.Motions.{may_move, motion}
 use Rattle.bounded_primal.specs.KeptPoints.{AgreesWithPoint}
 use Rattle.bounded_primal.specs.Moves.{blocking_variable_of, return_by, move_by}
 use Rattle.bounded_primal.specs.Stops.{primal_stop_of}
-use Rattle.bounded_primal.specs.Turns.{IsUncrossed, least_outside, ray_from, entering_variable_by, Improves, IsUnboundedEnd, ReturnStops, by_column, by_return, RunStopsAtPoint, EndsHere, MovesOn, TurnStops}
+use Rattle.bounded_primal.specs.Turns.{IsUncrossed, least_outside, ray_from, entering_variable_by, Improves, IsUnboundedEnd, ReturnStops, by_column, by_return}
+use Rattle.bounded_primal.specs.Turns.{RunStopsAtPoint, EndsHere, MovesOn, TurnStops}
 use Rattle.bounded_primal.specs.declared.moves.PrimalStop.TheVariants.{Limit}
 use Rattle.bounded_primal.specs.declared.moves.BlockingVariable.{BlockingVariable}
 use Rattle.bounded_primal.specs.declared.turns.EnteringVariable.{EnteringVariable}
 use Rattle.bounded_primal.proofs.Agreement.{basis_point, outside_same, below_same, within_same, blocking_variable_of_same, return_same, return_refused}
 use Rattle.bounded_primal.proofs.TurnEvidence.{of_point, turn_stops}
 use Rattle.bounded_primal.proofs.TurnCalls.{step_of, outside_basic, stops_later, return_evidence, run_evidence}
-use Rattle.bounded_primal.proofs.TurnChoices.{infeasible_ends, limit_some, return_move, restoring_nonbasic, return_pivot, return_on, point_feasible, best_ends, improve_nonbasic, improve_may, unbounded_ends, run_move, run_on}
+use Rattle.bounded_primal.proofs.TurnChoices.{infeasible_ends, limit_some, return_move, restoring_nonbasic, return_pivot, return_on, point_feasible, best_ends}
+use Rattle.bounded_primal.proofs.TurnChoices.{improve_nonbasic, improve_may, unbounded_ends, run_move, run_on}
 
 -- a stop of the rates, of a point or of prices
 pub point_stops : (p : LinearProgram) (s : List Status) (left : ℕ) (before now : List Basics) (why : Stop) → IfOverflow why (PointRefused p before s now) →
@@ -105,7 +107,8 @@ module _ (p : LinearProgram) (s : List Status) (v : Vector) (a : Matrix) (b : Ba
             (λ e x. return_evidence p s z has.is_basis has.nonsingular point uncrossed left mid now e r xs row broken q found_is
             (subst (λ (t : Status). ReturnStops p s z q r t mid now e) (sym limit_is) (return_stops e x))) h)
 
-        pub first_moves : (d : Vector) → IsDirectionOf p.matrix (basics_of s) q d → (by : BlockingVariable) → by ≡ return_by p v d r to → (left : ℕ) → 1 ≤ left →
+        pub first_moves : (d : Vector) → IsDirectionOf p.matrix (basics_of s) q d → (by : BlockingVariable) → by ≡ return_by p v d r to → (left : ℕ) →
+            1 ≤ left →
             MovesOn p s d q by left
         first_moves d direction by by_is left was_left =
             subst (λ (x : BlockingVariable). MovesOn p s d q x left)
@@ -154,7 +157,8 @@ module _ (p : LinearProgram) (s : List Status) (v : Vector) (a : Matrix) (b : Ba
         same : blocking_variable_of p v d m.up ≡ blocking_variable_of p z d m.up
         same = blocking_variable_of_same p v z (agrees z point) d m.up
 
-        pub run_ends : (zs : List ℚ) (steps : ℕ) (outcome : Outcome) → None ≡ blocking_variable_of p v d m.up → length zs ≡ size p.matrix → IsPointOf p s (value_at zs) →
+        pub run_ends : (zs : List ℚ) (steps : ℕ) (outcome : Outcome) → None ≡ blocking_variable_of p v d m.up → length zs ≡ size p.matrix →
+            IsPointOf p s (value_at zs) →
             IsUnboundedEnd p zs d m.up steps outcome → EndsHere p s steps outcome
         run_ends zs steps outcome none counted are h =
             unbounded_ends p s (value_at zs) has.is_basis has.nonsingular are uncrossed moves.price moves.prices

@@ -7,7 +7,8 @@ use Rattle.exact_values.proofs.Order.{lt_irrefl, lt_not_le, le_of_lt}
 use Rattle.exact_values.proofs.TestsLaws.{lt_from_test}
 use Rattle.lp_definitions.specs.LinearProgram.{LinearProgram, Vector, size, value_at, IsVariable, lower_of, upper_of, for_min}
 use Rattle.lp_definitions.specs.Solutions.{IsFeasible}
-use Rattle.lp_definitions.specs.Basis.{basics_of, is_in, IsBasis, IsBasic, IsNonbasic, IsNonsingular, IsDirectionOf, AreRates, IsPointOf, ArePricesOf, Tableau, IsTableau, objective_rate, price_at}
+use Rattle.lp_definitions.specs.Basis.{basics_of, is_in, IsBasis, IsBasic, IsNonbasic, IsNonsingular, IsDirectionOf, AreRates, IsPointOf, ArePricesOf, Tableau}
+use Rattle.lp_definitions.specs.Basis.{IsTableau, objective_rate, price_at}
 use Rattle.lp_definitions.specs.declared.Status.{Status}
 use Rattle.lp_definitions.specs.declared.Status.TheVariants.{Ll, Ul}
 use Rattle.lp_model.specs.RatesCalls.{IsRowOf}
@@ -15,8 +16,10 @@ use Rattle.lp_model.specs.declared.reports.Outcome.{Outcome}
 use Rattle.lp_model.specs.declared.reports.Outcome.TheVariants.{Optimal, Crossed, Infeasible, Unbounded}
 use Rattle.lp_laws.proofs.Uniqueness.{one_direction}
 use Rattle.lp_laws.proofs.Values.{clash}
-use Rattle.simplex_definitions.specs.Moves.{least, is_crossed, is_below, signed, goes_up, lowers, may_rise, may_fall, entering, limit_ahead, step_length, blocking_variable}
-use Rattle.simplex_definitions.specs.Path.{Move, Moves, EndsOptimal, EndsCrossed, EndsInfeasible, EndsUnbounded, listed, ray_of, excess_rate, outside, worth_rate, entering_variable, restore_feasibility, run_until, improve, turn_for, turn}
+use Rattle.simplex_definitions.specs.Moves.{least, is_crossed, is_below, signed, goes_up, lowers, may_rise, may_fall, entering, limit_ahead, step_length}
+use Rattle.simplex_definitions.specs.Moves.{blocking_variable}
+use Rattle.simplex_definitions.specs.Path.{Move, Moves, EndsOptimal, EndsCrossed, EndsInfeasible, EndsUnbounded, listed, ray_of, excess_rate, outside}
+use Rattle.simplex_definitions.specs.Path.{worth_rate, entering_variable, restore_feasibility, run_until, improve, turn_for, turn}
 use Rattle.simplex_laws.proofs.Numbered.{find_some}
 use Rattle.simplex_laws.proofs.BlockingVariables.{blocking_variable_some, reaches_limit}
 use Rattle.simplex_laws.proofs.Turns.{IsFirstPhase, IsSecondPhase, improving}
@@ -41,7 +44,17 @@ pub crossed_ends : (p : LinearProgram) (s : List Status) (k steps : ℕ) → IsB
     EndsHere p s steps (Crossed k)
 unfolding turn
 crossed_ends p s k steps basis nonsingular found =
-    record { ending = EndsCrossed k; ends = record { tableau = tableau_of p s basis nonsingular rates.0; is_tableau = IsTableau-of p s basis nonsingular rates.0 rates.1; turns = ap (λ (o : Option ℕ). turn_for p s (tableau_of p s basis nonsingular rates.0) o (outside p s (tableau_of p s basis nonsingular rates.0))) (sym found) }; is_outcome = refl }
+    record {
+      ending = EndsCrossed k;
+      ends = record {
+        tableau = tableau_of p s basis nonsingular rates.0;
+        is_tableau = IsTableau-of p s basis nonsingular
+            rates.0 rates.1;
+        turns = ap (λ (o : Option ℕ). turn_for p s (tableau_of p s basis nonsingular rates.0) o
+            (outside p s (tableau_of p s basis nonsingular rates.0))) (sym found);
+      };
+      is_outcome = refl;
+    }
   where
     rates : (rate : ℕ → ℕ → ℚ) × AreRates p.matrix (basics_of s) rate
     rates = rates_exist p.matrix (basics_of s) nonsingular

@@ -13,7 +13,8 @@ use Rattle.lp_definitions.specs.declared.Evidence.{Evidence}
 use Rattle.lp_definitions.specs.declared.Status.{Status}
 use Rattle.lp_model.specs.declared.reports.Outcome.{Outcome}
 use Rattle.lp_model.specs.declared.reports.Outcome.TheVariants.{Optimal, Crossed, Infeasible, Unbounded}
-use Rattle.simplex_definitions.specs.Path.{PathEnding, EndsOptimal, EndsCrossed, EndsInfeasible, EndsUnbounded, Rule, turn, RulePath, RulePathEnds, RuleGoesOn, last_of}
+use Rattle.simplex_definitions.specs.Path.{PathEnding, EndsOptimal, EndsCrossed, EndsInfeasible, EndsUnbounded, Rule, turn, RulePath, RulePathEnds, RuleGoesOn}
+use Rattle.simplex_definitions.specs.Path.{last_of}
 use Rattle.simplex_definitions.specs.Counts.{counted_steps}
 use Rattle.simplex_definitions.specs.Statements.{SolvingStatement}
 use Rattle.simplex_definitions.specs.Evidence.{EvidenceHolds}

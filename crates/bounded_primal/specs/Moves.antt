@@ -58,7 +58,8 @@ pub record BlockingVariableRefused (p : LinearProgram) (s : List Status) (z d : 
   pub stops : StopsAt (λ to. ⊥) p (basics_of s ∷ []) s [] e
 
 -- by a formula of a step: of q, and of the p and the limit of by
-pub record StepRefused (p : LinearProgram) (before : List Basics) (s : List Status) (q : ℕ) (by : BlockingVariable) (after : List Basics) (e : Evidence) : Type 0 where
+pub record StepRefused (p : LinearProgram) (before : List Basics) (s : List Status) (q : ℕ) (by : BlockingVariable) (after : List Basics) (e : Evidence) :
+    Type 0 where
   pub of_call : IsTrue (belongs (Primal p) e)
   pub enters : IsTrue (is_between 7 9 e.formula) → e.q ≡ q
   pub leaves : IsTrue (is_between 8 9 e.formula) → e.p ≡ by.p

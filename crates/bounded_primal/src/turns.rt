@@ -14,7 +14,8 @@ ghost use Rattle.basis_values.specs.Motions.{may_move, motion};
 ghost use Rattle.basis_values.specs.Wants.{AreWants};
 ghost use Rattle.bounded_primal.specs.KeptPoints.{all_kept, AgreesWithPoint};
 ghost use Rattle.bounded_primal.specs.Moves.{return_by, blocking_variable_of as blocking_variable_by};
-ghost use Rattle.bounded_primal.specs.Turns.{IsUncrossed, least_outside, ray_from, IsRestoring, moved_by, entering_variable_by, Improves, IsEnteringVariableFound, IsUnboundedEnd, ReturnStops, RunStopsAtPoint, TurnFound};
+ghost use Rattle.bounded_primal.specs.Turns.{IsUncrossed, least_outside, ray_from, IsRestoring, moved_by, entering_variable_by, Improves};
+ghost use Rattle.bounded_primal.specs.Turns.{IsEnteringVariableFound, IsUnboundedEnd, ReturnStops, RunStopsAtPoint, TurnFound};
 
 use crate::kept::Kept;
 use crate::moves::{BlockingVariable, PrimalStop};

@@ -1,5 +1,6 @@
 -- The words of a printable card are printable texts without blanks, and so is each field that is read of them.
-use Rattle.std.proofs.Common.{◌≡◌, ℕ, zero, suc, ◌+◌, ◌-◌, ◌<◌, Bool, true, false, not, cond, ◌&&◌, List, [], ◌∷◌, ◌++◌, Option, Some, None, length, take, slice_get, unwrap_or, option_and_then, get_or, position, refl, ap, sym, ◌∙◌, arith, take_all, ◌==◌}
+use Rattle.std.proofs.Common.{◌≡◌, ℕ, zero, suc, ◌+◌, ◌-◌, ◌<◌, Bool, true, false, not, cond, ◌&&◌, List, [], ◌∷◌, ◌++◌, Option, Some, None, length, take}
+use Rattle.std.proofs.Common.{slice_get, unwrap_or, option_and_then, get_or, position, refl, ap, sym, ◌∙◌, arith, take_all, ◌==◌}
 use Rattle.std.specs.List.{AllByRecursion, list_all, slice_split, onto_first, suffix_len}
 use Rattle.std.proofs.lemmas.List.Sums.{suffix_len-take_no}
 use Rattle.card_definitions.specs.Words.{without_trailing}

@@ -1,5 +1,6 @@
 -- The first card of some bytes, and the cards after it.
-use Rattle.std.proofs.Common.{◌≡◌, ℕ, suc, ◌+◌, ◌-◌, ◌<◌, ◌≤◌, true, false, not, List, [], ◌∷◌, ◌++◌, append_assoc, length-append, take, drop, length, map, slice_range, refl, sym, ◌∙◌, ap, arith, cond, unwrap_or, Some, None, ltb}
+use Rattle.std.proofs.Common.{◌≡◌, ℕ, suc, ◌+◌, ◌-◌, ◌<◌, ◌≤◌, true, false, not, List, [], ◌∷◌, ◌++◌, append_assoc, length-append, take, drop, length, map}
+use Rattle.std.proofs.Common.{slice_range, refl, sym, ◌∙◌, ap, arith, cond, unwrap_or, Some, None, ltb}
 use Rattle.std.proofs.lemmas.List.{append-nil, length-take, length-drop, length-map, map-append, take-take, drop-drop}
 use Rattle.std.proofs.Math.ListN.{drop_of_length-le}
 use Rattle.std.proofs.lemmas.List.Sums.{prefix_len-le-length}

@@ -5,10 +5,12 @@ use Rattle.lp_definitions.specs.LinearProgram.{LinearProgram, Vector, IsMatrix, 
 use Rattle.lp_definitions.specs.Solutions.{IsFeasible, IsDualCertificate, IsCrossed, IsRay, ProvesUnbounded}
 use Rattle.check_definitions.specs.declared.Verdict.TheVariants.{Checked}
 use Rattle.check_definitions.specs.Steps.{of_128_bits, verdict_of}
-use Rattle.check_definitions.specs.Checks.{equations, feasible_point, reduced_costs, ray_columns, multiplied, ray_limits, free_direction, optimal_steps, crossed_steps, infeasible_steps, unbounded_steps, optimal_check, crossed_check, infeasible_check, unbounded_check}
+use Rattle.check_definitions.specs.Checks.{equations, feasible_point, reduced_costs, ray_columns, multiplied, ray_limits, free_direction, optimal_steps}
+use Rattle.check_definitions.specs.Checks.{crossed_steps, infeasible_steps, unbounded_steps, optimal_check, crossed_check, infeasible_check, unbounded_check}
 use Rattle.check_definitions.proofs.Holding.{checked_hold}
 use Rattle.certificate_laws.specs.Parts.{AreReducedCosts, VanishesOnColumns, MeetsLimits, IsFreeDirection}
-use Rattle.certificate_laws.proofs.Meaning.{keeps_if_held, feasible_if_held, reduced_if_held, vanishes_if_held, free_if_held, meets_if_held, infeasible_ray_if_held, optimal_if_held, unbounded_if_held, crossed_if_held}
+use Rattle.certificate_laws.proofs.Meaning.{keeps_if_held, feasible_if_held, reduced_if_held, vanishes_if_held, free_if_held, meets_if_held}
+use Rattle.certificate_laws.proofs.Meaning.{infeasible_ray_if_held, optimal_if_held, unbounded_if_held, crossed_if_held}
 
 module _ (p : LinearProgram) where
   pub keeps_if_checked : (part : ℕ) (z : Vector) → verdict_of (equations p part z) ≡ Checked → KeepsEquations p.matrix z

@@ -1,6 +1,7 @@
 -- Lists of columns that leave out only columns of value 0, and a row's sum over such a list.
 use Rattle.std.specs.Prelude.{eqb}
-use Rattle.std.proofs.Common.{rules, true, false, ◌≡◌, ◌≢◌, ℕ, zero, suc, ◌+◌, ◌-◌, ◌<◌, ◌≤◌, ◌⊎◌, inl, inr, List, [], ◌∷◌, ◌++◌, length, map, get_or, drop, take, set, sym, ap, ◌∙◌, arith, subst, Ok, Err}
+use Rattle.std.proofs.Common.{rules, true, false, ◌≡◌, ◌≢◌, ℕ, zero, suc, ◌+◌, ◌-◌, ◌<◌, ◌≤◌, ◌⊎◌, inl, inr, List, [], ◌∷◌, ◌++◌, length, map, get_or, drop}
+use Rattle.std.proofs.Common.{take, set, sym, ap, ◌∙◌, arith, subst, Ok, Err}
 use Rattle.std.proofs.lemmas.Bool.Decides.{eqb_tells}
 use Rattle.std.proofs.lemmas.List.{take_more_set, drop_all, get_or-take, get_or-drop}
 use Rattle.std.proofs.Math.Seq.{drop-cons}

@@ -7,9 +7,11 @@ use Rattle.lp_definitions.specs.LinearProgram.{LinearProgram, Vector, IsMatrix, 
 use Rattle.lp_definitions.specs.Solutions.{IsFeasible, IsDualCertificate, IsCrossed, IsRay, ProvesUnbounded}
 use Rattle.check_definitions.specs.declared.Verdict.TheVariants.{Checked, Failed, Unchecked}
 use Rattle.check_definitions.specs.Steps.{Step, operation, comparison, AllHold, verdict_of}
-use Rattle.check_definitions.specs.Checks.{equations, feasible_point, reduced_costs, standing_prices, ray_columns, multiplied, ray_limits, ray_sum, free_direction, improving, crossed_check}
+use Rattle.check_definitions.specs.Checks.{equations, feasible_point, reduced_costs, standing_prices, ray_columns, multiplied, ray_limits, ray_sum}
+use Rattle.check_definitions.specs.Checks.{free_direction, improving, crossed_check}
 use Rattle.certificate_laws.specs.Parts.{AreReducedCosts, VanishesOnColumns, MeetsLimits, IsFreeDirection}
-use Rattle.certificate_laws.proofs.Truth.{equations_hold, point_holds, costs_hold, optimal_holds, free_holds, unbounded_holds, crossed_holds as crossed_steps_hold, columns_hold, limits_met_hold, infeasible_holds}
+use Rattle.certificate_laws.proofs.Truth.{equations_hold, point_holds, costs_hold, optimal_holds, free_holds, unbounded_holds}
+use Rattle.certificate_laws.proofs.Truth.{crossed_holds as crossed_steps_hold, columns_hold, limits_met_hold, infeasible_holds}
 
 -- no comparison of these steps fails before an operation is refused
 pub record NeverFails (steps : List Step) : Type 0 where

@@ -1,5 +1,6 @@
 -- What the parts of a check say where their comparisons hold, whatever operations an arithmetic refuses.
-use Rattle.std.proofs.Common.{◌≡◌, ℕ, zero, suc, ◌+◌, ◌<◌, ◌≤◌, ◌≢◌, List, [], ◌∷◌, ◌++◌, map, refl, sym, ap, ◌∙◌, arith, Bool, true, false, not, Option, Some, None, subst, cond}
+use Rattle.std.proofs.Common.{◌≡◌, ℕ, zero, suc, ◌+◌, ◌<◌, ◌≤◌, ◌≢◌, List, [], ◌∷◌, ◌++◌, map, refl, sym, ap, ◌∙◌, arith, Bool, true, false, not, Option, Some}
+use Rattle.std.proofs.Common.{None, subst, cond}
 use Rattle.std.specs.Prelude.{is_some, is_none, IfSome, filter, unwrap_or}
 use Rattle.std.specs.declared.cmp.Ordering.{Ordering}
 use Rattle.std.specs.declared.cmp.Ordering.TheVariants.{Less, Equal, Greater}
@@ -12,11 +13,15 @@ use Rattle.exact_values.specs.Tests.{eq_ℚ}
 use Rattle.exact_values.proofs.Compare.{lt_from_compare, same_from_compare, compare_from_lt}
 use Rattle.exact_values.proofs.TestsLaws.{same_from_test, le_from_test}
 use Rattle.exact_values.proofs.Order.{lt_not_le, le_of_lt, apart_from_above, apart_from_below}
-use Rattle.lp_definitions.specs.LinearProgram.{LinearProgram, Vector, IsMatrix, IsColumn, IsVariable, KeepsEquations, numbers_from, variables, column, entry, lower_of, upper_of, cost, for_min, size}
+use Rattle.lp_definitions.specs.LinearProgram.{LinearProgram, Vector, IsMatrix, IsColumn, IsVariable, KeepsEquations, numbers_from, variables, column, entry}
+use Rattle.lp_definitions.specs.LinearProgram.{lower_of, upper_of, cost, for_min, size}
 use Rattle.lp_definitions.specs.Solutions.{IsWithinLimits, IsFeasible, IsDualCertificate, IsCrossed, IsRay, ProvesUnbounded, limit_against}
 use Rattle.lp_definitions.proofs.Lawful.{none as no_limit}
 use Rattle.check_definitions.specs.Steps.{Step, comparison, AllHold, product_of, sum_steps, sum_of}
-use Rattle.check_definitions.specs.Checks.{is_not_below, is_not_above, is_at, is_crossed, by_sign, row_products, equation, equations, within_limit, within_limits, feasible_point, column_products, combined_steps, reduced_cost, reduced_costs, standing_price, standing_prices, ray_column, ray_columns, multiplied, limit_product, ray_limits, ray_sum, free_to_move, free_direction, improving, optimal_steps, crossed_steps, infeasible_steps, unbounded_steps}
+use Rattle.check_definitions.specs.Checks.{is_not_below, is_not_above, is_at, is_crossed, by_sign, row_products, equation, equations, within_limit}
+use Rattle.check_definitions.specs.Checks.{within_limits, feasible_point, column_products, combined_steps, reduced_cost, reduced_costs, standing_price}
+use Rattle.check_definitions.specs.Checks.{standing_prices, ray_column, ray_columns, multiplied, limit_product, ray_limits, ray_sum, free_to_move}
+use Rattle.check_definitions.specs.Checks.{free_direction, improving, optimal_steps, crossed_steps, infeasible_steps, unbounded_steps}
 use Rattle.check_definitions.proofs.Holding.{hold-append, last_holds, each_hold}
 use Rattle.lp_laws.proofs.Entries.{sum_of_entries}
 use Rattle.lp_laws.proofs.Duality.{below_of_test}

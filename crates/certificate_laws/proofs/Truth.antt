@@ -1,5 +1,6 @@
 -- What is true is shown so: each comparison of the check of a true claim holds, and each of its parts.
-use Rattle.std.proofs.Common.{◌≡◌, ◌≢◌, ℕ, zero, suc, ◌+◌, ◌<◌, ◌≤◌, List, [], ◌∷◌, ◌++◌, subst, refl, sym, ap, ◌∙◌, arith, Bool, true, false, not, cond, Option, Some, None, Less, Equal, Greater}
+use Rattle.std.proofs.Common.{◌≡◌, ◌≢◌, ℕ, zero, suc, ◌+◌, ◌<◌, ◌≤◌, List, [], ◌∷◌, ◌++◌, subst, refl, sym, ap, ◌∙◌, arith, Bool, true, false, not, cond}
+use Rattle.std.proofs.Common.{Option, Some, None, Less, Equal, Greater}
 use Rattle.std.specs.Prelude.{is_some, is_none, IfSome}
 use Rattle.std.specs.List.{flat_map}
 use Rattle.std.specs.declared.cmp.Ordering.{Ordering}
@@ -12,12 +13,16 @@ use Rattle.exact_values.proofs.TestsLaws.{test_from_le, test_from_same}
 use Rattle.exact_values.proofs.Compare.{lt_from_compare, same_from_compare, gt_from_compare}
 use Rattle.exact_values.proofs.RingLaws.{zero-add}
 use Rattle.lp_definitions.specs.declared.Change.{Change}
-use Rattle.lp_definitions.specs.LinearProgram.{LinearProgram, Vector, IsMatrix, IsColumn, IsVariable, KeepsEquations, numbers_from, entry, lower_of, upper_of, cost, for_min, size}
+use Rattle.lp_definitions.specs.LinearProgram.{LinearProgram, Vector, IsMatrix, IsColumn, IsVariable, KeepsEquations, numbers_from, entry, lower_of, upper_of}
+use Rattle.lp_definitions.specs.LinearProgram.{cost, for_min, size}
 use Rattle.lp_definitions.specs.Solutions.{IsWithinLimits, IsFeasible, IsDualCertificate, IsCrossed, IsRay, ProvesUnbounded, limit_against}
 use Rattle.lp_laws.proofs.Duality.{test_of_below}
 use Rattle.lp_laws.proofs.Rays.{limit_of_positive, limit_of_negative}
 use Rattle.check_definitions.specs.Steps.{Step, operation, comparison, AllHold, Product, product_of, sum_steps, sum_of}
-use Rattle.check_definitions.specs.Checks.{is_not_below, is_not_above, is_at, is_crossed, by_sign, change_steps, combined_steps, row_products, equation, equations, within_limit, within_limits, feasible_point, column_products, reduced_cost, reduced_costs, standing_price, standing_prices, ray_column, ray_columns, multiplied, limit_product, ray_limits, ray_sum, free_to_move, free_direction, improving, optimal_steps, crossed_steps, infeasible_steps, unbounded_steps}
+use Rattle.check_definitions.specs.Checks.{is_not_below, is_not_above, is_at, is_crossed, by_sign, change_steps, combined_steps, row_products, equation}
+use Rattle.check_definitions.specs.Checks.{equations, within_limit, within_limits, feasible_point, column_products, reduced_cost, reduced_costs, standing_price}
+use Rattle.check_definitions.specs.Checks.{standing_prices, ray_column, ray_columns, multiplied, limit_product, ray_limits, ray_sum, free_to_move}
+use Rattle.check_definitions.specs.Checks.{free_direction, improving, optimal_steps, crossed_steps, infeasible_steps, unbounded_steps}
 use Rattle.certificate_laws.specs.Parts.{AreReducedCosts, VanishesOnColumns, MeetsLimits, IsFreeDirection}
 use Rattle.certificate_laws.proofs.Products.{sum_of-all}
 use Rattle.certificate_laws.proofs.Meaning.{multiplied_from, products_of_column, sum_of_met}

@@ -5,7 +5,8 @@ use Rattle.lp_definitions.specs.LinearProgram.{LinearProgram, Vector, IsMatrix, 
 use Rattle.lp_definitions.specs.Solutions.{IsFeasible, IsDualCertificate, IsCrossed, IsRay, ProvesUnbounded}
 use Rattle.check_definitions.specs.declared.Verdict.TheVariants.{Checked}
 use Rattle.check_definitions.specs.Steps.{Arithmetic, Step, verdict_by, AllHold}
-use Rattle.check_definitions.specs.Checks.{equations, feasible_point, reduced_costs, ray_columns, ray_limits, multiplied, free_direction, optimal_steps, crossed_steps, infeasible_steps, unbounded_steps}
+use Rattle.check_definitions.specs.Checks.{equations, feasible_point, reduced_costs, ray_columns, ray_limits, multiplied, free_direction, optimal_steps}
+use Rattle.check_definitions.specs.Checks.{crossed_steps, infeasible_steps, unbounded_steps}
 use Rattle.exact_values.specs.Rational.{zero_ℚ}
 use Rattle.certificate_laws.specs.Parts.{AreReducedCosts, VanishesOnColumns, MeetsLimits, IsFreeDirection}
 

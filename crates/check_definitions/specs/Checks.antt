@@ -15,7 +15,8 @@ use Rattle.std.specs.declared.cmp.Ordering.TheVariants.{Less, Equal, Greater}
 use Rattle.exact_values.specs.Rational.{ℚ, zero_ℚ, ◌-ℚ◌, ◌+ℚ◌, compare_ℚ}
 use Rattle.exact_values.specs.Tests.{lt_ℚ, le_ℚ, eq_ℚ}
 use Rattle.frac128.specs.declared.Op.TheVariants.{Sub}
-use Rattle.lp_definitions.specs.LinearProgram.{LinearProgram, Vector, variables, numbers_from, column, entry, lower_of, upper_of, cost, objective_value, for_min}
+use Rattle.lp_definitions.specs.LinearProgram.{LinearProgram, Vector, variables, numbers_from, column, entry, lower_of, upper_of, cost, objective_value}
+use Rattle.lp_definitions.specs.LinearProgram.{for_min}
 use Rattle.lp_definitions.specs.Solutions.{limit_against}
 use Rattle.lp_definitions.specs.declared.Change.{Change}
 use Rattle.lp_definitions.specs.declared.Entry.{Entry}

@@ -25,7 +25,8 @@ end_verdict sheet changing theta columns =
 
 abbrev pub interval_verdict : Sheet → Changing → Interval → Bool → ℚ → Verdict
 interval_verdict sheet changing interval =
-    part_test checker_of_128_bits sheet changing interval.from interval.to interval.columns.value.items interval.columns.value_rate.items interval.columns.price.items interval.columns.price_rate.items
+    part_test checker_of_128_bits sheet changing interval.from interval.to interval.columns.value.items interval.columns.value_rate.items
+    interval.columns.price.items interval.columns.price_rate.items
 
 -- a part of a run that begins at a value, in fractions
 pub record IsInterval (from : ℚ) (part : Part) (interval : Interval) : Type 0 where

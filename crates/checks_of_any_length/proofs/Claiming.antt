@@ -8,7 +8,8 @@ use Rattle.exact_values.specs.Tests.{is_less, lt_ℚ, eq_ℚ, le_ℚ}
 use Rattle.lp_definitions.specs.LinearProgram.{LinearProgram, Vector, value_at, for_min, objective_value, lower_of, upper_of}
 use Rattle.check_definitions.specs.declared.Verdict.{Verdict}
 use Rattle.check_definitions.specs.Steps.{Step, AllHold, of_any_length, verdict_by, followed_by, in_turn, sum_steps, sum_of}
-use Rattle.check_definitions.specs.Checks.{equations, feasible_point, free_direction, improving, combined_steps, ray_columns, ray_limits, ray_sum, multiplied, limit_product, is_crossed, crossed_steps, infeasible_steps, unbounded_steps}
+use Rattle.check_definitions.specs.Checks.{equations, feasible_point, free_direction, improving, combined_steps, ray_columns, ray_limits, ray_sum, multiplied}
+use Rattle.check_definitions.specs.Checks.{limit_product, is_crossed, crossed_steps, infeasible_steps, unbounded_steps}
 use Rattle.check_definitions.proofs.Holding.{hold-append, hold_checked}
 use Rattle.question_definitions.specs.Answers.{Sheet, Changing}
 use Rattle.answer_definitions.specs.ParametricRuns.{family_of}

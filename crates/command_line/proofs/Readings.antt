@@ -1,5 +1,6 @@
 -- How the command with the single option reads words: what it refuses, and the value that it finds.
-use Rattle.std.proofs.Common.{◌≡◌, ◌⊎◌, inl, inr, ℕ, ◌==◌, Bool, true, false, List, [], ◌∷◌, ◌++◌, codes, Option, None, Some, if◌then◌else◌, slice_get, option_map, Result, Ok, Err, IfOk, IsErrOf, refl, ap, subst, sym, ◌∙◌}
+use Rattle.std.proofs.Common.{◌≡◌, ◌⊎◌, inl, inr, ℕ, ◌==◌, Bool, true, false, List, [], ◌∷◌, ◌++◌, codes, Option, None, Some, if◌then◌else◌, slice_get}
+use Rattle.std.proofs.Common.{option_map, Result, Ok, Err, IfOk, IsErrOf, refl, ap, subst, sym, ◌∙◌}
 use Rattle.std.specs.List.{fold}
 use Rattle.std.specs.Result.{result_ok}
 use Rattle.std.specs.Str.{bytes_eq, chars}
@@ -12,7 +13,8 @@ use Rattle.clap.proofs.FaultLemmas.{leaf_fault}
 use Rattle.clap.proofs.OnLiterals.{clap_on_literals}
 use Rattle.clap.specs.declared.error.kind.ErrorKind.TheVariants as kind
 use Rattle.command_line.proofs.Sizes.{no_dash}
-use Rattle.command_line.proofs.WordForms.{Word, mark, named, with_value, unknown, short, empty, dash, plain, word_kind, ends_not, IsNoOption, unknown_is_none, short_is_none, empty_is_none, dash_is_none, plain_is_none}
+use Rattle.command_line.proofs.WordForms.{Word, mark, named, with_value, unknown, short, empty, dash, plain, word_kind, ends_not, IsNoOption, unknown_is_none}
+use Rattle.command_line.proofs.WordForms.{short_is_none, empty_is_none, dash_is_none, plain_is_none}
 use Rattle.command_line.specs.Options.{command}
 use Rattle.command_line.specs.Requests.{asked, asked_with, asked_first, rest_after, ends, valued, valued_by_next}
 use Rattle.command_line.specs.declared.request.Request.{Request}

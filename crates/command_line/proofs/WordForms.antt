@@ -1,5 +1,6 @@
 -- What a word is to the command: the mark, the option, another option, or none.
-use Rattle.std.proofs.Common.{◌≡◌, ◌⊎◌, inl, inr, ℕ, ◌==◌, Bool, true, false, List, [], ◌∷◌, ◌++◌, codes, drop, Option, None, Some, if◌then◌else◌, refl, ap, subst, sym, ◌∙◌, true≢false, one-add}
+use Rattle.std.proofs.Common.{◌≡◌, ◌⊎◌, inl, inr, ℕ, ◌==◌, Bool, true, false, List, [], ◌∷◌, ◌++◌, codes, drop, Option, None, Some, if◌then◌else◌, refl, ap}
+use Rattle.std.proofs.Common.{subst, sym, ◌∙◌, true≢false, one-add}
 use Rattle.std.specs.List.{before_first}
 use Rattle.std.specs.Str.{bytes_eq}
 use Rattle.std.proofs.lemmas.Bool.{eqb-true, false_from_ne_true}

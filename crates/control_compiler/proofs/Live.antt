@@ -1,5 +1,6 @@
 -- The cards that aren't skipped, one by one, and what is known of a job on the way.
-use Rattle.std.proofs.Common.{◌≡◌, ℕ, zero, suc, ◌+◌, ◌≤◌, Bool, true, false, not, List, [], ◌∷◌, ◌++◌, Option, Some, None, length, drop, take, refl, ap, sym, subst, ◌∙◌, arith, ◌-◌}
+use Rattle.std.proofs.Common.{◌≡◌, ℕ, zero, suc, ◌+◌, ◌≤◌, Bool, true, false, not, List, [], ◌∷◌, ◌++◌, Option, Some, None, length, drop, take, refl, ap, sym}
+use Rattle.std.proofs.Common.{subst, ◌∙◌, arith, ◌-◌}
 use Rattle.std.specs.Prelude.{slice_get, filter, find, option_map}
 use Rattle.std.specs.Option.{option_or}
 use Rattle.std.specs.List.{list_any, position_or_len}
@@ -10,7 +11,8 @@ use Rattle.card_definitions.proofs.FirstFaults.{or_none}
 use Rattle.control_definitions.specs.declared.ControlFault.{ControlFault}
 use Rattle.control_definitions.specs.Verbs.{verb_of}
 use Rattle.control_definitions.specs.declared.ControlFaultKind.TheVariants.{NoProgram}
-use Rattle.control_definitions.specs.Compiled.{is_pend, program_cards, cards_to_pend, control_card_fault, first_control_fault, control_fault, fault_at, head_fault, live_fault, end_fault, misses_label}
+use Rattle.control_definitions.specs.Compiled.{is_pend, program_cards, cards_to_pend, control_card_fault, first_control_fault, control_fault, fault_at}
+use Rattle.control_definitions.specs.Compiled.{head_fault, live_fault, end_fault, misses_label}
 use Rattle.control_compiler.specs.Jobs.{live_cards, live_after, after_head, has_end, late_fault}
 use Rattle.control_compiler.specs.Underway.{IsReached}
 use Rattle.control_compiler.proofs.Taking.{program_is_no_statement}

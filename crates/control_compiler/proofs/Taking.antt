@@ -1,5 +1,6 @@
 -- What holds where a card has no fault.
-use Rattle.std.proofs.Common.{◌≡◌, ℕ, Bool, true, false, not, ◌&&◌, List, [], ◌∷◌, ◌++◌, Option, Some, None, length, map, refl, ap, ◌∙◌, arith, length-append, ltb}
+use Rattle.std.proofs.Common.{◌≡◌, ℕ, Bool, true, false, not, ◌&&◌, List, [], ◌∷◌, ◌++◌, Option, Some, None, length, map, refl, ap, ◌∙◌, arith, length-append}
+use Rattle.std.proofs.Common.{ltb}
 use Rattle.std.specs.Prelude.{◌+◌, is_none, is_some, bytes_eq, codes, option_map, option_to_list, filter_map, unwrap_or}
 use Rattle.std.specs.List.{last_or, cons_option}
 use Rattle.std.proofs.lemmas.List.{length-map}
@@ -11,8 +12,10 @@ use Rattle.control_definitions.specs.declared.TheConstants.{MAX_STATEMENTS}
 use Rattle.control_definitions.specs.Program.{Verb, Statement}
 use Rattle.control_definitions.specs.Statements.{statement_of, is_unclosed, verb_word, arguments_of, Arguments, Without, With, Malformed}
 use Rattle.control_definitions.specs.Verbs.{verb_words, cell_words, demand_words, verb_of, verb_with, EndsProgram}
-use Rattle.control_definitions.specs.declared.ControlFaultKind.TheVariants.{NoProgram, BadLabel, LabelTwice, Unclosed, UnknownVerb, UnknownCell, UnknownDemand, BadArgument, TooManyStatements}
-use Rattle.control_definitions.specs.Compiled.{head_fault, is_program, has_verb, is_program_argument, has_bad_label, has_label_twice, lacks_word, is_lawful_pend, is_pend, control_card_fault}
+use Rattle.control_definitions.specs.declared.ControlFaultKind.TheVariants.{NoProgram, BadLabel, LabelTwice, Unclosed, UnknownVerb, UnknownCell, UnknownDemand}
+use Rattle.control_definitions.specs.declared.ControlFaultKind.TheVariants.{BadArgument, TooManyStatements}
+use Rattle.control_definitions.specs.Compiled.{head_fault, is_program, has_verb, is_program_argument, has_bad_label, has_label_twice, lacks_word}
+use Rattle.control_definitions.specs.Compiled.{is_lawful_pend, is_pend, control_card_fault}
 use Rattle.control_verbs.specs.Views.{statement_view}
 use Rattle.control_compiler.specs.Cards.{statement_said}
 use Rattle.control_compiler.specs.After.{IsAfter}

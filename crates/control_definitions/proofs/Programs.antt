@@ -9,7 +9,8 @@ use Rattle.card_definitions.specs.Numbers.{number_of, number_fault, value_of}
 use Rattle.control_definitions.specs.declared.ControlFault.{ControlFault}
 use Rattle.control_definitions.specs.declared.NameCell.TheVariants.{Xdata, Xpbname, Xobj, Xrhs, Xoldname, Xchrow, Xchcol}
 use Rattle.control_definitions.specs.declared.Demand.TheVariants.{Xdonfs, Xdounb}
-use Rattle.control_definitions.specs.Program.{Verb, Initialz, Title, MoveName, MoveNumber, MoveLimit, Mvadr, Goto, Convert, Setup, Primal, Revise, Ranging, Paraobj, Pararhs, Solution, Bcdout, Exit, Program}
+use Rattle.control_definitions.specs.Program.{Verb, Initialz, Title, MoveName, MoveNumber, MoveLimit, Mvadr, Goto, Convert, Setup, Primal, Revise, Ranging}
+use Rattle.control_definitions.specs.Program.{Paraobj, Pararhs, Solution, Bcdout, Exit, Program}
 use Rattle.control_definitions.specs.Statements.{label_of, statement_of}
 use Rattle.control_definitions.specs.Verbs.{verb_of}
 use Rattle.control_definitions.specs.Compiled.{control_fault, control_card_fault, compiled}
@@ -26,25 +27,28 @@ options bound range = Some (Setup (record { bound = bound; range = range; sense 
 
 -- ---- whole programs
 
-first_run : program "         PROGRAM\n         TITLE('FIRST RUN') a remark\n* skipped\n         GOTO(LAST)\n         SETUP('MAX','BOUND','A, B')\nLAST     EXIT\n         PEND\n" ≡ Ok (record {
-  statements =
-      record { card = 2; verb = Title (codes "FIRST RUN") } ∷
-      record { card = 4; verb = Goto 4 } ∷
-      record { card = 5; verb = Setup (record { bound = Some (codes "A, B"); range = None; sense = Max }) } ∷
-      record { card = 6; verb = Exit } ∷ [];
-  decks_from = 8;
-})
+first_run : program
+    "         PROGRAM\n         TITLE('FIRST RUN') a remark\n* skipped\n         GOTO(LAST)\n         SETUP('MAX','BOUND','A, B')\nLAST     EXIT\n         PEND\n"
+    ≡ Ok (record {
+      statements =
+          record { card = 2; verb = Title (codes "FIRST RUN") } ∷
+          record { card = 4; verb = Goto 4 } ∷
+          record { card = 5; verb = Setup (record { bound = Some (codes "A, B"); range = None; sense = Max }) } ∷
+          record { card = 6; verb = Exit } ∷ [];
+      decks_from = 8;
+    })
 unfolding program compiled control_fault control_card_fault verb_of label_of statement_of cards_of
 first_run = refl
 
 -- a label on PROGRAM stands for the first statement, and one on PEND for the end
-labels_at_the_ends : program "\nSTART    PROGRAM('A, B')\nLOOP     MVADR(XDONFS,END)\n         MVADR(XDOUNB,LOOP)\n         GOTO(START)\nEND      PEND\nNAME          A\n" ≡ Ok (record {
-  statements =
-      record { card = 3; verb = Mvadr Xdonfs 4 } ∷
-      record { card = 4; verb = Mvadr Xdounb 1 } ∷
-      record { card = 5; verb = Goto 1 } ∷ [];
-  decks_from = 7;
-})
+labels_at_the_ends : program
+    "\nSTART    PROGRAM('A, B')\nLOOP     MVADR(XDONFS,END)\n         MVADR(XDOUNB,LOOP)\n         GOTO(START)\nEND      PEND\nNAME          A\n" ≡ Ok (record {
+      statements =
+          record { card = 3; verb = Mvadr Xdonfs 4 } ∷
+          record { card = 4; verb = Mvadr Xdounb 1 } ∷
+          record { card = 5; verb = Goto 1 } ∷ [];
+      decks_from = 7;
+    })
 unfolding program compiled control_fault control_card_fault verb_of label_of statement_of cards_of
 labels_at_the_ends = refl
 
@@ -52,35 +56,39 @@ no_statement : program "P        PROGRAM\n         PEND" ≡ Ok (record { statem
 unfolding program compiled control_fault control_card_fault verb_of label_of statement_of cards_of
 no_statement = refl
 
-all_plain_verbs : program "         PROGRAM\n         INITIALZ\n         CONVERT\n         SETUP\n         PRIMAL\n         REVISE\n         RANGE\n         PARAOBJ\n         PARARHS\n         SOLUTION\n         BCDOUT\n         EXIT\n         PEND\n" ≡ Ok (record {
-  statements =
-      record { card = 2; verb = Initialz } ∷
-      record { card = 3; verb = Convert } ∷
-      record { card = 4; verb = Setup (record { bound = None; range = None; sense = Min }) } ∷
-      record { card = 5; verb = Primal } ∷
-      record { card = 6; verb = Revise } ∷
-      record { card = 7; verb = Ranging } ∷
-      record { card = 8; verb = Paraobj } ∷
-      record { card = 9; verb = Pararhs } ∷
-      record { card = 10; verb = Solution } ∷
-      record { card = 11; verb = Bcdout } ∷
-      record { card = 12; verb = Exit } ∷ [];
-  decks_from = 14;
-})
+all_plain_verbs : program
+    "         PROGRAM\n         INITIALZ\n         CONVERT\n         SETUP\n         PRIMAL\n         REVISE\n         RANGE\n         PARAOBJ\n         PARARHS\n         SOLUTION\n         BCDOUT\n         EXIT\n         PEND\n"
+    ≡ Ok (record {
+      statements =
+          record { card = 2; verb = Initialz } ∷
+          record { card = 3; verb = Convert } ∷
+          record { card = 4; verb = Setup (record { bound = None; range = None; sense = Min }) } ∷
+          record { card = 5; verb = Primal } ∷
+          record { card = 6; verb = Revise } ∷
+          record { card = 7; verb = Ranging } ∷
+          record { card = 8; verb = Paraobj } ∷
+          record { card = 9; verb = Pararhs } ∷
+          record { card = 10; verb = Solution } ∷
+          record { card = 11; verb = Bcdout } ∷
+          record { card = 12; verb = Exit } ∷ [];
+      decks_from = 14;
+    })
 unfolding program compiled control_fault control_card_fault verb_of label_of statement_of cards_of
 all_plain_verbs = refl
 
-all_name_cells : program "         PROGRAM\n         MOVE(XDATA,'A')\n         MOVE(XPBNAME,' B')\n         MOVE(XOLDNAME,'12345678')\n         MOVE(XOBJ,'C D')\n         MOVE(XRHS,'')\n         MOVE(XCHROW,',')\n         MOVE(XCHCOL,')')\n         PEND\n" ≡ Ok (record {
-  statements =
-      record { card = 2; verb = MoveName Xdata (codes "A") } ∷
-      record { card = 3; verb = MoveName Xpbname (codes " B") } ∷
-      record { card = 4; verb = MoveName Xoldname (codes "12345678") } ∷
-      record { card = 5; verb = MoveName Xobj (codes "C D") } ∷
-      record { card = 6; verb = MoveName Xrhs [] } ∷
-      record { card = 7; verb = MoveName Xchrow (codes ",") } ∷
-      record { card = 8; verb = MoveName Xchcol (codes ")") } ∷ [];
-  decks_from = 10;
-})
+all_name_cells : program
+    "         PROGRAM\n         MOVE(XDATA,'A')\n         MOVE(XPBNAME,' B')\n         MOVE(XOLDNAME,'12345678')\n         MOVE(XOBJ,'C D')\n         MOVE(XRHS,'')\n         MOVE(XCHROW,',')\n         MOVE(XCHCOL,')')\n         PEND\n"
+    ≡ Ok (record {
+      statements =
+          record { card = 2; verb = MoveName Xdata (codes "A") } ∷
+          record { card = 3; verb = MoveName Xpbname (codes " B") } ∷
+          record { card = 4; verb = MoveName Xoldname (codes "12345678") } ∷
+          record { card = 5; verb = MoveName Xobj (codes "C D") } ∷
+          record { card = 6; verb = MoveName Xrhs [] } ∷
+          record { card = 7; verb = MoveName Xchrow (codes ",") } ∷
+          record { card = 8; verb = MoveName Xchcol (codes ")") } ∷ [];
+      decks_from = 10;
+    })
 unfolding program compiled control_fault control_card_fault verb_of label_of statement_of cards_of
 all_name_cells = refl
 

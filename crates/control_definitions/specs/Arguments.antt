@@ -1,5 +1,6 @@
 -- The arguments that statements take: texts and names in quotes, numbers, labels, and the options of SETUP.
-use Rattle.std.specs.Prelude.{ℕ, ◌-◌, Bool, not, ◌||◌, ◌&&◌, ◌==◌, nat_le, List, [], ◌∷◌, ◌++◌, Option, Some, None, codes, if◌then◌else◌, unwrap_or, option_map, option_and_then, filter_map, take, drop, length, bytes_eq, slice_get, pos, negsuc, ℤ}
+use Rattle.std.specs.Prelude.{ℕ, ◌-◌, Bool, not, ◌||◌, ◌&&◌, ◌==◌, nat_le, List, [], ◌∷◌, ◌++◌, Option, Some, None, codes, if◌then◌else◌, unwrap_or, option_map}
+use Rattle.std.specs.Prelude.{option_and_then, filter_map, take, drop, length, bytes_eq, slice_get, pos, negsuc, ℤ}
 use Rattle.std.specs.List.{list_all, list_any}
 use Rattle.std.specs.Result.{result_ok}
 use Rattle.exact_values.specs.Rational.{ℚ}

@@ -2,7 +2,8 @@
 --     control_card_fault before card       the fault of a card after PROGRAM, where these cards stand before it
 --     control_fault cards                  the fault that decides
 --     compiled cards                       the fault, or the program
-use Rattle.std.specs.Prelude.{ℕ, ◌+◌, max, Bool, true, false, not, ◌&&◌, nat_lt, List, [], ◌∷◌, Option, Some, None, Result, codes, if◌then◌else◌, unwrap_or, option_map, option_and_then, filter_map, find, position, take, length, is_none, is_some, bytes_eq}
+use Rattle.std.specs.Prelude.{ℕ, ◌+◌, max, Bool, true, false, not, ◌&&◌, nat_lt, List, [], ◌∷◌, Option, Some, None, Result, codes, if◌then◌else◌, unwrap_or}
+use Rattle.std.specs.Prelude.{option_map, option_and_then, filter_map, find, position, take, length, is_none, is_some, bytes_eq}
 use Rattle.std.specs.List.{position_or_len, list_any}
 use Rattle.std.specs.Option.{option_map_or}
 use Rattle.card_definitions.specs.Words.{named, is_empty, each_after, ◌⟹◌, first_fault, unless}
@@ -10,7 +11,8 @@ use Rattle.card_definitions.specs.Cards.{Card, live, last_number, numbered_cards
 use Rattle.control_definitions.specs.declared.TheConstants.{MAX_STATEMENTS}
 use Rattle.control_definitions.specs.declared.ControlFault.{ControlFault}
 use Rattle.control_definitions.specs.declared.ControlFaultKind.{ControlFaultKind}
-use Rattle.control_definitions.specs.declared.ControlFaultKind.TheVariants.{NoProgram, NoPend, UnknownVerb, BadLabel, LabelTwice, NoLabel, BadArgument, UnknownCell, UnknownDemand, Unclosed, TooManyStatements}
+use Rattle.control_definitions.specs.declared.ControlFaultKind.TheVariants.{NoProgram, NoPend, UnknownVerb, BadLabel, LabelTwice, NoLabel, BadArgument}
+use Rattle.control_definitions.specs.declared.ControlFaultKind.TheVariants.{UnknownCell, UnknownDemand, Unclosed, TooManyStatements}
 use Rattle.control_definitions.specs.Program.{Statement, Verb, Program, label_argument, verb_by}
 use Rattle.control_definitions.specs.Statements.{label_of, statement_of, is_unclosed, verb_word, Arguments, Without, With, arguments_of, first_argument}
 use Rattle.control_definitions.specs.Arguments.{is_label, quotation}

@@ -3,7 +3,8 @@
 --     verb_word statement                  the text up to the first parenthesis, or the whole statement
 --     arguments_of statement               what stands between the parentheses, cut at the commas outside quotes
 --     first_argument statement             the text of the first argument, also where the statement isn't well formed
-use Rattle.std.specs.Prelude.{ℕ, ◌-◌, ◌%◌, Bool, false, not, ◌&&◌, ◌==◌, List, [], ◌∷◌, Option, Some, None, if◌then◌else◌, map, scan, take, drop, length, count_by, bytes_eq}
+use Rattle.std.specs.Prelude.{ℕ, ◌-◌, ◌%◌, Bool, false, not, ◌&&◌, ◌==◌, List, [], ◌∷◌, Option, Some, None, if◌then◌else◌, map, scan, take, drop, length}
+use Rattle.std.specs.Prelude.{count_by, bytes_eq}
 use Rattle.std.specs.List.{before_first, after_first, slice_split, position_or_len, list_any}
 use Rattle.card_definitions.specs.Words.{without_leading}
 use Rattle.card_definitions.specs.Cards.{is_blank}

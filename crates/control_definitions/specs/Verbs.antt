@@ -9,7 +9,8 @@ use Rattle.control_definitions.specs.declared.NumberCell.{NumberCell}
 use Rattle.control_definitions.specs.declared.NumberCell.TheVariants.{Xparam, Xparmax}
 use Rattle.control_definitions.specs.declared.Demand.{Demand}
 use Rattle.control_definitions.specs.declared.Demand.TheVariants.{Xdonfs, Xdounb}
-use Rattle.control_definitions.specs.Program.{Verb, Initialz, Title, MoveName, MoveNumber, MoveLimit, Mvadr, Goto, Convert, Setup, Primal, Dual, Revise, Ranging, Paraobj, Pararhs, Solution, Bcdout, Punch, Insert, Exit}
+use Rattle.control_definitions.specs.Program.{Verb, Initialz, Title, MoveName, MoveNumber, MoveLimit, Mvadr, Goto, Convert, Setup, Primal, Dual, Revise}
+use Rattle.control_definitions.specs.Program.{Ranging, Paraobj, Pararhs, Solution, Bcdout, Punch, Insert, Exit}
 use Rattle.control_definitions.specs.Statements.{statement_of, verb_word, Arguments, Without, With, arguments_of}
 use Rattle.control_definitions.specs.Arguments.{title_argument, quoted_name, number_argument, limit_argument, label_text, options_of, setup_arguments}
 

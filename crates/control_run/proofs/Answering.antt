@@ -16,7 +16,8 @@ use Rattle.listing_definitions.specs.Ending.{Ending, status_of}
 use Rattle.listing_definitions.specs.Listing.{listing, ending_text, reports_text}
 use Rattle.question_definitions.specs.Solving.{Solving}
 use Rattle.run_definitions.specs.Moves.{punched_by, gain_of}
-use Rattle.run_definitions.specs.Answer.{Job, Failures, bytes_of, IsProgramOf, run, MayEnd, by_itself as ends_by_itself, memory_in_run, memory_at_punch, punch_fails, IsCutShort, IsAnswered}
+use Rattle.run_definitions.specs.Answer.{Job, Failures, bytes_of, IsProgramOf, run, MayEnd, by_itself as ends_by_itself, memory_in_run, memory_at_punch}
+use Rattle.run_definitions.specs.Answer.{punch_fails, IsCutShort, IsAnswered}
 use Rattle.run_definitions.specs.Answer as answers
 use Rattle.run_machine.specs.declared.act.Halt.{Halt}
 use Rattle.run_machine.specs.declared.act.Halt.TheVariants as halt
@@ -30,7 +31,8 @@ use Rattle.control_run.specs.Finishing.{cut_status, Finishes, FinishesHalted, fa
 use Rattle.control_run.specs.Devices.{Counts, counts, IsReported, IsStill}
 use Rattle.control_run.specs.Ended.{IsEndOfRun}
 use Rattle.control_run.proofs.Reported.{none_more, left, stands_still, reported_print, reported_punch}
-use Rattle.control_run.specs.Running.{CanEnd, by_itself, for_memory, for_memory_of_punch, for_punch_fault, punch_end, IsCut, in_report, in_end, RunsTo, IsRunCut, Runs, IsRunAnswer, whole, print_fails, print_wants_memory}
+use Rattle.control_run.specs.Running.{CanEnd, by_itself, for_memory, for_memory_of_punch, for_punch_fault, punch_end, IsCut, in_report, in_end, RunsTo}
+use Rattle.control_run.specs.Running.{IsRunCut, Runs, IsRunAnswer, whole, print_fails, print_wants_memory}
 
 apart : (code a b : ℕ) → code ≡ a → code ≡ b → (a ≡ b → ⊥) → ⊥
 apart code a b first second differ = differ (sym first ∙ second)
@@ -253,7 +255,8 @@ pub job_answered : (S : Solving) (program : Program) (cards : List (List ℕ))
     IsRunAnswer S program cards failed wanted punch_failed punch_wanted status old new punch_old punch_new →
     (job : Job) (bytes : List ℕ) → bytes_of job ≡ Some bytes → IsProgramOf bytes program → cards ≡ cards_of bytes →
     IsAnswered S job failures status (Appends old new) (Appends punch_old punch_new)
-job_answered S program cards failures {failed = failed} {wanted = wanted} {punch_failed = punch_failed} {punch_wanted = punch_wanted} {status = status} {old = old} {new = new} {punch_old = punch_old} {punch_new = punch_new} fails wants punch_fails_too answer job bytes of_job is_program same =
+job_answered S program cards failures {failed = failed} {wanted = wanted} {punch_failed = punch_failed} {punch_wanted = punch_wanted} {status = status} {old =
+    old} {new = new} {punch_old = punch_old} {punch_new = punch_new} fails wants punch_fails_too answer job bytes of_job is_program same =
     answer_of S program job failures bytes of_job is_program punch_failed punch_wanted punch_fails_too old new punch_old punch_new fails wants
     (subst (λ (c : List (List ℕ)). IsRunAnswer S program c failed wanted punch_failed punch_wanted status old new punch_old punch_new) same answer)
 

@@ -24,7 +24,8 @@ use Rattle.setup_verbs.specs.Machines.{Machine}
 use Rattle.run_machine.specs.Ends.{end_view}
 use Rattle.setup_verbs.specs.Standing.{IsSound, Represents}
 use Rattle.run_machine.specs.Punching.{gain_cards}
-use Rattle.control_run.specs.Running.{decks_after, by_itself, for_memory, for_memory_of_punch, for_punch_fault, Turns, IsStepCut, IsDeckCut, Steps, RunsTo, IsRunCut, Runs}
+use Rattle.control_run.specs.Running.{decks_after, by_itself, for_memory, for_memory_of_punch, for_punch_fault, Turns, IsStepCut, IsDeckCut, Steps, RunsTo}
+use Rattle.control_run.specs.Running.{IsRunCut, Runs}
 use Rattle.control_run.proofs.Gains.{printed_text, reports_text_more, card_text_more, gains_whole, gains_part_at_fault, gains_part_for_memory}
 use Rattle.control_run.proofs.Reported.{left}
 

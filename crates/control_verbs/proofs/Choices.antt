@@ -1,5 +1,6 @@
 -- The choices of SETUP one by one.
-use Rattle.std.proofs.Common.{◌≡◌, ℕ, suc, ◌<◌, Bool, true, false, ◌&&◌, List, [], ◌∷◌, ◌++◌, Option, Some, None, length, if◌then◌else◌, refl, ap, sym, ◌∙◌, arith, leb}
+use Rattle.std.proofs.Common.{◌≡◌, ℕ, suc, ◌<◌, Bool, true, false, ◌&&◌, List, [], ◌∷◌, ◌++◌, Option, Some, None, length, if◌then◌else◌, refl, ap, sym, ◌∙◌}
+use Rattle.std.proofs.Common.{arith, leb}
 use Rattle.std.specs.Prelude.{option_map, option_and_then, option_to_list, is_some, is_none, filter_map, slice_get}
 use Rattle.std.specs.Option.{option_or}
 use Rattle.std.specs.List.{slice_split}
@@ -8,7 +9,8 @@ use Rattle.std.proofs.lemmas.List.Splits.{length-slice_split}
 use Rattle.std.proofs.lemmas.Bool.Decides.{nat_tests}
 use Rattle.lp_definitions.specs.declared.Sense.{Sense}
 use Rattle.control_definitions.specs.Statements.{split_outside, is_comma, marked, outside}
-use Rattle.control_definitions.specs.Arguments.{SetupArgument, BoundSet, RangeSet, Direction, bound_chosen, range_chosen, sense_chosen, choices, led_by, sense_choice, set_choice, is_setup, options_of, setup_arguments}
+use Rattle.control_definitions.specs.Arguments.{SetupArgument, BoundSet, RangeSet, Direction, bound_chosen, range_chosen, sense_chosen, choices, led_by}
+use Rattle.control_definitions.specs.Arguments.{sense_choice, set_choice, is_setup, options_of, setup_arguments}
 use Rattle.control_verbs.specs.declared.options.Chosen.{Chosen}
 use Rattle.control_verbs.specs.Chosen.{nothing_chosen, first_choice, after_first_word, added, all_added, chosen_options}
 

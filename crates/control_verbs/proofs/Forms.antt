@@ -7,7 +7,8 @@ use Rattle.control_definitions.specs.Program.{Title, Mvadr, Goto}
 use Rattle.control_definitions.specs.Statements.{With, Malformed}
 use Rattle.control_definitions.specs.Arguments.{title_argument, label_text, quotation}
 use Rattle.control_definitions.specs.Compiled.{is_program_argument}
-use Rattle.control_definitions.specs.Verbs.{VerbWord, Alone, TakesTitle, TakesCell, TakesDemand, TakesLabel, TakesOptions, EndsProgram, cell_words, demand_words, moved, verb_with}
+use Rattle.control_definitions.specs.Verbs.{VerbWord, Alone, TakesTitle, TakesCell, TakesDemand, TakesLabel, TakesOptions, EndsProgram, cell_words}
+use Rattle.control_definitions.specs.Verbs.{demand_words, moved, verb_with}
 use Rattle.control_verbs.specs.Pieces.{only_part, two_parts}
 
 pub of_title : (parts : List (List ℕ)) →

@@ -1,12 +1,14 @@
 -- Parts of a text between bytes outside quotes.
-use Rattle.std.proofs.Common.{◌≡◌, ℕ, suc, ◌+◌, ◌-◌, ◌<◌, ◌≤◌, Bool, true, false, cond, not, ◌||◌, ◌&&◌, List, [], ◌∷◌, None, take, drop, map, length, if◌then◌else◌, refl, ap, sym, ◌∙◌, arith}
+use Rattle.std.proofs.Common.{◌≡◌, ℕ, suc, ◌+◌, ◌-◌, ◌<◌, ◌≤◌, Bool, true, false, cond, not, ◌||◌, ◌&&◌, List, [], ◌∷◌, None, take, drop, map, length}
+use Rattle.std.proofs.Common.{if◌then◌else◌, refl, ap, sym, ◌∙◌, arith}
 use Rattle.std.specs.Prelude.{nat_lt}
 use Rattle.std.specs.List.{list_any, slice_split, position_or_len, onto_first}
 use Rattle.std.proofs.lemmas.List.{take_all, length-drop, length-map}
 use Rattle.std.proofs.lemmas.List.Splits.{length-slice_split}
 use Rattle.std.proofs.lemmas.Bool.{eqb-true}
 use Rattle.std.proofs.lemmas.Bool.Decides.{nat_tests}
-use Rattle.control_definitions.specs.Statements.{is_quote, is_comma, is_close_parenthesis, marked_from, marked, outside, has_outside, before_outside, split_outside}
+use Rattle.control_definitions.specs.Statements.{is_quote, is_comma, is_close_parenthesis, marked_from, marked, outside, has_outside, before_outside}
+use Rattle.control_definitions.specs.Statements.{split_outside}
 use Rattle.control_verbs.specs.Pieces.{only_part}
 
 -- an element passes where the place of the first that does is before the end

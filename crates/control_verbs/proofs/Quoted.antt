@@ -1,5 +1,6 @@
 -- Texts between quotes.
-use Rattle.std.proofs.Common.{◌≡◌, ℕ, zero, suc, ◌-◌, Bool, true, false, not, ◌&&◌, List, [], ◌∷◌, ◌++◌, Option, Some, None, take, drop, length, if◌then◌else◌, refl, arith, eqb, eq-eqb}
+use Rattle.std.proofs.Common.{◌≡◌, ℕ, zero, suc, ◌-◌, Bool, true, false, not, ◌&&◌, List, [], ◌∷◌, ◌++◌, Option, Some, None, take, drop, length, if◌then◌else◌}
+use Rattle.std.proofs.Common.{refl, arith, eqb, eq-eqb}
 use Rattle.std.specs.Prelude.{bytes_eq, option_and_then}
 use Rattle.std.specs.List.{list_any}
 use Rattle.control_definitions.specs.Statements.{is_quote}

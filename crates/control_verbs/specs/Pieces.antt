@@ -1,7 +1,8 @@
 -- What the readers of this crate give, in the words of the definitions.
 use Rattle.std.specs.Prelude.{ℕ, ◌-◌, List, [], ◌∷◌, Option, Some, None, take, drop, length, bytes_eq, if◌then◌else◌}
 use denote.Ref.{Bor}
-use Rattle.control_definitions.specs.Statements.{Arguments as Parts, Without as NoParts, Malformed as NoForm, With as TheParts, split_outside, is_comma, is_quote}
+use Rattle.control_definitions.specs.Statements.{Arguments as Parts, Without as NoParts, Malformed as NoForm, With as TheParts, split_outside, is_comma}
+use Rattle.control_definitions.specs.Statements.{is_quote}
 use Rattle.control_verbs.specs.declared.words.Arguments.{Arguments}
 use Rattle.control_verbs.specs.declared.words.Arguments.TheVariants.{Without, Malformed, With}
 

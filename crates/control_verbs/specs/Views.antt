@@ -5,7 +5,8 @@ use Rattle.control_definitions.specs.declared.TheConstants.{MAX_STEPS}
 use Rattle.control_definitions.specs.Program as program
 use Rattle.control_definitions.specs.Verbs as table
 use Rattle.control_verbs.specs.declared.verb.Verb.{Verb}
-use Rattle.control_verbs.specs.declared.verb.Verb.TheVariants.{Initialz, Title, MoveName, MoveNumber, MoveLimit, Mvadr, Goto, Convert, Setup, Primal, Dual, Revise, Ranging, Paraobj, Pararhs, Solution, Bcdout, Punch, Insert, Exit}
+use Rattle.control_verbs.specs.declared.verb.Verb.TheVariants.{Initialz, Title, MoveName, MoveNumber, MoveLimit, Mvadr, Goto, Convert, Setup, Primal, Dual}
+use Rattle.control_verbs.specs.declared.verb.Verb.TheVariants.{Revise, Ranging, Paraobj, Pararhs, Solution, Bcdout, Punch, Insert, Exit}
 use Rattle.control_verbs.specs.declared.verb.Statement.{Statement}
 use Rattle.control_verbs.specs.declared.tables.Cell.{Cell}
 use Rattle.control_verbs.specs.declared.tables.Cell.TheVariants.{OfName, OfNumber, OfLimit}

@@ -4,7 +4,8 @@ ghost use Rattle.card_definitions.specs.Words.{named};
 ghost use Rattle.card_definitions.specs.Cards.{Card};
 ghost use Rattle.control_definitions.specs.Statements.{statement_of, verb_word, arguments_of, With, split_outside, is_comma};
 ghost use Rattle.control_definitions.specs.Verbs.{cell_words, demand_words, verb_words, verb_of};
-ghost use Rattle.control_definitions.specs.Compiled.{has_bad_label, has_label_twice, has_verb, lacks_word, is_program, is_program_argument, is_pend, is_lawful_pend, head_fault, control_card_fault};
+ghost use Rattle.control_definitions.specs.Compiled.{has_bad_label, has_label_twice, has_verb, lacks_word, is_program, is_program_argument, is_pend};
+ghost use Rattle.control_definitions.specs.Compiled.{is_lawful_pend, head_fault, control_card_fault};
 
 use crate::columns::{has_open_quote, label, statement};
 use crate::given::is_label;

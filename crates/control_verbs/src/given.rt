@@ -2,7 +2,8 @@
 ghost use Rattle.std.specs.Prelude.{◌≡◌, ◌≤◌, false, IfSome};
 ghost use Rattle.std.specs.List.{list_all};
 ghost use Rattle.card_definitions.specs.Words.{is_empty};
-ghost use Rattle.control_definitions.specs.Arguments.{title_argument, quoted_name, number_argument, steps_argument, limit_argument, steps_of, is_label, is_label_byte, label_text, if_passes, is_name};
+ghost use Rattle.control_definitions.specs.Arguments.{title_argument, quoted_name, number_argument, steps_argument, limit_argument, steps_of, is_label};
+ghost use Rattle.control_definitions.specs.Arguments.{is_label_byte, label_text, if_passes, is_name};
 
 use crate::parts::quotation;
 use crate::text::Text;

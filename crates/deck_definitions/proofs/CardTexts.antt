@@ -1,5 +1,6 @@
 -- What a printable card reads as: names, and fields of numbers.
-use Rattle.std.proofs.Common.{◌≡◌, ℕ, ◌+◌, ◌-◌, ◌≤◌, Bool, true, false, cond, ◌&&◌, ◌||◌, List, [], ◌∷◌, None, length, take, drop, arith, lit≤, unwrap_or, refl, ◌∙◌, nat_lt, ltb-false, is_none, if◌then◌else◌}
+use Rattle.std.proofs.Common.{◌≡◌, ℕ, ◌+◌, ◌-◌, ◌≤◌, Bool, true, false, cond, ◌&&◌, ◌||◌, List, [], ◌∷◌, None, length, take, drop, arith, lit≤, unwrap_or, refl}
+use Rattle.std.proofs.Common.{◌∙◌, nat_lt, ltb-false, is_none, if◌then◌else◌}
 use Rattle.std.specs.List.{AllByRecursion, list_all, list_any, suffix_len}
 use Rattle.std.proofs.lemmas.List.{length-take}
 use Rattle.card_definitions.specs.Words.{is_empty, ◌⟹◌}

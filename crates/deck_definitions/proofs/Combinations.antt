@@ -12,7 +12,8 @@ use Rattle.problem_definitions.specs.Problem.{plain_row, combination, Entry, Pro
 use Rattle.problem_definitions.specs.Numbering.{numbered}
 use Rattle.deck_definitions.specs.declared.DeckFault.{DeckFault}
 use Rattle.deck_definitions.specs.declared.DeckFaultKind.{DeckFaultKind}
-use Rattle.deck_definitions.specs.declared.DeckFaultKind.TheVariants.{DuplicateRow, UnknownRow, DuplicateEntry, Number, RangeOnFree, EmptyName, ExtraField, EntryOnCombination}
+use Rattle.deck_definitions.specs.declared.DeckFaultKind.TheVariants.{DuplicateRow, UnknownRow, DuplicateEntry, Number, RangeOnFree, EmptyName, ExtraField}
+use Rattle.deck_definitions.specs.declared.DeckFaultKind.TheVariants.{EntryOnCombination}
 use Rattle.deck_definitions.specs.Described.{described}
 use Rattle.deck_definitions.specs.Conversion.{deck_fault, card_fault, conversion}
 use Rattle.deck_definitions.specs.Written.{row_cards, data_card}
@@ -29,7 +30,8 @@ part row value = record { row = codes row; value = decimal_of (codes value) }
 -- three parts on two cards with a comment between them, one without parts, and one of a combination
 parts_in_order :
     (described []
-    (of_deck ("NAME" ∷ "ROWS" ∷ " N  COST" ∷ " L  A" ∷ " DL S         A         1              COST      -1" ∷ " DE U" ∷ " DN V         S         2" ∷ " DN V                                  A         3" ∷ []))).rows
+    (of_deck ("NAME" ∷ "ROWS" ∷ " N  COST" ∷ " L  A" ∷ " DL S         A         1              COST      -1" ∷ " DE U" ∷ " DN V         S         2"
+    ∷ " DN V                                  A         3" ∷ []))).rows
     ≡ plain_row N (codes "COST") ∷ plain_row L (codes "A") ∷ combination L (codes "S") (part "A" "1" ∷ part "COST" "-1" ∷ []) ∷ combination E
     (codes "U") [] ∷ combination N (codes "V") (part "S" "2" ∷ part "A" "3" ∷ []) ∷ []
 unfolding described reading_of
@@ -116,7 +118,8 @@ combination_first = refl
 -- a combination of a combination, by numbers
 by_number : option_map (λ (problem : Problem ℕ). map (λ row. option_map (map (λ part. part.row)) row.parts) problem.rows)
     (result_ok (conversion
-    (of_deck ("NAME" ∷ "ROWS" ∷ " N  COST" ∷ " G  A" ∷ " DL S         A         .5" ∷ " DG U         S         4              A         -1" ∷ "COLUMNS" ∷ "ENDATA" ∷ [])) None))
+    (of_deck ("NAME" ∷ "ROWS" ∷ " N  COST" ∷ " G  A" ∷ " DL S         A         .5" ∷ " DG U         S         4              A         -1" ∷ "COLUMNS"
+    ∷ "ENDATA" ∷ [])) None))
     ≡ Some (None ∷ None ∷ Some (2 ∷ []) ∷ Some (3 ∷ 2 ∷ []) ∷ [])
 unfolding conversion numbered deck_fault card_fault described reading_of number_fault
 by_number = refl

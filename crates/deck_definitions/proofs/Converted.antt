@@ -1,5 +1,6 @@
 -- What a data deck converts to is a problem.
-use Rattle.std.proofs.Common.{◌≡◌, ℕ, Bool, true, false, cond, not, List, [], ◌∷◌, ◌++◌, Option, Some, None, Result, Ok, Err, refl, ap, sym, ◌∙◌, subst, unwrap_or, lit≤}
+use Rattle.std.proofs.Common.{◌≡◌, ℕ, Bool, true, false, cond, not, List, [], ◌∷◌, ◌++◌, Option, Some, None, Result, Ok, Err, refl, ap, sym, ◌∙◌, subst}
+use Rattle.std.proofs.Common.{unwrap_or, lit≤}
 use Rattle.std.specs.List.{IsDistinct, list_all}
 use Rattle.std.specs.Option.{option_map, option_or, IfSome}
 use Rattle.std.proofs.lemmas.List.{append_assoc, append-nil}
@@ -20,7 +21,8 @@ use Rattle.deck_definitions.specs.Sections.{is_section_card, section_after, is_s
 use Rattle.deck_definitions.specs.declared.Style.{Style}
 use Rattle.deck_definitions.specs.DataCards.{style_of, form_on, read_after}
 use Rattle.deck_definitions.specs.Described.{described}
-use Rattle.deck_definitions.specs.Conversion.{section_card_fault, form_fault, section_fault, data_card_fault, card_fault, first_faulty, deck_fault, deck_name, conversion}
+use Rattle.deck_definitions.specs.Conversion.{section_card_fault, form_fault, section_fault, data_card_fault, card_fault, first_faulty, deck_fault, deck_name}
+use Rattle.deck_definitions.specs.Conversion.{conversion}
 use Rattle.deck_definitions.specs.Sections.{may_follow}
 use Rattle.deck_definitions.proofs.Steps.{described-data, described-section}
 use Rattle.deck_definitions.specs.Steps.{with_card}

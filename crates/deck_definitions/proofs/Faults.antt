@@ -10,7 +10,9 @@ use Rattle.problem_definitions.specs.Names.{Name}
 use Rattle.problem_definitions.specs.Problem.{plain_row, combination, Problem}
 use Rattle.deck_definitions.specs.declared.DeckFault.{DeckFault}
 use Rattle.deck_definitions.specs.declared.DeckFaultKind.{DeckFaultKind}
-use Rattle.deck_definitions.specs.declared.DeckFaultKind.TheVariants.{SectionOrder, UnknownSection, BadRowType, DuplicateRow, ColumnSplit, UnknownRow, DuplicateEntry, Number, RangeOnFree, BadBoundType, UnknownColumn, BoundTwice, NoEndata, Marker, EmptyName, TooManyRows, TooManyColumns, TooManyEntries, ExtraField}
+use Rattle.deck_definitions.specs.declared.DeckFaultKind.TheVariants.{SectionOrder, UnknownSection, BadRowType, DuplicateRow, ColumnSplit, UnknownRow}
+use Rattle.deck_definitions.specs.declared.DeckFaultKind.TheVariants.{DuplicateEntry, Number, RangeOnFree, BadBoundType, UnknownColumn, BoundTwice, NoEndata}
+use Rattle.deck_definitions.specs.declared.DeckFaultKind.TheVariants.{Marker, EmptyName, TooManyRows, TooManyColumns, TooManyEntries, ExtraField}
 use Rattle.deck_definitions.specs.declared.Section.TheVariants.{Columns, Rhs}
 use Rattle.deck_definitions.specs.Described.{described}
 use Rattle.deck_definitions.specs.Tests.{row_fault, columns_fault, pair_fault}

@@ -8,7 +8,8 @@ use Rattle.card_definitions.specs.Numbers.{number_fault}
 use Rattle.problem_definitions.specs.Numbering.{numbered}
 use Rattle.deck_definitions.specs.declared.DeckFault.{DeckFault}
 use Rattle.deck_definitions.specs.declared.DeckFaultKind.{DeckFaultKind}
-use Rattle.deck_definitions.specs.declared.DeckFaultKind.TheVariants.{BadRowType, DuplicateRow, UnknownRow, DuplicateEntry, Number, BadBoundType, UnknownColumn, ExtraField, WordCount, LongName, LongNumber}
+use Rattle.deck_definitions.specs.declared.DeckFaultKind.TheVariants.{BadRowType, DuplicateRow, UnknownRow, DuplicateEntry, Number, BadBoundType, UnknownColumn}
+use Rattle.deck_definitions.specs.declared.DeckFaultKind.TheVariants.{ExtraField, WordCount, LongName, LongNumber}
 use Rattle.deck_definitions.specs.Described.{described}
 use Rattle.deck_definitions.specs.Conversion.{deck_fault, card_fault, conversion}
 
@@ -20,9 +21,12 @@ found card kind = Some (record { card = card; kind = kind })
 
 -- a free deck and a fixed one that say the same
 free_deck : conversion
-    (of_deck ("NAME          ONE       FREE" ∷ "ROWS" ∷ " N COST" ∷ " G LOW" ∷ "COLUMNS" ∷ " X COST 1 LOW 1" ∷ "RHS" ∷ " LOW 1" ∷ "RANGES" ∷ " R LOW 2" ∷ "BOUNDS" ∷ " UP X 4" ∷ " FR B X" ∷ "ENDATA" ∷ [])) None
+    (of_deck ("NAME          ONE       FREE" ∷ "ROWS" ∷ " N COST" ∷ " G LOW" ∷ "COLUMNS" ∷ " X COST 1 LOW 1" ∷ "RHS" ∷ " LOW 1" ∷ "RANGES" ∷ " R LOW 2"
+    ∷ "BOUNDS" ∷ " UP X 4" ∷ " FR B X" ∷ "ENDATA" ∷ [])) None
     ≡ conversion
-    (of_deck ("NAME          ONE" ∷ "ROWS" ∷ " N  COST" ∷ " G  LOW" ∷ "COLUMNS" ∷ "    X         COST      1              LOW       1" ∷ "RHS" ∷ "              LOW       1" ∷ "RANGES" ∷ "    R         LOW       2" ∷ "BOUNDS" ∷ " UP           X         4" ∷ " FR B         X" ∷ "ENDATA" ∷ [])) None
+    (of_deck ("NAME          ONE" ∷ "ROWS" ∷ " N  COST" ∷ " G  LOW" ∷ "COLUMNS" ∷ "    X         COST      1              LOW       1" ∷ "RHS"
+    ∷ "              LOW       1" ∷ "RANGES" ∷ "    R         LOW       2" ∷ "BOUNDS" ∷ " UP           X         4" ∷ " FR B         X" ∷ "ENDATA" ∷ []))
+    None
 unfolding conversion numbered deck_fault card_fault described reading_of words number_fault
 free_deck = refl
 
@@ -69,9 +73,11 @@ row_again = refl
 
 -- two parts on a card, and the same combination on two cards of a fixed deck
 free_combination : conversion
-    (of_deck ("NAME          ONE       FREE" ∷ "ROWS" ∷ " N COST" ∷ " G LOW" ∷ " DL S COST 1 LOW -2" ∷ "COLUMNS" ∷ " X COST 1 LOW 1" ∷ "RHS" ∷ " S 4" ∷ "ENDATA" ∷ [])) None
+    (of_deck ("NAME          ONE       FREE" ∷ "ROWS" ∷ " N COST" ∷ " G LOW" ∷ " DL S COST 1 LOW -2" ∷ "COLUMNS" ∷ " X COST 1 LOW 1" ∷ "RHS" ∷ " S 4"
+    ∷ "ENDATA" ∷ [])) None
     ≡ conversion
-    (of_deck ("NAME          ONE" ∷ "ROWS" ∷ " N  COST" ∷ " G  LOW" ∷ " DL S         COST      1" ∷ " DL S         LOW       -2" ∷ "COLUMNS" ∷ "    X         COST      1              LOW       1" ∷ "RHS" ∷ "              S         4" ∷ "ENDATA" ∷ [])) None
+    (of_deck ("NAME          ONE" ∷ "ROWS" ∷ " N  COST" ∷ " G  LOW" ∷ " DL S         COST      1" ∷ " DL S         LOW       -2" ∷ "COLUMNS"
+    ∷ "    X         COST      1              LOW       1" ∷ "RHS" ∷ "              S         4" ∷ "ENDATA" ∷ [])) None
 unfolding conversion numbered deck_fault card_fault described reading_of words number_fault
 free_combination = refl
 

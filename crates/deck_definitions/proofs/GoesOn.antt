@@ -1,5 +1,6 @@
 -- A card of ROWS after a combination of its type and name goes on with it; a card with a new name begins a row.
-use Rattle.std.proofs.Common.{◌≡◌, Bool, true, false, ◌&&◌, ◌||◌, List, [], ◌∷◌, ◌++◌, Option, Some, None, length, refl, ap, ◌∙◌, subst, is_none, is_some, nat_le, unwrap_or, bytes_eq, if◌then◌else◌}
+use Rattle.std.proofs.Common.{◌≡◌, Bool, true, false, ◌&&◌, ◌||◌, List, [], ◌∷◌, ◌++◌, Option, Some, None, length, refl, ap, ◌∙◌, subst, is_none, is_some}
+use Rattle.std.proofs.Common.{nat_le, unwrap_or, bytes_eq, if◌then◌else◌}
 use Rattle.std.specs.List.{last_or}
 use Rattle.std.specs.Option.{option_map, option_to_list}
 use Rattle.card_definitions.specs.Words.{is_empty, named, ◌⟹◌, first_fault}

@@ -1,5 +1,6 @@
 -- The problem of a deck in which no fault was found is a problem.
-use Rattle.std.proofs.Common.{◌≡◌, ℕ, ◌+◌, ◌≤◌, Bool, true, false, cond, not, ◌&&◌, ◌||◌, List, [], ◌∷◌, ◌++◌, Option, Some, None, length, map, refl, ap₂, sym, ◌∙◌, subst, arith, is_none, is_some, nat_le, unwrap_or, bytes_eq, if◌then◌else◌}
+use Rattle.std.proofs.Common.{◌≡◌, ℕ, ◌+◌, ◌≤◌, Bool, true, false, cond, not, ◌&&◌, ◌||◌, List, [], ◌∷◌, ◌++◌, Option, Some, None, length, map, refl, ap₂, sym}
+use Rattle.std.proofs.Common.{◌∙◌, subst, arith, is_none, is_some, nat_le, unwrap_or, bytes_eq, if◌then◌else◌}
 use Rattle.std.specs.List.{AllByRecursion, IsDistinct, last_or}
 use Rattle.std.specs.Option.{option_map, option_or, option_to_list, IfSome}
 use Rattle.std.proofs.lemmas.List.{map-append, length-append}
@@ -14,7 +15,8 @@ use Rattle.problem_definitions.specs.declared.RowKind.TheVariants.{N, G, L, E}
 use Rattle.problem_definitions.specs.declared.BoundKind.{BoundKind}
 use Rattle.problem_definitions.specs.Names.{Name, same, marker}
 use Rattle.problem_definitions.specs.Kinds.{takes_value, touches_upper, touches_lower, meet}
-use Rattle.problem_definitions.specs.Problem.{Row, plain_row, combination, Entry, Bound, Group, Problem, row_names, entry_count, has_row, has_free_row, has_combination, has_group}
+use Rattle.problem_definitions.specs.Problem.{Row, plain_row, combination, Entry, Bound, Group, Problem, row_names, entry_count, has_row, has_free_row}
+use Rattle.problem_definitions.specs.Problem.{has_combination, has_group}
 use Rattle.problem_definitions.specs.Parts.{parts_of, in_row, rows_before}
 use Rattle.problem_definitions.specs.Groups.{items_of, in_set}
 use Rattle.problem_definitions.specs.Valid.{IsName, IsDecimal}
@@ -22,14 +24,18 @@ use Rattle.problem_definitions.proofs.Names.{same_eq, same_sym, row_is_named}
 use Rattle.problem_definitions.proofs.Each.{each-push, each-append, each-change, distinct-push, absent-apart}
 use Rattle.problem_definitions.proofs.LawfulEntries.{AreLawfulEntries}
 use Rattle.problem_definitions.proofs.Parts.{parts-push, parts-changed, parts_of-new, parts_of-lawful, rows_before-new, in_row-names, in_row-length}
-use Rattle.problem_definitions.proofs.Lawful.{IsLabel, AreGroups, AreColumnEntries, AreRightHandSides, AreRanges, clash_by_name, AreLawfulBounds, AreBoundSets, IsLawful}
+use Rattle.problem_definitions.proofs.Lawful.{IsLabel, AreGroups, AreColumnEntries, AreRightHandSides, AreRanges, clash_by_name, AreLawfulBounds, AreBoundSets}
+use Rattle.problem_definitions.proofs.Lawful.{IsLawful}
 use Rattle.problem_definitions.proofs.OtherRows.{groups-same, rows-changed, in_row-still, pushed-still}
 use Rattle.problem_definitions.proofs.Added.{groups-added, count-added, items-added, items_of-each, has_group-added}
-use Rattle.deck_definitions.specs.declared.DeckFaultKind.TheVariants.{BadRowType, DuplicateRow, ColumnSplit, UnknownColumn, BoundTwice, EmptyName, TooManyRows, TooManyColumns, Marker, BadBoundType}
+use Rattle.deck_definitions.specs.declared.DeckFaultKind.TheVariants.{BadRowType, DuplicateRow, ColumnSplit, UnknownColumn, BoundTwice, EmptyName, TooManyRows}
+use Rattle.deck_definitions.specs.declared.DeckFaultKind.TheVariants.{TooManyColumns, Marker, BadBoundType}
 use Rattle.deck_definitions.specs.declared.Section.{Section}
 use Rattle.deck_definitions.specs.declared.Section.TheVariants.{Header, Rows, Columns, Rhs, Ranges, Bounds, Endata}
-use Rattle.deck_definitions.specs.DataCards.{pairs_of, part_pairs_of, entries_of, parts_on, row_kinds, combination_kinds, combination_text, kind_on, is_card_of, goes_on_last, with_row, bound_kinds, row_of, bound_of, bound_group}
-use Rattle.deck_definitions.specs.Tests.{kind_filled, filled_from_3, filled_from_5, marks, all_but_last, pairs_fault, row_fields_fault, row_fault, columns_fault, set_fault, bounds_fault, bound_fault, value_fault, bound_value_fault, is_bound_already}
+use Rattle.deck_definitions.specs.DataCards.{pairs_of, part_pairs_of, entries_of, parts_on, row_kinds, combination_kinds, combination_text, kind_on, is_card_of}
+use Rattle.deck_definitions.specs.DataCards.{goes_on_last, with_row, bound_kinds, row_of, bound_of, bound_group}
+use Rattle.deck_definitions.specs.Tests.{kind_filled, filled_from_3, filled_from_5, marks, all_but_last, pairs_fault, row_fields_fault, row_fault}
+use Rattle.deck_definitions.specs.Tests.{columns_fault, set_fault, bounds_fault, bound_fault, value_fault, bound_value_fault, is_bound_already}
 use Rattle.deck_definitions.specs.Conversion.{section_fault}
 use Rattle.deck_definitions.specs.Steps.{with_card, with_group}
 use Rattle.deck_definitions.proofs.CardTexts.{pairs-short, part_pairs-short, text_is_decimal}

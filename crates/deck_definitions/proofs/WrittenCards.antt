@@ -114,7 +114,17 @@ pub reading_of-data_card : (kind name1 name2 value : List ℕ) → FitsField 2 k
     ≡ record { kind = kind; name1 = name1; name2 = name2; value1 = value; name3 = []; value2 = []; value1_column = 25; value2_column = 50 }
 unfolding reading_of data_card
 reading_of-data_card kind name1 name2 value fk lead f1 f2 fv =
-    λ i. record { kind = at_kind i; name1 = at_name1 i; name2 = at_name2 i; value1 = at_value1 i; name3 = at_name3 i; value2 = at_value2 i; value1_column = 25; value2_column = 50 }
+    λ i. record {
+      kind = at_kind i;
+      name1 = at_name1 i;
+      name2 = at_name2 i;
+      value1 = at_value1 i;
+      name3 = at_name3 i;
+      value2 = at_value2 i;
+      value1_column =
+          25;
+      value2_column = 50;
+    }
   where
     trim : List ℕ → List ℕ
     trim text = without_trailing is_blank text

@@ -1,5 +1,6 @@
 -- The cards of a deck, cut where a reader stands.
-use Rattle.std.proofs.Common.{◌≡◌, ℕ, zero, suc, ◌+◌, ◌-◌, ◌≤◌, ◌<◌, true, List, [], ◌∷◌, ◌++◌, Some, None, length, map, take, drop, slice_get, get_or, refl, ap, sym, subst, ◌∙◌, unwrap_or, arith}
+use Rattle.std.proofs.Common.{◌≡◌, ℕ, zero, suc, ◌+◌, ◌-◌, ◌≤◌, ◌<◌, true, List, [], ◌∷◌, ◌++◌, Some, None, length, map, take, drop, slice_get, get_or, refl}
+use Rattle.std.proofs.Common.{ap, sym, subst, ◌∙◌, unwrap_or, arith}
 use Rattle.std.specs.List.{list_all, last_or}
 use Rattle.std.specs.Option.{option_map}
 use Rattle.std.proofs.lemmas.List.{map-append}

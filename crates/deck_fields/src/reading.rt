@@ -3,7 +3,9 @@ ghost use Rattle.std.specs.Prelude.{◌≡◌, ◌++◌, ◌+◌, ◌-◌, ◌*�
 ghost use Rattle.std.specs.List.{take_while, prefix_len, list_all, position_or_len};
 ghost use Rattle.card_definitions.specs.Words.{is_empty, without_leading};
 ghost use Rattle.card_definitions.specs.Cards.{is_blank};
-ghost use Rattle.card_definitions.specs.Numbers.{mantissa, exponent, whole_digits, after_whole_digits, fraction_digits, exponent_digits, formed_length, has_exponent, lacks_digit, exponent_size, number_fault, number_of, value_of, digits_value, is_negative, is_digit, is_sign, is_point, is_exponent_letter, after_one, trimmed, next_value};
+ghost use Rattle.card_definitions.specs.Numbers.{mantissa, exponent, whole_digits, after_whole_digits, fraction_digits, exponent_digits, formed_length};
+ghost use Rattle.card_definitions.specs.Numbers.{has_exponent, lacks_digit, exponent_size, number_fault, number_of, value_of, digits_value, is_negative};
+ghost use Rattle.card_definitions.specs.Numbers.{is_digit, is_sign, is_point, is_exponent_letter, after_one, trimmed, next_value};
 ghost use Rattle.deck_fields.specs.Readings.{quotient_value};
 
 use crate::blanks::{leading_blanks, without_leading_blanks};

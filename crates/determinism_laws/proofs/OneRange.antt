@@ -7,13 +7,15 @@ use Rattle.exact_values.specs.Rational.{ℚ, zero_ℚ, ◌+ℚ◌}
 use Rattle.exact_values.specs.Tests.{eq_ℚ}
 use Rattle.exact_values.proofs.RingLaws.{add-zero, zero-mul}
 use Rattle.exact_values.proofs.TestsLaws.{same_from_test}
-use Rattle.lp_definitions.specs.LinearProgram.{LinearProgram, Vector, IsVariable, IsLinearProgram, lower_of, upper_of, cost, for_min, with_change_row, numbers_from}
+use Rattle.lp_definitions.specs.LinearProgram.{LinearProgram, Vector, IsVariable, IsLinearProgram, lower_of, upper_of, cost, for_min, with_change_row}
+use Rattle.lp_definitions.specs.LinearProgram.{numbers_from}
 use Rattle.lp_definitions.specs.Basis.{is_basic, status_of, StandsAt, IsOptimalBasis, Tableau}
 use Rattle.lp_definitions.specs.declared.Status.{Status}
 use Rattle.lp_definitions.specs.declared.Status.TheVariants.{Bs, Ll, Ul, Fr}
 use Rattle.lp_laws.proofs.Uniqueness.{one_point}
 use Rattle.simplex_definitions.specs.Moves.{is_fixed, on_limits, may_rise, may_fall}
-use Rattle.simplex_definitions.specs.Ranges.{with_lower, with_upper, with_limit, with_limit_at, with_cost, with_row, stands_at_limit, at_limits, columns_of, intermediate_rows, RangeReport, IsRangeReport}
+use Rattle.simplex_definitions.specs.Ranges.{with_lower, with_upper, with_limit, with_limit_at, with_cost, with_row, stands_at_limit, at_limits, columns_of}
+use Rattle.simplex_definitions.specs.Ranges.{intermediate_rows, RangeReport, IsRangeReport}
 use Rattle.sensitivity_laws.specs.Changes.{IsRightTableau, RatesStay, worths, slopes}
 use Rattle.sensitivity_laws.specs.Laws.{IsPresent}
 use Rattle.simplex_laws.proofs.Booleans.{improves}
@@ -174,7 +176,8 @@ pub ranged_once : (sheet : Sheet) (s : Basis) (a b : RangeLines) → IsLinearPro
     IsRanged sheet s a → IsRanged sheet s b → a ≡ b
 ranged_once sheet s a b lawful no_change optimal first second =
     let points =
-    one_point sheet.lp s first.tableau.point second.tableau.point optimal.is_basis.counted optimal.nonsingular first.is_tableau.is_point second.is_tableau.is_point in
+    one_point sheet.lp s first.tableau.point second.tableau.point optimal.is_basis.counted optimal.nonsingular first.is_tableau.is_point
+    second.is_tableau.is_point in
     let present : IsPresent sheet.lp s first.tableau = record { lawful = lawful; no_change = no_change; optimal = optimal; is_tableau = first.is_tableau } in
     let reports = report_same sheet.lp s first.tableau present first.report second.report first.is_report second.is_report in
     first.are_lines ∙ ranges_same sheet s first.tableau second.tableau points first.report ∙ ap (λ r. range_lines sheet s second.tableau r) reports

@@ -8,7 +8,8 @@ use Rattle.control_definitions.specs.Program.{Program}
 use Rattle.listing_definitions.specs.declared.Solver.{Solver}
 use Rattle.listing_definitions.specs.declared.Solver.TheVariants.{Primal, Dual, Paraobj, Pararhs}
 use Rattle.listing_definitions.specs.Report.{Report}
-use Rattle.listing_definitions.specs.Ending.{Ending, Ended, WordsRefused, ControlStop, VerbStop, SingularStop, PriceStop, DeckStop, CardStop, LimitStop, StatementLimit, OverflowStop, ReadFault, PrintFault, PunchFault, Memory}
+use Rattle.listing_definitions.specs.Ending.{Ending, Ended, WordsRefused, ControlStop, VerbStop, SingularStop, PriceStop, DeckStop, CardStop, LimitStop}
+use Rattle.listing_definitions.specs.Ending.{StatementLimit, OverflowStop, ReadFault, PrintFault, PunchFault, Memory}
 use Rattle.question_definitions.specs.Answers.{Basis, Sheet, Question, OfPath, OfSolution, OfRanges, PathEnd}
 use Rattle.question_definitions.specs.Solving.{Solving}
 use Rattle.answer_definitions.specs.Verdicts.{IsSolvedBy}
@@ -167,7 +168,8 @@ module _ (S : Solving) (solving : KnowsSolving S) (answers : AnswersOnce S) (byt
       as_many : m ≡ n → AreSame reports others cards other_cards ending other
       as_many e =
           let same =
-          same_so_far S solving answers bytes program is_program first.before second.before first.before_cards second.before_cards first.state second.state first.came second.came e in
+          same_so_far S solving answers bytes program is_program first.before second.before first.before_cards second.before_cards first.state second.state
+          first.came second.came e in
           let moved : Last S program first.state second.gain other = subst (λ x. Last S program x second.gain other) (sym same.states_same) second.last in
           let ends = one_last first.before first.before_cards first.state first.gain second.gain ending other first.came none nor first.last moved in
           record {
@@ -179,11 +181,13 @@ module _ (S : Solving) (solving : KnowsSolving S) (answers : AnswersOnce S) (byt
       not_fewer : (n ≡ m) ⊎ (n < m) → AreSame reports others cards other_cards ending other
       not_fewer (inl e) = as_many (sym e)
       not_fewer (inr fewer) = absurd (last_or_more second.before second.before_cards second.state second.gain other second.came nor second.last
-          (goes_on S solving answers bytes program is_program second.before first.before second.before_cards first.before_cards second.state first.state second.came first.came fewer))
+          (goes_on S solving answers bytes program is_program second.before first.before second.before_cards first.before_cards second.state first.state
+          second.came first.came fewer))
 
       by : (m < n) ⊎ (n ≤ m) → AreSame reports others cards other_cards ending other
       by (inl fewer) = absurd (last_or_more first.before first.before_cards first.state first.gain ending first.came none first.last
-          (goes_on S solving answers bytes program is_program first.before second.before first.before_cards second.before_cards first.state second.state first.came second.came fewer))
+          (goes_on S solving answers bytes program is_program first.before second.before first.before_cards second.before_cards first.state second.state
+          first.came second.came fewer))
       by (inr more) = not_fewer (eq-or-lt_of_le {n = n} {m = m} more)
 
   -- a statement that stops with an overflow, where it may go on or end otherwise, reports nothing
@@ -245,18 +249,22 @@ module _ (S : Solving) (solving : KnowsSolving S) (answers : AnswersOnce S) (byt
       silent : (m ≡ n) ⊎ (m < n) → first.gain ≡ Nothing
       silent (inl e) =
           let same =
-          same_so_far S solving answers bytes program is_program first.before second.before first.before_cards second.before_cards first.state second.state first.came second.came e in
+          same_so_far S solving answers bytes program is_program first.before second.before first.before_cards second.before_cards first.state second.state
+          first.came second.came e in
           let moved : Last S program first.state second.gain other = subst (λ x. Last S program x second.gain other) (sym same.states_same) second.last in
           stops_where_it_ends first.before first.before_cards first.state first.gain second.gain ending other first.came nor stop first.last moved
       silent (inr fewer) =
           stops_where_it_goes first.before first.before_cards first.state first.gain ending first.came stop first.last
-          (goes_on S solving answers bytes program is_program first.before second.before first.before_cards second.before_cards first.state second.state first.came second.came fewer)
+          (goes_on S solving answers bytes program is_program first.before second.before first.before_cards second.before_cards first.state second.state
+          first.came second.came fewer)
 
       by : (n < m) ⊎ (m ≤ n) → Continues reports others cards other_cards
       by (inl more) = absurd (last_or_more second.before second.before_cards second.state second.gain other second.came nor second.last
-          (goes_on S solving answers bytes program is_program second.before first.before second.before_cards first.before_cards second.state first.state second.came first.came more))
+          (goes_on S solving answers bytes program is_program second.before first.before second.before_cards first.before_cards second.state first.state
+          second.came first.came more))
       by (inr fewer) = stopped_early reports others cards other_cards ending other first second (silent (eq-or-lt_of_le {n = m} {m = n} fewer))
-          (continues S solving answers bytes program is_program first.before second.before first.before_cards second.before_cards first.state second.state first.came second.came fewer)
+          (continues S solving answers bytes program is_program first.before second.before first.before_cards second.before_cards first.state second.state
+          first.came second.came fewer)
 
   two_so_far : (reports others : List Report) (cards other_cards : List (List ℕ)) (state other : State) → RunHasReached reports cards state →
       RunHasReached others other_cards other →
@@ -337,14 +345,16 @@ module _ (S : Solving) (solving : KnowsSolving S) (answers : AnswersOnce S) (byt
 pub is_function : (S : Solving) → KnowsSolving S → AnswersOnce S → IsFunction S
 is_function S solving answers = record {
   step =
-      λ bytes program reports cards state a b so_far first second. two_outcomes S solving answers bytes program so_far.is_program reports cards state a b so_far.reaches first second;
+      λ bytes program reports cards state a b so_far first second. two_outcomes S solving answers bytes program so_far.is_program reports cards state a b
+      so_far.reaches first second;
   so_far = λ bytes program reports others cards other_cards state other first second.
       two_so_far S solving answers bytes program first.is_program reports others cards other_cards state other first.reaches second.reaches;
   job = λ bytes. two_job_runs S solving answers bytes;
   breaks_off = λ bytes. job_breaks_off S solving answers bytes;
   unstopped = λ bytes. unstopped S solving answers bytes;
   one_run =
-      λ bytes reports others cards other_cards ending other none first second. two_job_runs S solving answers bytes reports others cards other_cards ending other first second
+      λ bytes reports others cards other_cards ending other none first second. two_job_runs S solving answers bytes reports others cards other_cards ending
+      other first second
       (unstopped S solving answers bytes reports cards ending none first) (unstopped S solving answers bytes others other_cards other none second);
 }
 

@@ -2,7 +2,8 @@
 use Rattle.std.proofs.Common.{◌≡◌, ℕ, List, [], Some, sym, subst}
 use Rattle.deck_definitions.specs.Written.{card_text}
 use Rattle.listing_definitions.specs.Report.{Report}
-use Rattle.listing_definitions.specs.Ending.{Ending, Ended, WordsRefused, ControlStop, VerbStop, SingularStop, PriceStop, DeckStop, CardStop, LimitStop, StatementLimit, OverflowStop, ReadFault, PrintFault, PunchFault, Memory, status_of}
+use Rattle.listing_definitions.specs.Ending.{Ending, Ended, WordsRefused, ControlStop, VerbStop, SingularStop, PriceStop, DeckStop, CardStop, LimitStop}
+use Rattle.listing_definitions.specs.Ending.{StatementLimit, OverflowStop, ReadFault, PrintFault, PunchFault, Memory, status_of}
 use Rattle.listing_definitions.specs.Listing.{listing}
 use Rattle.question_definitions.specs.Solving.{Solving}
 use Rattle.run_definitions.specs.Answer as run

@@ -13,7 +13,8 @@ use Rattle.deck_definitions.specs.Decks.{deck_taken}
 use Rattle.basis_deck_definitions.specs.Reading.{basis_reading}
 use Rattle.revise_definitions.specs.Revision.{revision}
 use Rattle.control_definitions.specs.Cells.{steps_allowed}
-use Rattle.control_definitions.specs.Program.{Program, SetupOptions, Verb, Initialz, Title, MoveName, MoveNumber, MoveLimit, Mvadr, Goto, Convert, Setup, Primal, Dual, Revise, Ranging, Paraobj, Pararhs, Solution as SolutionVerb, Bcdout, Punch, Insert, Exit}
+use Rattle.control_definitions.specs.Program.{Program, SetupOptions, Verb, Initialz, Title, MoveName, MoveNumber, MoveLimit, Mvadr, Goto, Convert, Setup}
+use Rattle.control_definitions.specs.Program.{Primal, Dual, Revise, Ranging, Paraobj, Pararhs, Solution as SolutionVerb, Bcdout, Punch, Insert, Exit}
 use Rattle.selection_definitions.specs.declared.SelectionFault.{SelectionFault}
 use Rattle.selection_definitions.specs.Choice.{Choice}
 use Rattle.selection_definitions.specs.Selection.{selected}
@@ -23,12 +24,16 @@ use Rattle.listing_definitions.specs.declared.Solver.{Solver}
 use Rattle.listing_definitions.specs.declared.Solver.TheVariants.{Primal as ByPrimal, Dual as ByDual}
 use Rattle.listing_definitions.specs.declared.VerbFault.{VerbFault}
 use Rattle.listing_definitions.specs.Report.{Report, Converted, Revised, Solved, Solution, Ranges}
-use Rattle.listing_definitions.specs.Ending.{Overflow, Ending, Ended, WordsRefused, ControlStop, VerbStop, SingularStop, PriceStop, DeckStop, CardStop, LimitStop, StatementLimit, OverflowStop, ReadFault, PrintFault, PunchFault, Memory}
-use Rattle.question_definitions.specs.Answers.{Basis, Changing, parametric_solver, ParametricRun, Question, AnswerTo, OfSolution, OfRanges, PathEnd, Reached, PathLimit, PricesWrong, ParametricRunEnd, Opening, Chained, ParametricRunLimit, InstallEnd, Installed, DependsBy}
+use Rattle.listing_definitions.specs.Ending.{Overflow, Ending, Ended, WordsRefused, ControlStop, VerbStop, SingularStop, PriceStop, DeckStop, CardStop}
+use Rattle.listing_definitions.specs.Ending.{LimitStop, StatementLimit, OverflowStop, ReadFault, PrintFault, PunchFault, Memory}
+use Rattle.question_definitions.specs.Answers.{Basis, Changing, parametric_solver, ParametricRun, Question, AnswerTo, OfSolution, OfRanges, PathEnd, Reached}
+use Rattle.question_definitions.specs.Answers.{PathLimit, PricesWrong, ParametricRunEnd, Opening, Chained, ParametricRunLimit, InstallEnd, Installed, DependsBy}
 use Rattle.question_definitions.specs.Solving.{Solving}
 use Rattle.run_definitions.specs.State.{Present, gone_through, State, problem_of, choice_of}
 use Rattle.run_definitions.specs.Moves.{Gain, StatementOutcome, Goes, Ends, Refusals, StatementMove, Does, MayStop, Asks, Gives, or_fault}
-use Rattle.run_definitions.specs.Verbs.{or_deck_fault, or_selection_fault, files, selects, not_less, change_row, change_set, demanded, by_verdict, mark_of, if_optimal, after_path, after_parametric_run, after_install, shows_present, solves, shows, ranges, parametric_runs, converts, revises, sets_up, punches, punches_basis, inserts, verb_move}
+use Rattle.run_definitions.specs.Verbs.{or_deck_fault, or_selection_fault, files, selects, not_less, change_row, change_set, demanded, by_verdict, mark_of}
+use Rattle.run_definitions.specs.Verbs.{if_optimal, after_path, after_parametric_run, after_install, shows_present, solves, shows, ranges, parametric_runs}
+use Rattle.run_definitions.specs.Verbs.{converts, revises, sets_up, punches, punches_basis, inserts, verb_move}
 use Rattle.run_definitions.specs.Run.{counted, at_end, at_limit, IsRun, is_over, is_ended}
 use Rattle.run_definitions.specs.Answer.{IsJobRun, card_fault, control_fault, run}
 use Rattle.determinism_laws.specs.Laws.{HasEvidence}

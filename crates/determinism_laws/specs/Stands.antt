@@ -9,7 +9,9 @@ use Rattle.card_definitions.specs.declared.CardFault.{CardFault}
 use Rattle.deck_definitions.specs.Written.{card_text}
 use Rattle.control_definitions.specs.declared.ControlFault.{ControlFault}
 use Rattle.listing_definitions.specs.Report.{Report}
-use Rattle.listing_definitions.specs.Ending.{StatementFault, SingularBasis, WrongPrice, DeckCardFault, LimitReached, Overflow, Ending, Ended, WordsRefused, ControlStop, VerbStop, SingularStop, PriceStop, DeckStop, CardStop, LimitStop, StatementLimit, OverflowStop, ReadFault, PunchFault, Memory}
+use Rattle.listing_definitions.specs.Ending.{StatementFault, SingularBasis, WrongPrice, DeckCardFault, LimitReached, Overflow, Ending, Ended, WordsRefused}
+use Rattle.listing_definitions.specs.Ending.{ControlStop, VerbStop, SingularStop, PriceStop, DeckStop, CardStop, LimitStop, StatementLimit, OverflowStop}
+use Rattle.listing_definitions.specs.Ending.{ReadFault, PunchFault, Memory}
 use Rattle.listing_definitions.specs.Listing.{ending_text, reports_text}
 use Rattle.question_definitions.specs.Solving.{Solving}
 use Rattle.answer_definitions.specs.Real.{linear_programming}

@@ -18,7 +18,8 @@ use Rattle.basis_values.specs.Formulas.{IsRefusal}
 use Rattle.basis_values.specs.Reach.{IsNearest, sooner}
 use Rattle.basis_values.proofs.Nearest.{next_nearest}
 use Rattle.simplex_laws.proofs.Steps.{signed_zero}
-use Rattle.dual_step.specs.Cheapest.{brings, ratio_of, cheapest_by, ratio_if, ratio_at, reach_by, IsCandidate, IsBest, ratio_formula, KeptRefused, of_best, of_other, SomeRatioRefused}
+use Rattle.dual_step.specs.Cheapest.{brings, ratio_of, cheapest_by, ratio_if, ratio_at, reach_by, IsCandidate, IsBest, ratio_formula, KeptRefused, of_best}
+use Rattle.dual_step.specs.Cheapest.{of_other, SomeRatioRefused}
 use Rattle.dual_step.specs.declared.ratios.Candidate.{Candidate}
 
 neither : (up down : Bool) → ((lt_ℚ zero_ℚ zero_ℚ && up) || (lt_ℚ zero_ℚ zero_ℚ && down)) ≡ true → ⊥

@@ -1,5 +1,6 @@
 -- What the rates by columns show.
-use Rattle.std.proofs.Common.{◌≡◌, ℕ, ◌+◌, ◌-◌, ◌<◌, List, [], ◌∷◌, ◌++◌, inl, inr, length, get_or, set, refl, sym, ◌∙◌, ap, true, false, cond, Bool, subst, arith, All, below_more, Ok, Err, Result, OnOk, OnErr}
+use Rattle.std.proofs.Common.{◌≡◌, ℕ, ◌+◌, ◌-◌, ◌<◌, List, [], ◌∷◌, ◌++◌, inl, inr, length, get_or, set, refl, sym, ◌∙◌, ap, true, false, cond, Bool, subst}
+use Rattle.std.proofs.Common.{arith, All, below_more, Ok, Err, Result, OnOk, OnErr}
 use Rattle.std.proofs.lemmas.List.Elements.{Contains-get_or, All-append}
 use Rattle.std.proofs.lemmas.List.{get_or-set_same, get_or-set_other}
 use Rattle.exact_values.specs.Rational.{ℚ, zero_ℚ}

@@ -1,5 +1,6 @@
 -- How many entries and how many etas there are.
-use Rattle.std.proofs.Common.{◌≡◌, ℕ, zero, suc, ◌+◌, ◌-◌, ◌<◌, ◌≤◌, List, [], ◌∷◌, length, drop, set, get_or, map, filter, refl, sym, ◌∙◌, ap, true, false, cond, subst, arith, Bool, ltb}
+use Rattle.std.proofs.Common.{◌≡◌, ℕ, zero, suc, ◌+◌, ◌-◌, ◌<◌, ◌≤◌, List, [], ◌∷◌, length, drop, set, get_or, map, filter, refl, sym, ◌∙◌, ap, true, false}
+use Rattle.std.proofs.Common.{cond, subst, arith, Bool, ltb}
 use Rattle.std.specs.Prelude.{not, ◌&&◌}
 use Rattle.exact_values.specs.Tests.{eq_ℚ}
 use Rattle.exact_values.specs.Rational.{zero_ℚ}

@@ -1,5 +1,6 @@
 -- What a file shows of the column that is carried through it.
-use Rattle.std.proofs.Common.{◌≡◌, ◌≢◌, ℕ, zero, suc, ◌+◌, ◌-◌, ◌*◌, ◌<◌, ◌≤◌, ◌⊎◌, inl, inr, List, [], ◌∷◌, ◌++◌, length, map, cond, take, get_or, refl, sym, ◌∙◌, ap, ap₂, subst, arith, add-one, All, Ok, Err, Result, IfErr, OnOk, Option, None, Some, IfSome, Bool, true, false}
+use Rattle.std.proofs.Common.{◌≡◌, ◌≢◌, ℕ, zero, suc, ◌+◌, ◌-◌, ◌*◌, ◌<◌, ◌≤◌, ◌⊎◌, inl, inr, List, [], ◌∷◌, ◌++◌, length, map, cond, take, get_or, refl, sym}
+use Rattle.std.proofs.Common.{◌∙◌, ap, ap₂, subst, arith, add-one, All, Ok, Err, Result, IfErr, OnOk, Option, None, Some, IfSome, Bool, true, false}
 use Rattle.std.specs.Prelude.{nat_le, eqb}
 use Rattle.std.proofs.lemmas.Bool.{eq-eqb}
 use Rattle.std.proofs.lemmas.Bool.Decides.{eqb_tells}
@@ -33,7 +34,8 @@ use Rattle.lp_laws.proofs.Uniqueness.{one_direction}
 use Rattle.eta_file.specs.Inverse.{IsAppended}
 use Rattle.lp_definitions.specs.Waypoints.{waypoint}
 use Rattle.eta_file.proofs.RateEntries.{rate_entry, rate_entries_apart, others_less, length-rate_entries}
-use Rattle.eta_file.proofs.PrefixLaws.{after-take_next, eta_at, Passed-take, nonsingular_after, out_from, entry_count-take, length-prefixes, prefixes-at, rates_after, after-append, Passed-append}
+use Rattle.eta_file.proofs.PrefixLaws.{after-take_next, eta_at, Passed-take, nonsingular_after, out_from, entry_count-take, length-prefixes, prefixes-at}
+use Rattle.eta_file.proofs.PrefixLaws.{rates_after, after-append, Passed-append}
 use Rattle.eta_file.proofs.Directions.{leaver_is_not_entering, entry_rate, transformed_direction, leaving_direction, column_direction}
 use Rattle.eta_file.proofs.RefusedLaws.{transform_refused, leave_refused}
 

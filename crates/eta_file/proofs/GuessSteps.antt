@@ -1,5 +1,6 @@
 -- Numbers that are found modulo two primes: what one entry more adds to the sum of its row, and when the numbers are a direction.
-use Rattle.std.proofs.Common.{◌≡◌, ◌≢◌, ℕ, zero, suc, ◌+◌, ◌-◌, ◌<◌, ◌≤◌, ◌⊎◌, inl, inr, List, [], ◌∷◌, length, take, get_or, set, map, refl, sym, ◌∙◌, ap, true, false, cond, arith}
+use Rattle.std.proofs.Common.{◌≡◌, ◌≢◌, ℕ, zero, suc, ◌+◌, ◌-◌, ◌<◌, ◌≤◌, ◌⊎◌, inl, inr, List, [], ◌∷◌, length, take, get_or, set, map, refl, sym, ◌∙◌, ap}
+use Rattle.std.proofs.Common.{true, false, cond, arith}
 use Rattle.std.specs.Prelude.{nat_eq, eqb}
 use Rattle.std.specs.List.{IsDistinct, AllByRecursion}
 use Rattle.std.proofs.lemmas.Bool.Decides.{eqb_tells}

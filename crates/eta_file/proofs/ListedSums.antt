@@ -1,5 +1,6 @@
 -- The sums of the rows over the basics and one nonbasic, where all other numbers are 0.
-use Rattle.std.proofs.Common.{◌≡◌, ◌≢◌, ℕ, zero, suc, ◌+◌, ◌-◌, ◌<◌, ◌≤◌, List, [], ◌∷◌, length, take, get_or, refl, sym, ◌∙◌, ap, ap₂, Bool, true, false, cond, arith}
+use Rattle.std.proofs.Common.{◌≡◌, ◌≢◌, ℕ, zero, suc, ◌+◌, ◌-◌, ◌<◌, ◌≤◌, List, [], ◌∷◌, length, take, get_or, refl, sym, ◌∙◌, ap, ap₂, Bool, true, false, cond}
+use Rattle.std.proofs.Common.{arith}
 use Rattle.std.specs.Prelude.{nat_eq, nat_le}
 use native.Mathlib.Decide.{ℕ_discrete}
 use Rattle.exact_values.specs.Rational.{ℚ, zero_ℚ, ◌+ℚ◌, ◌*ℚ◌}
@@ -52,7 +53,8 @@ next_part f ks n k d s t u below is is_t is_u =
     more : (ks : List ℕ) (n : ℕ) → n < length ks → sum_over (take (n + 1) ks) f ≡ sum_over (take n ks) f +ℚ f (get_or ks n d)
     more [] n below = absurd (omega arith)
     more (k ∷ ks) zero below = add-zero (f k) ∙ sym (zero-add (f k))
-    more (k ∷ ks) (suc n) below = ap (λ m. sum_over (take m (k ∷ ks)) f) (place n) ∙ ap (λ x. f k +ℚ x) (more ks n (omega arith)) ∙ sym (add_assoc (f k) (sum_over (take n ks) f) (f (get_or ks n d)))
+    more (k ∷ ks) (suc n) below = ap (λ m. sum_over (take m (k ∷ ks)) f) (place n) ∙ ap (λ x. f k +ℚ x) (more ks n (omega arith))
+        ∙ sym (add_assoc (f k) (sum_over (take n ks) f) (f (get_or ks n d)))
 
 -- ---- all of them
 

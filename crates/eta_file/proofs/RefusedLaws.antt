@@ -14,7 +14,8 @@ use Rattle.lp_laws.proofs.Refusals.{refuses_at}
 use Rattle.eta_file.specs.declared.eta.EtaEntry.{EtaEntry}
 use Rattle.eta_file.specs.declared.eta.StoredEta.{StoredEta}
 use Rattle.eta_file.specs.Entries.{sum_rate}
-use Rattle.eta_file.specs.Refusals.{IsRefusal, IsRestRefused, by_product, by_difference, TransformRefused, of_quotient, of_entry, LeaveRefused, of_one, of_multiple}
+use Rattle.eta_file.specs.Refusals.{IsRefusal, IsRestRefused, by_product, by_difference, TransformRefused, of_quotient, of_entry, LeaveRefused, of_one}
+use Rattle.eta_file.specs.Refusals.{of_multiple}
 use Rattle.eta_file.specs.Prefixes.{IsEta, Passed, after, prefixes}
 use Rattle.eta_file.proofs.RateEntries.{IsOne, rate_entry, rate_entries_apart}
 use Rattle.eta_file.proofs.PrefixLaws.{after-take_next, length-prefixes, prefixes-at, eta_at, Passed-take, eta_nonsingular, nonsingular_after, prefix_within}

@@ -1,5 +1,6 @@
 -- Finite sums and the order: sums are monotone, strictly where one term is, and a sum has a term of its own sign.
-use Rattle.std.proofs.Common.{◌≡◌, ℕ, zero, suc, ◌<◌, refl, sym, ap, ap₂, ◌∙◌, subst, arith, pos, ◌⊎◌, inl, inr, List, [], ◌∷◌, All, Bool, true, false, cond, eq-or-lt_of_le}
+use Rattle.std.proofs.Common.{◌≡◌, ℕ, zero, suc, ◌<◌, refl, sym, ap, ap₂, ◌∙◌, subst, arith, pos, ◌⊎◌, inl, inr, List, [], ◌∷◌, All, Bool, true, false, cond}
+use Rattle.std.proofs.Common.{eq-or-lt_of_le}
 use Rattle.exact_values.specs.Rational.{ℚ, ◌+ℚ◌, ◌*ℚ◌, neg_ℚ, ◌-ℚ◌, zero_ℚ, ◌≤ℚ◌, ◌<ℚ◌}
 use Rattle.exact_values.specs.Sums.{sum_to, sum_over, only}
 use Rattle.exact_values.proofs.RingLaws.{zero-add, mul-zero}

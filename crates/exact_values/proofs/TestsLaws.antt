@@ -8,7 +8,8 @@ use Rattle.std.specs.declared.cmp.Ordering.{Ordering}
 use Rattle.std.proofs.lemmas.Bool.{false_from_ne_true, not-false, not-true}
 use Rattle.exact_values.specs.Rational.{ℚ, zero_ℚ, ◌≤ℚ◌, ◌<ℚ◌, compare_ℚ, sign_of, sign_ℚ}
 use Rattle.exact_values.specs.Tests.{lt_ℚ, le_ℚ, eq_ℚ}
-use Rattle.exact_values.proofs.Compare.{lt_from_compare, compare_from_lt, same_from_compare, compare_from_same, gt_from_compare, compare_from_gt, le_from_compare}
+use Rattle.exact_values.proofs.Compare.{lt_from_compare, compare_from_lt, same_from_compare, compare_from_same, gt_from_compare, compare_from_gt}
+use Rattle.exact_values.proofs.Compare.{le_from_compare}
 use Rattle.exact_values.proofs.Order.{lt_not_le, lt_or_le}
 
 -- ---- whether x is below y

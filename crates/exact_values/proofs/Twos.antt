@@ -9,7 +9,8 @@ use Rattle.std.proofs.lemmas.Nat.{div-add-mod', pow_pos, pow-add}
 use Rattle.std.proofs.lemmas.Nat.Gcd.{dvd_refl, dvd_trans, IsGcd-from_sub, le_of_dvd}
 use Rattle.std.proofs.lemmas.Nat.Bits.{bit_at-trailing_zeros}
 use Rattle.exact_values.specs.Gcd.{gcd}
-use Rattle.exact_values.specs.GcdLaws.{IsGcd-gcd, gcd-is, gcd_comm, gcd-mod, gcd-one_right, gcd-scaled, gcd-same, gcd-zero, coprime-mul, coprime-dvd, dvd_from_coprime, dvd-gcd, gcd-dvd_left, gcd-dvd_right}
+use Rattle.exact_values.specs.GcdLaws.{IsGcd-gcd, gcd-is, gcd_comm, gcd-mod, gcd-one_right, gcd-scaled, gcd-same, gcd-zero, coprime-mul, coprime-dvd}
+use Rattle.exact_values.specs.GcdLaws.{dvd_from_coprime, dvd-gcd, gcd-dvd_left, gcd-dvd_right}
 
 -- a factor that shares nothing with x takes nothing away from what x shares
 pub gcd-drop : (x y k : ℕ) → gcd x k ≡ 1 → gcd x (y * k) ≡ gcd x y

@@ -1,12 +1,14 @@
 -- Each optimal basis has the three lists of intervals. At the present value the conditions of a change hold, as the basis is optimal; so
 -- there are ends between which they do, and these, moved by the present value, are the interval's.
-use Rattle.std.proofs.Common.{◌≡◌, ℕ, zero, suc, ◌+◌, ◌-◌, ◌<◌, ◌≤◌, List, [], ◌∷◌, Option, None, Bool, true, false, refl, sym, ap, subst, ◌∙◌, arith, cond, pos}
+use Rattle.std.proofs.Common.{◌≡◌, ℕ, zero, suc, ◌+◌, ◌-◌, ◌<◌, ◌≤◌, List, [], ◌∷◌, Option, None, Bool, true, false, refl, sym, ap, subst, ◌∙◌, arith, cond}
+use Rattle.std.proofs.Common.{pos}
 use Rattle.std.specs.Prelude.{◌↔◌, IfSome, IsTrue, ◌&&◌, not, nat_eq, All, filter, ◌++◌}
 use Rattle.std.proofs.lemmas.List.Elements.{All-nil, All-cons, All-head, All-tail}
 use Rattle.exact_values.specs.Rational.{ℚ, zero_ℚ, one_ℚ, ◌+ℚ◌, ◌*ℚ◌, ◌≤ℚ◌}
 use Rattle.exact_values.proofs.Ring.{by_ring2, number, ◌⊕◌, ◌⊗◌, ◌≐◌}
 use Rattle.affine_laws.specs.Conditions.{Condition, AllHold}
-use Rattle.lp_definitions.specs.LinearProgram.{LinearProgram, Vector, size, IsRow, IsColumn, IsVariable, numbers_from, variables, lower_of, upper_of, cost, for_min, with_change_row}
+use Rattle.lp_definitions.specs.LinearProgram.{LinearProgram, Vector, size, IsRow, IsColumn, IsVariable, numbers_from, variables, lower_of, upper_of, cost}
+use Rattle.lp_definitions.specs.LinearProgram.{for_min, with_change_row}
 use Rattle.lp_definitions.specs.Basis.{is_basic, is_in, basics_of, status_of, IsOptimalBasis, Tableau}
 use Rattle.lp_definitions.specs.declared.Change.{Change}
 use Rattle.lp_definitions.specs.declared.Status.{Status}
@@ -14,7 +16,8 @@ use Rattle.lp_definitions.specs.declared.Status.TheVariants.{Bs, Ll, Ul, Fr}
 use Rattle.lp_laws.proofs.Values.{clash}
 use Rattle.simplex_definitions.specs.Moves.{is_fixed, may_rise, may_fall}
 use Rattle.simplex_definitions.specs.Path.{worth_rate}
-use Rattle.simplex_definitions.specs.Ranges.{Interval, IsBetween, with_limit, with_cost, with_row, stands_at_limit, at_limits, columns_of, intermediate_rows, AreIntervals}
+use Rattle.simplex_definitions.specs.Ranges.{Interval, IsBetween, with_limit, with_cost, with_row, stands_at_limit, at_limits, columns_of, intermediate_rows}
+use Rattle.simplex_definitions.specs.Ranges.{AreIntervals}
 use Rattle.sensitivity_laws.specs.Changes.{Sides, SidesHold, rate_sides, RatesStay, limit_sides, sides_at, own_sides, LimitStays, worths, slopes}
 use Rattle.sensitivity_laws.specs.Laws.{IsPresent}
 use Rattle.sensitivity_laws.proofs.Tableaus.{by_tableau}

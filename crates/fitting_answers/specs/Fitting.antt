@@ -10,7 +10,9 @@
 use Rattle.std.specs.Prelude.{ℕ, ◌≤◌, List, [], ◌∷◌}
 use Rattle.frac128.specs.Operations.{TermsFit}
 use Rattle.lp_definitions.specs.declared.Evidence.{Evidence}
-use Rattle.listing_definitions.specs.Report.{Value, Number, Line, PathVerdict, OptimalAt, CrossedAt, InfeasibleBy, UnboundedBy, Check, SolutionLines, Checked, Unchecked, ParametricInterval, ChainEnd, EndsAt, UnboundedPast, InfeasiblePast, Report, Solved, Solution, Parametric}
+use Rattle.listing_definitions.specs.Report.{Value, Number, Line, PathVerdict, OptimalAt, CrossedAt, InfeasibleBy, UnboundedBy, Check, SolutionLines, Checked}
+use Rattle.listing_definitions.specs.Report.{Unchecked, ParametricInterval, ChainEnd, EndsAt, UnboundedPast, InfeasiblePast, Report, Solved, Solution}
+use Rattle.listing_definitions.specs.Report.{Parametric}
 use Rattle.question_definitions.specs.Answers.{PathEnd, Reached, ParametricRunEnd, Opening, Chained, Question, OfPath, OfSolution, OfParametricRun, AnswerTo}
 use Rattle.run_definitions.specs.Moves.{Gain, Nothing, Prints, Punches}
 

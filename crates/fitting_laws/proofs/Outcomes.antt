@@ -20,13 +20,18 @@ use Rattle.listing_definitions.specs.declared.Solver.{Solver}
 use Rattle.listing_definitions.specs.declared.Solver.TheVariants.{Primal as ByPrimal, Dual as ByDual}
 use Rattle.listing_definitions.specs.declared.VerbFault.{VerbFault}
 use Rattle.listing_definitions.specs.Report.{Report, Converted, Revised, Solved}
-use Rattle.control_definitions.specs.Program.{SetupOptions, Verb, Initialz, Title, MoveName, MoveNumber, MoveLimit, Mvadr, Goto, Convert, Setup, Primal, Dual, Revise, Ranging, Paraobj, Pararhs, Solution, Bcdout, Punch, Insert, Exit}
+use Rattle.control_definitions.specs.Program.{SetupOptions, Verb, Initialz, Title, MoveName, MoveNumber, MoveLimit, Mvadr, Goto, Convert, Setup, Primal, Dual}
+use Rattle.control_definitions.specs.Program.{Revise, Ranging, Paraobj, Pararhs, Solution, Bcdout, Punch, Insert, Exit}
 use Rattle.control_definitions.specs.Cells.{steps_allowed}
-use Rattle.question_definitions.specs.Answers.{Basis, Sheet, Changing, parametric_solver, ParametricRun, PathEnd, Reached, PathLimit, PricesWrong, ParametricRunEnd, Opening, Chained, ParametricRunLimit, InstallEnd, Installed, DependsBy, Question, OfPath, OfSolution, OfRanges, OfParametricRun, OfPunch, OfInstall, AnswerTo}
+use Rattle.question_definitions.specs.Answers.{Basis, Sheet, Changing, parametric_solver, ParametricRun, PathEnd, Reached, PathLimit, PricesWrong}
+use Rattle.question_definitions.specs.Answers.{ParametricRunEnd, Opening, Chained, ParametricRunLimit, InstallEnd, Installed, DependsBy, Question, OfPath}
+use Rattle.question_definitions.specs.Answers.{OfSolution, OfRanges, OfParametricRun, OfPunch, OfInstall, AnswerTo}
 use Rattle.question_definitions.specs.Solving.{IsRight}
 use Rattle.run_definitions.specs.State.{Present, gone_through, State, problem_of, choice_of}
 use Rattle.run_definitions.specs.Moves.{StatementOutcome, gain_of, Refusals, StatementMove, Does, MayStop, Asks, Gives, or_fault}
-use Rattle.run_definitions.specs.Verbs.{or_deck_fault, or_selection_fault, files, converts, revises, selects, sets_up, selects_present, mark_of, demanded, by_verdict, not_less, change_row, change_set, after_path, solves, shows, if_optimal, ranges, after_parametric_run, parametric_runs, punches, punches_basis, after_install, inserts, verb_move}
+use Rattle.run_definitions.specs.Verbs.{or_deck_fault, or_selection_fault, files, converts, revises, selects, sets_up, selects_present, mark_of, demanded}
+use Rattle.run_definitions.specs.Verbs.{by_verdict, not_less, change_row, change_set, after_path, solves, shows, if_optimal, ranges, after_parametric_run}
+use Rattle.run_definitions.specs.Verbs.{parametric_runs, punches, punches_basis, after_install, inserts, verb_move}
 use Rattle.fitting_answers.specs.Fitting.{ReportFits, GainFits, AnswerFits}
 use Rattle.fitting_answers.specs.Real.{linear_programming_of_128_bits}
 

@@ -10,7 +10,9 @@ use Rattle.question_definitions.specs.Solving.{Solving, IsRight}
 use Rattle.run_definitions.specs.State.{State}
 use Rattle.run_definitions.specs.Moves.{StatementOutcome, Refusals, InSelection, InAnswer, StatementMove, Does, MayStop, Asks, Shows, Gives}
 use Rattle.run_definitions.specs.Run.{Step, IsOver, at_end, at_limit, Reaches, begun, stepped, IsRun, is_over, is_ended}
-use Rattle.run_definitions.specs.Answer.{Job, Answer, Failures, job_decks, IsJobRun, card_fault, control_fault, run, IsSoFar, IsPunching, MayEnd, words_refused, read_fails, by_itself, memory_at_start, memory_in_run, memory_at_punch, punch_fails, IsCutShort, in_report, in_end, IsAnswer, whole, print_fails, print_wants_memory, IsAnswered}
+use Rattle.run_definitions.specs.Answer.{Job, Answer, Failures, job_decks, IsJobRun, card_fault, control_fault, run, IsSoFar, IsPunching, MayEnd, words_refused}
+use Rattle.run_definitions.specs.Answer.{read_fails, by_itself, memory_at_start, memory_in_run, memory_at_punch, punch_fails, IsCutShort, in_report, in_end}
+use Rattle.run_definitions.specs.Answer.{IsAnswer, whole, print_fails, print_wants_memory, IsAnswered}
 
 module _ (S T : Solving)
     (right : (question : Question) (sheet : Sheet) (s : Basis) (answer : AnswerTo question) → IsRight S question sheet s answer →
@@ -30,7 +32,13 @@ module _ (S T : Solving)
   module _ (program : Program) where
     pub step : (s : State) (outcome : StatementOutcome) → Step S program s outcome → Step T program s outcome
     step s outcome does =
-        record { statement = does.statement; is_at_position = does.is_at_position; is_within_limit = does.is_within_limit; gives = gives does.statement.card _ outcome does.gives }
+        record {
+          statement = does.statement;
+          is_at_position = does.is_at_position;
+          is_within_limit = does.is_within_limit;
+          gives = gives does.statement.card _
+              outcome does.gives;
+        }
 
     pub over : (s : State) (ending : Ending) → IsOver S program s ending → IsOver T program s ending
     over s _ (at_end past) = at_end past

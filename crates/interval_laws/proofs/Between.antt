@@ -6,7 +6,8 @@ use Rattle.exact_values.specs.Rational.{ℚ, zero_ℚ, ◌+ℚ◌, ◌-ℚ◌, �
 use Rattle.exact_values.specs.Sums.{sum_to, sum_up_to}
 use Rattle.exact_values.proofs.Ring.{by_ring2, by_ring4, by_ring5, ◌⊕◌, ◌⊖◌, ◌⊗◌, ◌≐◌}
 use Rattle.exact_values.proofs.Sums.{sum_to-same, sum_to-add, sum_to-mul_left}
-use Rattle.lp_definitions.specs.LinearProgram.{Matrix, LinearProgram, Vector, IsVariable, IsColumn, IsLinearProgram, KeepsEquations, entry, cost, lower_of, upper_of, for_min}
+use Rattle.lp_definitions.specs.LinearProgram.{Matrix, LinearProgram, Vector, IsVariable, IsColumn, IsLinearProgram, KeepsEquations, entry, cost, lower_of}
+use Rattle.lp_definitions.specs.LinearProgram.{upper_of, for_min}
 use Rattle.lp_definitions.specs.Solutions.{IsFeasible, IsDualCertificate}
 use Rattle.lp_definitions.specs.declared.Change.{Change}
 use Rattle.lp_laws.specs.Vectors.{along}

@@ -8,7 +8,8 @@
 use Rattle.std.specs.Prelude.{◌≡◌, ℕ, ◌+◌, List, Some, None, IsSome, unwrap_or}
 use Rattle.exact_values.specs.Rational.{ℚ, zero_ℚ, ◌+ℚ◌, ◌*ℚ◌, ◌≤ℚ◌, ◌<ℚ◌}
 use Rattle.exact_values.specs.Sums.{sum_up_to}
-use Rattle.lp_definitions.specs.LinearProgram.{LinearProgram, Vector, value_at, size, IsRow, IsColumn, IsVariable, KeepsEquations, lower_of, upper_of, entry, for_min, HasNoLimits, IsLinearProgram}
+use Rattle.lp_definitions.specs.LinearProgram.{LinearProgram, Vector, value_at, size, IsRow, IsColumn, IsVariable, KeepsEquations, lower_of, upper_of, entry}
+use Rattle.lp_definitions.specs.LinearProgram.{for_min, HasNoLimits, IsLinearProgram}
 use Rattle.lp_definitions.specs.Solutions.{IsFeasible, limit_against}
 use Rattle.simplex_definitions.specs.Chain.{Part, along}
 use Rattle.simplex_definitions.specs.ObjectiveRun.{objective_family}

@@ -1,5 +1,6 @@
 // Sources and sinks in memory, for tests and for whoever has the whole job at hand.
-ghost use Rattle.std.specs.Prelude.{◌≡◌, ◌↔◌, ◌<◌, ◌≤◌, ◌-◌, ◌^◌, [], ◌++◌, List, Option, Some, length, take, min, if◌then◌else◌, is_err, Contains, IfOk, IsOk, OnOk, OnErr, IsErr, IsErrOf};
+ghost use Rattle.std.specs.Prelude.{◌≡◌, ◌↔◌, ◌<◌, ◌≤◌, ◌-◌, ◌^◌, [], ◌++◌, List, Option, Some, length, take, min, if◌then◌else◌, is_err, Contains, IfOk, IsOk};
+ghost use Rattle.std.specs.Prelude.{OnOk, OnErr, IsErr, IsErrOf};
 ghost use Rattle.std.specs.Option.{ForSome};
 ghost use Rattle.std.specs.Io.{ReadsAtMost, WritesAtMost};
 ghost use Rattle.std.specs.Io.KnownBytes.{ReadConsumes, WriteAppends};

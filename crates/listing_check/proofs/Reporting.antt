@@ -18,7 +18,8 @@ use Rattle.listing_check.specs.declared.status.CheckStatus.{CheckStatus}
 use Rattle.listing_check.specs.declared.status.CheckStatus.TheVariants as status
 use Rattle.listing_check.specs.Statuses.{code_of, cut_status, status_of}
 use Rattle.listing_check.specs.Devices.{EndsWith, printed, cut_off}
-use Rattle.listing_check.specs.Answer.{CheckFailures, MayPrint, job_fails, listing_fails, answers, IsPrintCut, IsCheckAnswer, whole, memory, print_fails, print_wants_memory}
+use Rattle.listing_check.specs.Answer.{CheckFailures, MayPrint, job_fails, listing_fails, answers, IsPrintCut, IsCheckAnswer, whole, memory, print_fails}
+use Rattle.listing_check.specs.Answer.{print_wants_memory}
 use Rattle.listing_check.specs.Reads.{Reads, IsDue, job_fault, listing_fault, found, Tells, no_memory, says}
 use Rattle.listing_check.specs.Causes.{Circumstances, IsWhy, HasCheckCause}
 

@@ -7,7 +7,8 @@ use Rattle.job_devices.specs.declared.device.WriteStop.{WriteStop}
 use Rattle.job_devices.specs.declared.device.WriteStop.TheVariants.{Failed, NoMemory}
 use Rattle.walk_definitions.specs.Walker as walks
 use Rattle.listing_check.specs.declared.status.CheckStatus.{CheckStatus}
-use Rattle.listing_check.specs.declared.status.CheckStatus.TheVariants.{Attested, Words, ReadFault, PrintFault, ListingFault, Memory, Wrong, Open, Unchecked, Long}
+use Rattle.listing_check.specs.declared.status.CheckStatus.TheVariants.{Attested, Words, ReadFault, PrintFault, ListingFault, Memory, Wrong, Open, Unchecked}
+use Rattle.listing_check.specs.declared.status.CheckStatus.TheVariants.{Long}
 
 abbrev pub code_of : CheckStatus → ℕ
 code_of Attested = 0

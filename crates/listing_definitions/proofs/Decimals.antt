@@ -1,5 +1,6 @@
 -- Numbers of at most 64 digits are written as std writes them.
-use Rattle.std.proofs.Common.{◌≡◌, ℕ, zero, suc, ◌+◌, ◌/◌, ◌%◌, ◌^◌, ◌<◌, false, cond, if◌then◌else◌, [], ◌∷◌, ◌++◌, map, ℤ, pos, negsuc, refl, ap, ap₂, sym, ◌∙◌, arith, ◌==◌}
+use Rattle.std.proofs.Common.{◌≡◌, ℕ, zero, suc, ◌+◌, ◌/◌, ◌%◌, ◌^◌, ◌<◌, false, cond, if◌then◌else◌, [], ◌∷◌, ◌++◌, map, ℤ, pos, negsuc, refl, ap, ap₂, sym}
+use Rattle.std.proofs.Common.{◌∙◌, arith, ◌==◌}
 use Rattle.std.specs.Prelude.{unsigned_abs}
 use Rattle.std.specs.Fmt.{decimal, signed_decimal}
 use Rattle.std.specs.Int.Digits.{digits_with_fuel, digits_of}

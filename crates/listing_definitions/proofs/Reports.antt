@@ -9,7 +9,9 @@ use Rattle.listing_definitions.specs.declared.Mark.TheVariants.{Optimal, Infeasi
 use Rattle.listing_definitions.specs.declared.Solver.TheVariants.{Primal, Paraobj, Pararhs}
 use Rattle.listing_definitions.specs.declared.At.TheVariants.{Basic, Outside, Equal, Lower, Upper, Free}
 use Rattle.listing_definitions.specs.Numbers.{digits}
-use Rattle.listing_definitions.specs.Report.{Value, Code, Number, Absent, Dash, Line, OptimalAt, CrossedAt, InfeasibleBy, UnboundedBy, Checked, Unchecked, EndsAt, UnboundedPast, InfeasiblePast, Titled, Converted, Revised, SetUp, BcdOut, Solved, Solution, Ranges, Parametric}
+use Rattle.listing_definitions.specs.Report.{Value, Code, Number, Absent, Dash, Line, OptimalAt, CrossedAt, InfeasibleBy, UnboundedBy, Checked, Unchecked}
+use Rattle.listing_definitions.specs.Report.{EndsAt, UnboundedPast, InfeasiblePast, Titled, Converted, Revised, SetUp, BcdOut, Solved, Solution, Ranges}
+use Rattle.listing_definitions.specs.Report.{Parametric}
 use Rattle.listing_definitions.specs.Ending.{Ended}
 use Rattle.listing_definitions.specs.Text.{report_text, line_text}
 use Rattle.listing_definitions.specs.Listing.{listing, reports_text}
@@ -55,7 +57,8 @@ infeasible : listing
     Solved Primal (InfeasibleBy 1 (row 2 "LOW" (Number (fraction (negsuc 0) 1) ∷ []) ∷
     row 3 "HIGH" (Number (fraction (pos 1) 1) ∷ []) ∷ [])) Checked ∷ [])
     (Ended 1)
-    ≡ codes "CONVERT T        ROWS 3 COLUMNS 1 ENTRIES 3\nSETUP   T        MIN\nPRIMAL INFEASIBLE STEPS 1 RAY CHECKED\n    2 LOW      -1\n    3 HIGH     1\nEND 1\n"
+    ≡ codes
+    "CONVERT T        ROWS 3 COLUMNS 1 ENTRIES 3\nSETUP   T        MIN\nPRIMAL INFEASIBLE STEPS 1 RAY CHECKED\n    2 LOW      -1\n    3 HIGH     1\nEND 1\n"
 unfolding whole row fraction gcd digits
 infeasible = refl
 
@@ -229,7 +232,8 @@ long_objective = refl
 long_fraction : line_text
     (row 1 "COST"
     (Number (fraction
-    (negsuc 1234567890123456789012345678901234567890123456789012345678901234567890122) 1000000000000000000000000000000000000000000000000000000000000000000000001) ∷ []))
+    (negsuc 1234567890123456789012345678901234567890123456789012345678901234567890122)
+    1000000000000000000000000000000000000000000000000000000000000000000000001) ∷ []))
     ≡ codes "    1 COST     -1234567890123456789012345678901234567890123456789012345678901234567890123/1000000000000000000000000000000000000000000000000000000000000000000000001\n"
 unfolding row fraction gcd digits
 long_fraction = refl

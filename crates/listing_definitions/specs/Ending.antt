@@ -6,7 +6,9 @@ use Rattle.card_definitions.specs.declared.CardFault.{CardFault}
 use Rattle.control_definitions.specs.declared.ControlFault.{ControlFault}
 use Rattle.listing_definitions.specs.declared.VerbFault.{VerbFault}
 use Rattle.listing_definitions.specs.Report.{Line}
-use Rattle.listing_definitions.specs.declared.VerbFault.TheVariants.{DeckNotFound, NoProblem, NoSetup, NotSolved, NotOptimal, NoChangeRow, NoChangeSet, NoParmax, ParmaxBelow, NoObjective, ObjectiveNotFree, NoRhsSet, NoRangeSet, NoBoundSet, Singular, WrongPrices}
+use Rattle.listing_definitions.specs.declared.VerbFault.TheVariants.{DeckNotFound, NoProblem, NoSetup, NotSolved, NotOptimal, NoChangeRow, NoChangeSet}
+use Rattle.listing_definitions.specs.declared.VerbFault.TheVariants.{NoParmax, ParmaxBelow, NoObjective, ObjectiveNotFree, NoRhsSet, NoRangeSet, NoBoundSet}
+use Rattle.listing_definitions.specs.declared.VerbFault.TheVariants.{Singular, WrongPrices}
 
 -- a statement that was refused, by its card
 pub record StatementFault : Type 0 where

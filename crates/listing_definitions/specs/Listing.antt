@@ -10,7 +10,9 @@ use Rattle.card_definitions.specs.declared.CardFault.{CardFault}
 use Rattle.card_definitions.specs.declared.CardFault.TheVariants.{TooLong, NotPrintable, CardTooLong}
 use Rattle.listing_definitions.specs.Numbers.{digits, rational_text}
 use Rattle.listing_definitions.specs.Report.{Report}
-use Rattle.listing_definitions.specs.Ending.{DeckCardFault, Place, Overflow, Ending, Ended, WordsRefused, ControlStop, VerbStop, SingularStop, PriceStop, DeckStop, CardStop, LimitStop, StatementLimit, OverflowStop, ReadFault, PrintFault, PunchFault, Memory, verb_fault_number}
+use Rattle.listing_definitions.specs.Ending.{DeckCardFault, Place, Overflow, Ending, Ended, WordsRefused, ControlStop, VerbStop, SingularStop, PriceStop}
+use Rattle.listing_definitions.specs.Ending.{DeckStop, CardStop, LimitStop, StatementLimit, OverflowStop, ReadFault, PrintFault, PunchFault, Memory}
+use Rattle.listing_definitions.specs.Ending.{verb_fault_number}
 use Rattle.listing_definitions.specs.declared.VerbFault.TheVariants.{Singular, WrongPrices}
 use Rattle.listing_definitions.specs.Text.{table_text, refused_text, report_text}
 

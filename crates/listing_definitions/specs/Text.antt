@@ -15,7 +15,10 @@ use Rattle.listing_definitions.specs.declared.Solver.TheVariants.{Primal, Dual, 
 use Rattle.listing_definitions.specs.declared.At.{At}
 use Rattle.listing_definitions.specs.declared.At.TheVariants.{Basic, Outside, Equal, Lower, Upper, Free}
 use Rattle.listing_definitions.specs.Numbers.{digits, rational_text}
-use Rattle.listing_definitions.specs.Report.{Value, Code, Number, Absent, Dash, Line, Filed, PathVerdict, OptimalAt, CrossedAt, InfeasibleBy, UnboundedBy, Check, Checked, Unchecked, SolutionLines, RangeLines, ParametricInterval, ChainEnd, EndsAt, UnboundedPast, InfeasiblePast, Chain, Report, Titled, Converted, Revised, SetUp, BcdOut, BasisOut, Inserted, Solved, Solution, Ranges, Parametric}
+use Rattle.listing_definitions.specs.Report.{Value, Code, Number, Absent, Dash, Line, Filed, PathVerdict, OptimalAt, CrossedAt, InfeasibleBy, UnboundedBy}
+use Rattle.listing_definitions.specs.Report.{Check, Checked, Unchecked, SolutionLines, RangeLines, ParametricInterval, ChainEnd, EndsAt, UnboundedPast}
+use Rattle.listing_definitions.specs.Report.{InfeasiblePast, Chain, Report, Titled, Converted, Revised, SetUp, BcdOut, BasisOut, Inserted, Solved, Solution}
+use Rattle.listing_definitions.specs.Report.{Ranges, Parametric}
 
 -- ---- table lines
 
@@ -96,7 +99,8 @@ verdict_text solver verdict check =
 
 abbrev pub filed_text : List ℕ → Filed → List ℕ
 filed_text verb filed =
-    concat (verb ∷ codes " " ∷ name8 filed.name ∷ codes " ROWS " ∷ digits filed.rows ∷ codes " COLUMNS " ∷ digits filed.columns ∷ codes " ENTRIES " ∷ digits filed.entries ∷ codes "\n" ∷ [])
+    concat (verb ∷ codes " " ∷ name8 filed.name ∷ codes " ROWS " ∷ digits filed.rows ∷ codes " COLUMNS " ∷ digits filed.columns ∷ codes " ENTRIES "
+    ∷ digits filed.entries ∷ codes "\n" ∷ [])
 
 abbrev pub sense_text : Sense → List ℕ
 sense_text Min = codes "MIN"
@@ -124,7 +128,8 @@ ranges_text lines =
 -- intervals count from 1
 abbrev pub interval_text : ℕ × ParametricInterval → List ℕ
 interval_text entry =
-    concat (codes "INTERVAL " ∷ digits entry.0 ∷ codes " FROM " ∷ rational_text entry.1.from ∷ codes " TO " ∷ rational_text entry.1.to ∷ codes "\n" ∷ table_text entry.1.lines ∷ [])
+    concat (codes "INTERVAL " ∷ digits entry.0 ∷ codes " FROM " ∷ rational_text entry.1.from ∷ codes " TO " ∷ rational_text entry.1.to ∷ codes "\n"
+    ∷ table_text entry.1.lines ∷ [])
 
 abbrev pub chain_end_text : Solver → ChainEnd → List ℕ
 chain_end_text solver (EndsAt value) = concat (solver_text solver ∷ codes " ENDS AT " ∷ rational_text value ∷ codes "\n" ∷ [])

@@ -2,7 +2,8 @@
 use Rattle.std.specs.Prelude.{◌≡◌, ℕ, Bool, false, ◌||◌, List, [], ◌∷◌, ◌++◌, ◌==◌, All}
 use Rattle.card_definitions.specs.Numbers.{is_digit}
 use Rattle.problem_definitions.specs.Valid.{IsName}
-use Rattle.listing_definitions.specs.Report.{Value, Line, ParametricInterval, ChainEnd, EndsAt, UnboundedPast, InfeasiblePast, Report, Titled, Converted, Revised, SetUp, BcdOut, BasisOut, Inserted, Solved, Solution, Ranges, Parametric}
+use Rattle.listing_definitions.specs.Report.{Value, Line, ParametricInterval, ChainEnd, EndsAt, UnboundedPast, InfeasiblePast, Report, Titled, Converted}
+use Rattle.listing_definitions.specs.Report.{Revised, SetUp, BcdOut, BasisOut, Inserted, Solved, Solution, Ranges, Parametric}
 use Rattle.listing_definitions.specs.Text.{value_text, line_text, table_text, verdict_lines, report_text}
 
 -- two values with equal texts are one

@@ -1,5 +1,6 @@
 -- What stands at the places of a line, one after another.
-use Rattle.std.proofs.Common.{◌≡◌, ◌+◌, ◌<◌, ℕ, suc, List, [], ◌∷◌, ◌++◌, map, drop, length, get_or, Option, Some, Err, refl, sym, ap, ap₂, ◌∙◌, arith, append_assoc}
+use Rattle.std.proofs.Common.{◌≡◌, ◌+◌, ◌<◌, ℕ, suc, List, [], ◌∷◌, ◌++◌, map, drop, length, get_or, Option, Some, Err, refl, sym, ap, ap₂, ◌∙◌, arith}
+use Rattle.std.proofs.Common.{append_assoc}
 use Rattle.std.specs.Prelude.{slice_get}
 use Rattle.std.proofs.Math.Seq.{drop-cons}
 use Rattle.exact_values.specs.Rational.{ℚ}
@@ -61,7 +62,8 @@ module _ (of : List ℕ → Option ℚ) (slots : List declared.Slot) (old : List
               ∙ prefixed_twice values (value ∷ []) (values_in of (views rest) new);
           keeps = λ more.
               let joined : (values ++ value ∷ []) ++ more ≡ values ++ value ∷ more = append_assoc values (value ∷ []) more in
-              let read : slice_get (values ++ value ∷ more) i ≡ Some value = ap (slice_get (values ++ value ∷ more)) (sym so_far.counted) ∙ at_end values more value in
+              let read : slice_get (values ++ value ∷ more) i ≡ Some value = ap (slice_get (values ++ value ∷ more)) (sym so_far.counted)
+              ∙ at_end values more value in
               ap (numbers_in slots) joined ∙ so_far.keeps (value ∷ more)
               ∙ ap (λ ss. kept_from ss i (values ++ value ∷ more) numbers) opened
               ∙ ap (λ o. kept_from rest (i + 1) (values ++ value ∷ more) (kept slot (number_of o) numbers)) read

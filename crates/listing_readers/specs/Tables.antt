@@ -15,7 +15,8 @@ use Rattle.listing_definitions.specs.Report.{Value, Line, limit_value}
 use Rattle.question_definitions.specs.Answers as questions
 use Rattle.listing_tables.specs.declared.sheet.Sheet.{Sheet}
 use Rattle.listing_tables.specs.Sheets.{IsSheet}
-use Rattle.walk_definitions.specs.Tables.{Slot, AnyCode, AnyNumber, pair_slots, part_slots, slot_in, number_of, number_at, values_in, line_head, line_in, table_in, multiplier_in, ray_in, multipliers}
+use Rattle.walk_definitions.specs.Tables.{Slot, AnyCode, AnyNumber, pair_slots, part_slots, slot_in, number_of, number_at, values_in, line_head, line_in}
+use Rattle.walk_definitions.specs.Tables.{table_in, multiplier_in, ray_in, multipliers}
 use Rattle.walk_definitions.specs.Tables as tables
 use Rattle.walk_definitions.specs.Words.{left_after}
 use Rattle.walk_definitions.specs.Reading.{row_slots, column_slots}

@@ -3,7 +3,8 @@ ghost use Rattle.std.specs.Prelude.{◌≡◌, ◌++◌};
 ghost use Rattle.std.specs.List.{list_any};
 ghost use Rattle.listing_definitions.specs.Text.{name8};
 ghost use Rattle.walk_definitions.specs.Words.{left_after, max_count};
-ghost use Rattle.walk_definitions.specs.Forms.{Count, Fraction, Operation, left_by_piece, left_by, has_form, counted_line, is_open_stop, is_ranges, is_punched, is_inserted};
+ghost use Rattle.walk_definitions.specs.Forms.{Count, Fraction, Operation, left_by_piece, left_by, has_form, counted_line, is_open_stop, is_ranges, is_punched};
+ghost use Rattle.walk_definitions.specs.Forms.{is_inserted};
 ghost use Rattle.listing_words.specs.Read.{taken};
 ghost use Rattle.listing_readers.specs.Pieces.{piece_view, form_of, form_view};
 

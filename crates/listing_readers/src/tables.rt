@@ -4,7 +4,8 @@ ghost use Rattle.lp_definitions.specs.LinearProgram.{IsVariable, numbers_from};
 ghost use Rattle.listing_words.specs.Read.{sheet_view};
 ghost use Rattle.listing_claims.specs.Numbers.{number_in};
 ghost use Rattle.listing_readers.specs.Results.{IfRead};
-ghost use Rattle.listing_readers.specs.Tables.{slots_of, numbers_of, at_place, with_number, no_numbers, slot_view, numbers_in, solution_slots, MayRead, AreRead, IsSlotTaken, IsLineRead, IsTableRead};
+ghost use Rattle.listing_readers.specs.Tables.{slots_of, numbers_of, at_place, with_number, no_numbers, slot_view, numbers_in, solution_slots, MayRead};
+ghost use Rattle.listing_readers.specs.Tables.{AreRead, IsSlotTaken, IsLineRead, IsTableRead};
 
 use crate::lines::{code, known_limit, number, take_head};
 use crate::unread::Unread;

@@ -14,9 +14,11 @@ use Rattle.listing_tables.specs.declared.sheet.Sheet.{Sheet}
 use Rattle.listing_tables.specs.declared.table.Standing.{Standing}
 use Rattle.listing_tables.specs.declared.table.Ranging.{Ranging}
 use Rattle.listing_tables.specs.declared.table.Table.{Table}
-use Rattle.listing_tables.specs.declared.table.Table.TheVariants.{Multipliers, Pairs, Rows, Columns, LimitRows, LimitColumns, BetweenRows, BetweenColumns, Parts}
+use Rattle.listing_tables.specs.declared.table.Table.TheVariants.{Multipliers, Pairs, Rows, Columns, LimitRows, LimitColumns, BetweenRows, BetweenColumns}
+use Rattle.listing_tables.specs.declared.table.Table.TheVariants.{Parts}
 use Rattle.listing_tables.specs.Sheets.{IsSheet}
-use Rattle.listing_tables.specs.Lines.{line_of, multiplier_values, pair_values, row_values, column_values, stands_at_limit, stands_between, limit_row_values, limit_column_values, between_row_values, between_column_values, part_values}
+use Rattle.listing_tables.specs.Lines.{line_of, multiplier_values, pair_values, row_values, column_values, stands_at_limit, stands_between, limit_row_values}
+use Rattle.listing_tables.specs.Lines.{limit_column_values, between_row_values, between_column_values, part_values}
 
 -- a basis of the sheet's program with its lists; no row is added to the objective
 pub record IsStanding (sheet : Sheet) (standing : Standing) : Type 0 where

@@ -8,7 +8,8 @@ use Rattle.listing_definitions.specs.declared.Mark.{Mark}
 use Rattle.listing_definitions.specs.declared.Mark.TheVariants as marks
 use Rattle.listing_definitions.specs.declared.Solver.{Solver}
 use Rattle.listing_definitions.specs.Report.{PathVerdict, OptimalAt, CrossedAt, InfeasibleBy, UnboundedBy, Check, SolutionLines}
-use Rattle.question_definitions.specs.Answers.{Sheet, Question, OfPath, OfSolution, OfParametricRun, ParametricRun, AnswerTo, PathEnd, Reached, PathLimit, PricesWrong}
+use Rattle.question_definitions.specs.Answers.{Sheet, Question, OfPath, OfSolution, OfParametricRun, ParametricRun, AnswerTo, PathEnd, Reached, PathLimit}
+use Rattle.question_definitions.specs.Answers.{PricesWrong}
 use Rattle.run_definitions.specs.Moves.{StatementOutcome}
 use Rattle.run_definitions.specs.Verbs.{mark_of}
 use Rattle.walk_definitions.specs.Checkers.{Checker, says_checked}

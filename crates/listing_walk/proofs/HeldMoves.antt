@@ -27,10 +27,13 @@ use Rattle.listing_definitions.specs.declared.VerbFault.{VerbFault}
 use Rattle.listing_definitions.specs.declared.VerbFault.TheVariants.{DeckNotFound, NoProblem, NoSetup, NotSolved, NotOptimal}
 use Rattle.listing_definitions.specs.Report as reports
 use Rattle.listing_definitions.specs.Report.{Report}
-use Rattle.question_definitions.specs.Answers.{Basis, Sheet, Question, AnswerTo, OfPath, OfSolution, OfRanges, OfParametricRun, OfPunch, OfInstall, PathEnd, Reached, PathLimit, PricesWrong, InstallEnd, Installed, DependsBy}
+use Rattle.question_definitions.specs.Answers.{Basis, Sheet, Question, AnswerTo, OfPath, OfSolution, OfRanges, OfParametricRun, OfPunch, OfInstall, PathEnd}
+use Rattle.question_definitions.specs.Answers.{Reached, PathLimit, PricesWrong, InstallEnd, Installed, DependsBy}
 use Rattle.run_definitions.specs.State.{Present, State, problem_of, choice_of}
-use Rattle.run_definitions.specs.Moves.{Nothing, Prints, Punches, printed_by, gain_text, next, StatementOutcome, Goes, Ends, InSelection, InAnswer, StatementMove, Does, MayStop, Asks, or_fault}
-use Rattle.run_definitions.specs.Verbs.{or_deck_fault, or_selection_fault, selects, shows_present, demanded, by_verdict, mark_of, after_path, after_install, if_optimal, solves, asks, verb_move}
+use Rattle.run_definitions.specs.Moves.{Nothing, Prints, Punches, printed_by, gain_text, next, StatementOutcome, Goes, Ends, InSelection, InAnswer}
+use Rattle.run_definitions.specs.Moves.{StatementMove, Does, MayStop, Asks, or_fault}
+use Rattle.run_definitions.specs.Verbs.{or_deck_fault, or_selection_fault, selects, shows_present, demanded, by_verdict, mark_of, after_path, after_install}
+use Rattle.run_definitions.specs.Verbs.{if_optimal, solves, asks, verb_move}
 use Rattle.walk_definitions.specs.Checkers.{Checker}
 use Rattle.walk_definitions.specs.Reading.{Judged, Right, Fails, Refuses, judged}
 use Rattle.walk_definitions.specs.Words.{left_after}

@@ -40,7 +40,8 @@ use Rattle.listing_walk.specs.Standing.{holding}
 use Rattle.listing_walk.specs.Walking.{Finishes, Passes, Walks, Refuses}
 use Rattle.listing_walk.specs.Asking.{Answered, IsStopStep}
 use Rattle.listing_walk.specs.ParametricVerbs.{beginning, IsNotLast, finding_of, left_by, IsUnasked}
-use Rattle.listing_walk.proofs.ParametricWalks.{parametric_no_setup, parametric_refused, parametric_unasked, parametric_stopped, parametric_ended, parametric_long}
+use Rattle.listing_walk.proofs.ParametricWalks.{parametric_no_setup, parametric_refused, parametric_unasked, parametric_stopped, parametric_ended}
+use Rattle.listing_walk.proofs.ParametricWalks.{parametric_long}
 
 -- ---- the machine with a value in XPARAM
 

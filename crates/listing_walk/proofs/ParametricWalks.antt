@@ -17,7 +17,8 @@ use Rattle.listing_definitions.specs.declared.Mark.{Mark}
 use Rattle.listing_definitions.specs.declared.VerbFault.{VerbFault}
 use Rattle.listing_definitions.specs.declared.VerbFault.TheVariants.{NoSetup, NoParmax, ParmaxBelow}
 use Rattle.listing_definitions.specs.Report.{Solved, Parametric}
-use Rattle.question_definitions.specs.Answers.{Basis, Sheet, Changing, changing_name, parametric_solver, ParametricRun, OfParametricRun, ParametricRunEnd, Opening, Chained, ParametricRunLimit}
+use Rattle.question_definitions.specs.Answers.{Basis, Sheet, Changing, changing_name, parametric_solver, ParametricRun, OfParametricRun, ParametricRunEnd}
+use Rattle.question_definitions.specs.Answers.{Opening, Chained, ParametricRunLimit}
 use Rattle.answer_definitions.specs.ParametricRuns.{shifts_of}
 use Rattle.run_definitions.specs.State.{Present, State, choice_of, gone_through}
 use Rattle.run_definitions.specs.Moves.{Prints, StatementOutcome, StatementMove, or_fault}
@@ -39,7 +40,8 @@ use Rattle.parametric_request.specs.declared.request.ParametricVerb.{ParametricV
 use Rattle.parametric_request.specs.declared.request.ParametricVerb.TheVariants.{Paraobj, Pararhs}
 use Rattle.parametric_request.specs.declared.request.RequestStop.{RequestStop}
 use Rattle.parametric_request.specs.declared.request.RequestStop.TheVariants as request_stops
-use Rattle.parametric_request.specs.Asking.{verb_of, name_moved, change_of, change_fault, IsAsked, IsAskFault, no_last, below, no_change, no_value, IsNotAsked, IsChangeOf, ServesChange}
+use Rattle.parametric_request.specs.Asking.{verb_of, name_moved, change_of, change_fault, IsAsked, IsAskFault, no_last, below, no_change, no_value, IsNotAsked}
+use Rattle.parametric_request.specs.Asking.{IsChangeOf, ServesChange}
 use Rattle.listing_claims.specs.declared.claims.AskedRun.{AskedRun}
 use Rattle.listing_claims.specs.Asked.{parametric_run_of}
 use Rattle.listing_answers.specs.declared.answer.ParametricRunAnswer.{ParametricRunAnswer}
@@ -98,7 +100,8 @@ module _ (verb : ParametricVerb) (card : ℕ) (state : State) (present : Present
   asked_move : (lp : LinearProgram) (parametric_run : ParametricRun) → IsAsked verb present.problem state.cells parametric_run →
       tested_move lp ≡ run_move lp parametric_run
   asked_move lp parametric_run a =
-      let same : record { changing = parametric_run.changing; from = state.cells.xparam; to = parametric_run.to; limit = steps_allowed state.cells } ≡ parametric_run =
+      let same : record { changing = parametric_run.changing; from = state.cells.xparam; to = parametric_run.to; limit = steps_allowed state.cells }
+      ≡ parametric_run =
       λ i. record { changing = parametric_run.changing; from = sym a.is_first i; to = parametric_run.to; limit = sym a.is_limit i } in
       found_move card (change_fault verb) (option_and_then (change_of verb present.problem) (name_moved verb state.cells))
       (with_change lp) parametric_run.changing a.changes ∙

@@ -1,6 +1,7 @@
 -- Which limits are there goes by the row types and by the options of a choice, not by its right-hand side. So a basis deck says the same of
 -- each linear program that is selected of a problem with the same options.
-use Rattle.std.proofs.Common.{◌≡◌, ℕ, ◌-◌, suc, zero, Bool, true, false, not, ◌&&◌, List, [], ◌∷◌, ◌++◌, Option, Some, None, is_none, Result, Ok, map, fold, slice_index_or, refl, sym, ap, ap₂, subst, ◌∙◌, if◌then◌else◌, nat_le, true≢false}
+use Rattle.std.proofs.Common.{◌≡◌, ℕ, ◌-◌, suc, zero, Bool, true, false, not, ◌&&◌, List, [], ◌∷◌, ◌++◌, Option, Some, None, is_none, Result, Ok, map, fold}
+use Rattle.std.proofs.Common.{slice_index_or, refl, sym, ap, ap₂, subst, ◌∙◌, if◌then◌else◌, nat_le, true≢false}
 use Rattle.std.specs.List.{list_any, enumerate_from}
 use Rattle.exact_values.specs.Rational.{ℚ, zero_ℚ}
 use Rattle.exact_values.specs.Tests.{lt_ℚ, magnitude}
@@ -29,7 +30,8 @@ use Rattle.selection_definitions.specs.Limits.{Limits, with_range, row_limits, c
 use Rattle.selection_definitions.specs.Selection.{rhs_of, range_of, program_of_choice, selected}
 use Rattle.basis_deck_definitions.specs.declared.Code.{Code}
 use Rattle.basis_deck_definitions.specs.Placings.{code_words, Placing, placings_by}
-use Rattle.basis_deck_definitions.specs.Reading.{has_limit_of, is_named_in, filled_after, row_fault, placings_of, stands_for, code_fault, by_code, basis_data_fault, basis_card_fault, basis_reading}
+use Rattle.basis_deck_definitions.specs.Reading.{has_limit_of, is_named_in, filled_after, row_fault, placings_of, stands_for, code_fault, by_code}
+use Rattle.basis_deck_definitions.specs.Reading.{basis_data_fault, basis_card_fault, basis_reading}
 use Rattle.listing_walk.proofs.Selected.{is_program}
 
 -- ---- a row's limits, with one right-hand side or another

@@ -1,5 +1,6 @@
 -- What a move comes to in the walk that asks nothing of linear programming.
-use Rattle.std.proofs.Common.{◌≡◌, ℕ, ◌==◌, Bool, true, false, not, List, [], ◌∷◌, ◌++◌, Option, Some, None, Result, Ok, Err, length, refl, sym, ap, ◌∙◌, if◌then◌else◌, arith}
+use Rattle.std.proofs.Common.{◌≡◌, ℕ, ◌==◌, Bool, true, false, not, List, [], ◌∷◌, ◌++◌, Option, Some, None, Result, Ok, Err, length, refl, sym, ap, ◌∙◌}
+use Rattle.std.proofs.Common.{if◌then◌else◌, arith}
 use Rattle.std.specs.Prelude.{is_none}
 use Rattle.std.specs.Option.{option_or}
 use Rattle.listing_definitions.specs.declared.VerbFault.{VerbFault}
@@ -9,12 +10,14 @@ use Rattle.listing_definitions.specs.Report.{Report, Titled, Converted, Revised,
 use Rattle.listing_definitions.specs.Text.{report_text, solver_text}
 use Rattle.deck_definitions.specs.declared.DeckFault.{DeckFault}
 use Rattle.run_definitions.specs.State.{State}
-use Rattle.run_definitions.specs.Moves.{Gain, Nothing, Prints, Punches, printed_by, gain_text, StatementOutcome, Goes, gain_of, StatementMove, Does, MayStop, Asks, DecidesAlone, or_fault}
+use Rattle.run_definitions.specs.Moves.{Gain, Nothing, Prints, Punches, printed_by, gain_text, StatementOutcome, Goes, gain_of, StatementMove, Does, MayStop}
+use Rattle.run_definitions.specs.Moves.{Asks, DecidesAlone, or_fault}
 use Rattle.run_definitions.specs.Verbs.{or_deck_fault}
 use Rattle.walk_definitions.specs.Checkers.{Checker}
 use Rattle.walk_definitions.specs.Words.{left_after}
 use Rattle.listing_walk.specs.Walking.{open_by, has_text, one_if}
-use Rattle.walk_definitions.specs.Walker.{Walker, Found, Unchecked, WalkTurn, Finds, open_stop, open_pending, open_outcome, opened, refuses_selection, unless_found, taken, due, walk_move}
+use Rattle.walk_definitions.specs.Walker.{Walker, Found, Unchecked, WalkTurn, Finds, open_stop, open_pending, open_outcome, opened, refuses_selection}
+use Rattle.walk_definitions.specs.Walker.{unless_found, taken, due, walk_move}
 
 -- ---- a move that asks nothing
 

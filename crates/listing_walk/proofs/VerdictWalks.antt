@@ -167,7 +167,14 @@ module _ (C : Checker) (verb : SolvingVerb) (card : ℕ) (cards : List (List ℕ
         last = sound.last;
         demands = sound.demands;
         ready =
-            record { problem = problem; on_file = on_file; choice = choice_of machine.cells chosen.options; has_options = refl; is_selected = made.is_selected };
+            record {
+              problem = problem;
+              on_file = on_file;
+              choice = choice_of machine.cells chosen.options;
+              has_options = refl;
+              is_selected =
+                  made.is_selected;
+            };
         solved =
             λ other there. subst (λ (q : Problem ℕ). selected q (choice_of machine.cells chosen.options) ≡ Ok lp)
             (same_Some problem other (sym on_file ∙ there)) made.is_selected;

@@ -7,7 +7,8 @@ use Rattle.exact_values.specs.Tests.{eq_ℚ}
 use Rattle.lp_definitions.specs.LinearProgram.{LinearProgram, Matrix, Vector, IsMatrix, IsColumn, column, entry, cost, size, value_at}
 use Rattle.lp_definitions.specs.declared.Entry.{Entry}
 use Rattle.check_definitions.specs.Steps.{sum_steps, sum_of}
-use Rattle.check_definitions.specs.Checks.{row_products, equation, equations, entry_products, column_products, combined_steps, reduced_cost, within_limit, standing_price}
+use Rattle.check_definitions.specs.Checks.{row_products, equation, equations, entry_products, column_products, combined_steps, reduced_cost, within_limit}
+use Rattle.check_definitions.specs.Checks.{standing_price}
 use Rattle.long_programs.specs.declared.programs.ChangeAt.{ChangeAt}
 use Rattle.long_programs.specs.declared.programs.ChangeAt.TheVariants.{Unchanged, Row, Set}
 use Rattle.long_programs.specs.declared.spreads.Spread.{Spread}

@@ -72,7 +72,8 @@ pub compared_values : (x y d e none first last one minus : ℚ) (own_top bottom 
     own ≡ own_top *ℤ bottom → value ≡ top *ℤ other → none ≡ zero_ℚ → one ≡ one_ℚ → minus ≡ whole (negsuc 0) → first ≡ none +ℚ one *ℚ whole own →
     last ≡ first +ℚ minus *ℚ whole value →
     last ≡ (x -ℚ y) *ℚ (d *ℚ e)
-compared_values x y d e none first last one minus own_top bottom own top other value is_own is_top is_d is_e own_is value_is is_none is_one is_minus is_first is_last =
+compared_values x y d e none first last one minus own_top bottom own top other value is_own is_top is_d is_e own_is value_is is_none is_one is_minus is_first
+    is_last =
     let left : whole own ≡ x *ℚ e *ℚ d = ap whole own_is ∙ whole-mul own_top bottom ∙ (λ i. is_own i *ℚ sym is_d i) in
     let right : whole value ≡ y *ℚ d *ℚ e = ap whole value_is ∙ whole-mul top other ∙ (λ i. is_top i *ℚ sym is_e i) in
     is_last ∙ (λ i. (is_first ∙ (λ j. is_none j +ℚ is_one j *ℚ left j)) i +ℚ is_minus i *ℚ right i)

@@ -11,7 +11,8 @@
 --     IsLinearProgram p            what holds of every linear program
 --     with_change p c              the program with another change row
 --     with_limits p low high       the program with other limits
-use Rattle.std.specs.Prelude.{◌≡◌, ℕ, zero, suc, ◌+◌, ◌-◌, ◌<◌, ◌≤◌, List, [], ◌∷◌, length, map, slice_index_or, nat_eq, if◌then◌else◌, Option, Some, None, ◌^◌, All}
+use Rattle.std.specs.Prelude.{◌≡◌, ℕ, zero, suc, ◌+◌, ◌-◌, ◌<◌, ◌≤◌, List, [], ◌∷◌, length, map, slice_index_or, nat_eq, if◌then◌else◌, Option, Some, None, ◌^◌}
+use Rattle.std.specs.Prelude.{All}
 use Rattle.std.specs.List.{IsDistinct}
 use Rattle.exact_values.specs.Rational.{ℚ, zero_ℚ, ◌+ℚ◌, ◌*ℚ◌, neg_ℚ}
 use Rattle.exact_values.specs.Sums.{sum_up_to}

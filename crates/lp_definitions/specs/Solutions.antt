@@ -10,7 +10,8 @@ use Rattle.std.specs.Prelude.{◌≡◌, ℕ, ◌+◌, Option, Some, None, IsSom
 use Rattle.exact_values.specs.Rational.{ℚ, zero_ℚ, ◌+ℚ◌, ◌-ℚ◌, ◌*ℚ◌, ◌<ℚ◌, ◌≤ℚ◌}
 use Rattle.exact_values.specs.Sums.{sum_up_to}
 use Rattle.exact_values.specs.Tests.{lt_ℚ}
-use Rattle.lp_definitions.specs.LinearProgram.{LinearProgram, Vector, size, IsColumn, IsVariable, KeepsEquations, lower_of, upper_of, entry, cost, objective_value, for_min}
+use Rattle.lp_definitions.specs.LinearProgram.{LinearProgram, Vector, size, IsColumn, IsVariable, KeepsEquations, lower_of, upper_of, entry, cost}
+use Rattle.lp_definitions.specs.LinearProgram.{objective_value, for_min}
 
 -- within every limit; a limit itself is within
 abbrev pub IsWithinLimits : LinearProgram → Vector → Type 0

@@ -1,5 +1,6 @@
 -- What the certificates of the three answers prove: dual certificates, rays and directions.
-use Rattle.std.proofs.Common.{◌≡◌, ℕ, suc, ◌+◌, pos, refl, sym, ap, ◌∙◌, subst, subst₂, ◌⊎◌, inl, inr, Option, Some, None, Bool, true, false, Ordering, Less, Equal, Greater, arith, [], ◌∷◌}
+use Rattle.std.proofs.Common.{◌≡◌, ℕ, suc, ◌+◌, pos, refl, sym, ap, ◌∙◌, subst, subst₂, ◌⊎◌, inl, inr, Option, Some, None, Bool, true, false, Ordering, Less}
+use Rattle.std.proofs.Common.{Equal, Greater, arith, [], ◌∷◌}
 use Rattle.std.specs.Prelude.{IfSome, IsSome, unwrap_or, cond}
 use Rattle.exact_values.specs.Rational.{ℚ, zero_ℚ, one_ℚ, ◌+ℚ◌, ◌*ℚ◌, neg_ℚ, ◌≤ℚ◌, ◌<ℚ◌, compare_ℚ}
 use Rattle.exact_values.specs.Tests.{lt_ℚ, is_less}
@@ -7,10 +8,13 @@ use Rattle.exact_values.specs.Sums.{sum_to}
 use Rattle.exact_values.proofs.Ring.{by_ring2, by_ring3, by_normal, atom, opposite, number, ◌⊕◌, ◌⊖◌, ◌⊗◌, ◌≐◌}
 use Rattle.exact_values.proofs.RingLaws.{zero-mul}
 use Rattle.exact_values.proofs.Compare.{lt_from_compare, compare_from_lt}
-use Rattle.exact_values.proofs.Order.{le_trans, le_of_eq, le_of_lt, le_antisymm, lt_or_le, lt_irrefl, lt_not_le, lt_of_le_of_lt, lt_by_one, le_by_product, mul-le-mul_left, mul-le-mul_negative, zero_below_one}
+use Rattle.exact_values.proofs.Order.{le_trans, le_of_eq, le_of_lt, le_antisymm, lt_or_le, lt_irrefl, lt_not_le, lt_of_le_of_lt, lt_by_one, le_by_product}
+use Rattle.exact_values.proofs.Order.{mul-le-mul_left, mul-le-mul_negative, zero_below_one}
 use Rattle.exact_values.proofs.Sums.{sum_to-same, sum_to-zero, sum_to-neg, sum_to-le}
-use Rattle.lp_definitions.specs.LinearProgram.{Matrix, LinearProgram, Vector, size, entry, cost, objective_value, with_change_row, for_min, lower_of, upper_of, IsColumn, IsVariable, KeepsEquations, IsLinearProgram}
-use Rattle.lp_definitions.specs.Solutions.{IsFeasible, IsWithinLimits, IsBest, IsDualCertificate, IsCrossed, IsRay, limit_against, ProvesInfeasible, ProvesUnbounded, IsInfeasible, IsBettered, IsUnbounded, by_crossed, by_ray}
+use Rattle.lp_definitions.specs.LinearProgram.{Matrix, LinearProgram, Vector, size, entry, cost, objective_value, with_change_row, for_min, lower_of, upper_of}
+use Rattle.lp_definitions.specs.LinearProgram.{IsColumn, IsVariable, KeepsEquations, IsLinearProgram}
+use Rattle.lp_definitions.specs.Solutions.{IsFeasible, IsWithinLimits, IsBest, IsDualCertificate, IsCrossed, IsRay, limit_against, ProvesInfeasible}
+use Rattle.lp_definitions.specs.Solutions.{ProvesUnbounded, IsInfeasible, IsBettered, IsUnbounded, by_crossed, by_ray}
 use Rattle.lp_definitions.specs.declared.Change.{Change}
 use Rattle.lp_definitions.specs.declared.Sense.{Sense}
 use Rattle.lp_definitions.specs.declared.Sense.TheVariants.{Min, Max}

@@ -6,7 +6,8 @@ use Rattle.exact_values.specs.Sums.{sum_to}
 use Rattle.exact_values.proofs.Ring.{by_ring3, by_ring4, ◌⊕◌, ◌⊗◌, ◌≐◌}
 use Rattle.exact_values.proofs.RingLaws.{add_comm, mul-one, mul-zero, mul_assoc}
 use Rattle.exact_values.proofs.Sums.{sum_to-same, sum_to-add, sum_to-mul_left, sum_to-mul_right, sum_to-exchange, sum_to-append, sum_to-only}
-use Rattle.lp_definitions.specs.LinearProgram.{Matrix, LinearProgram, Vector, entry, cost, objective_value, with_change_row, IsRow, IsColumn, KeepsEquations, ChangeIsFree, IsLinearProgram}
+use Rattle.lp_definitions.specs.LinearProgram.{Matrix, LinearProgram, Vector, entry, cost, objective_value, with_change_row, IsRow, IsColumn, KeepsEquations}
+use Rattle.lp_definitions.specs.LinearProgram.{ChangeIsFree, IsLinearProgram}
 use Rattle.lp_definitions.specs.declared.Change.{Change}
 use Rattle.lp_laws.specs.Vectors.{functional, column_value, unit}
 

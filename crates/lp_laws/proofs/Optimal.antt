@@ -6,9 +6,11 @@ use Rattle.exact_values.proofs.Ring.{by_ring1, by_ring2, by_ring4, opposite, num
 use Rattle.exact_values.proofs.RingLaws.{mul_comm, zero-mul}
 use Rattle.exact_values.proofs.Order.{lt_not_le, le_of_eq, lt_irrefl}
 use Rattle.exact_values.proofs.Sums.{sum_to-same, sum_to-add, sum_to-mul_left}
-use Rattle.lp_definitions.specs.LinearProgram.{LinearProgram, Vector, size, entry, cost, objective_value, with_change_row, for_min, lower_of, upper_of, IsRow, IsColumn, IsVariable, KeepsEquations, IsLinearProgram}
+use Rattle.lp_definitions.specs.LinearProgram.{LinearProgram, Vector, size, entry, cost, objective_value, with_change_row, for_min, lower_of, upper_of, IsRow}
+use Rattle.lp_definitions.specs.LinearProgram.{IsColumn, IsVariable, KeepsEquations, IsLinearProgram}
 use Rattle.lp_definitions.specs.Solutions.{IsBest, IsDualCertificate}
-use Rattle.lp_definitions.specs.Basis.{Basics, is_in, is_basic, basics_of, status_of, IsAllowed, StandsAt, IsBasis, IsNonsingular, AreRates, IsPointOf, IsFixed, IsRightAt, IsOptimalBasis, objective_rate, price_at}
+use Rattle.lp_definitions.specs.Basis.{Basics, is_in, is_basic, basics_of, status_of, IsAllowed, StandsAt, IsBasis, IsNonsingular, AreRates, IsPointOf, IsFixed}
+use Rattle.lp_definitions.specs.Basis.{IsRightAt, IsOptimalBasis, objective_rate, price_at}
 use Rattle.lp_definitions.specs.declared.Change.{Change}
 use Rattle.lp_definitions.specs.declared.Sense.{Sense}
 use Rattle.lp_definitions.specs.declared.Sense.TheVariants.{Min, Max}

@@ -6,7 +6,8 @@ use Rattle.std.proofs.lemmas.List.{length-set}
 use Rattle.exact_values.specs.Rational.{ℚ, zero_ℚ, ◌+ℚ◌, ◌*ℚ◌}
 use Rattle.exact_values.proofs.Ring.{by_ring2, number, ◌⊕◌, ◌⊗◌, ◌≐◌}
 use Rattle.lp_definitions.specs.LinearProgram.{LinearProgram, Vector, size, lower_of, upper_of, IsVariable}
-use Rattle.lp_definitions.specs.Basis.{is_basic, basics_of, status_of, with_status, IsAllowed, StandsAt, IsBasis, IsNonbasic, IsNonsingular, IsDirectionOf, AreRates, IsPointOf}
+use Rattle.lp_definitions.specs.Basis.{is_basic, basics_of, status_of, with_status, IsAllowed, StandsAt, IsBasis, IsNonbasic, IsNonsingular, IsDirectionOf}
+use Rattle.lp_definitions.specs.Basis.{AreRates, IsPointOf}
 use Rattle.lp_definitions.specs.declared.Status.{Status}
 use Rattle.lp_definitions.specs.declared.Status.TheVariants.{Bs, Ll, Ul, Fr}
 use Rattle.lp_laws.specs.Vectors.{along}

@@ -1,5 +1,6 @@
 -- Status lists: the basics of the opening one, and how a step changes a basis.
-use Rattle.std.proofs.Common.{◌≡◌, ◌≢◌, ℕ, ◌-◌, ◌<◌, ◌≤◌, List, length, map, set, refl, sym, ◌∙◌, ap, ap₂, subst, Option, Some, None, Bool, true, false, ◌⊎◌, inl, inr, arith}
+use Rattle.std.proofs.Common.{◌≡◌, ◌≢◌, ℕ, ◌-◌, ◌<◌, ◌≤◌, List, length, map, set, refl, sym, ◌∙◌, ap, ap₂, subst, Option, Some, None, Bool, true, false, ◌⊎◌}
+use Rattle.std.proofs.Common.{inl, inr, arith}
 use Rattle.std.specs.Prelude.{nat_le, count_by, cond, eqb, IsSome}
 use Rattle.std.proofs.lemmas.Bool.Decides.{eqb_tells}
 use Rattle.std.proofs.lemmas.List.{get_or-map, get_or-set_same, get_or-set_other, length-map, length-set, map-set}
@@ -8,7 +9,8 @@ use Rattle.std.proofs.lemmas.Simd.{map-map}
 use Rattle.std.proofs.Math.Seq.{map-set_same}
 use Rattle.exact_values.specs.Rational.{ℚ}
 use Rattle.lp_definitions.specs.LinearProgram.{LinearProgram, size, variables, lower_of, upper_of, HasNoLimits, IsRow, IsVariable}
-use Rattle.lp_definitions.specs.Basis.{is_basic, basics_of, status_of, with_status, exchanged, row_basics, opening_status_of, opening_at_of, opening_statuses, IsAllowed, IsBasis, IsBasic, IsNonbasic}
+use Rattle.lp_definitions.specs.Basis.{is_basic, basics_of, status_of, with_status, exchanged, row_basics, opening_status_of, opening_at_of, opening_statuses}
+use Rattle.lp_definitions.specs.Basis.{IsAllowed, IsBasis, IsBasic, IsNonbasic}
 use Rattle.lp_definitions.specs.declared.Status.{Status}
 use Rattle.lp_definitions.specs.declared.Status.TheVariants.{Bs, Ll, Ul, Fr}
 use Rattle.lp_laws.proofs.Values.{clash}

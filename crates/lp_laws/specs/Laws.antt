@@ -2,9 +2,11 @@
 use Rattle.std.specs.Prelude.{◌≡◌, ◌≢◌, ℕ, ◌+◌, List, map, filter, not, Some, ◌↔◌}
 use Rattle.exact_values.specs.Rational.{ℚ, zero_ℚ, neg_ℚ, ◌+ℚ◌, ◌*ℚ◌, ◌<ℚ◌}
 use Rattle.exact_values.specs.Sums.{sum_up_to}
-use Rattle.lp_definitions.specs.LinearProgram.{Matrix, LinearProgram, Vector, entry, column, variables, lower_of, upper_of, for_min, objective_value, IsColumn, IsVariable, IsMatrix, IsLinearProgram, KeepsEquations}
+use Rattle.lp_definitions.specs.LinearProgram.{Matrix, LinearProgram, Vector, entry, column, variables, lower_of, upper_of, for_min, objective_value, IsColumn}
+use Rattle.lp_definitions.specs.LinearProgram.{IsVariable, IsMatrix, IsLinearProgram, KeepsEquations}
 use Rattle.lp_definitions.specs.Solutions.{IsFeasible, IsBest, IsDualCertificate, IsRay, ProvesInfeasible, ProvesUnbounded, IsInfeasible, IsUnbounded}
-use Rattle.lp_definitions.specs.Basis.{Basics, is_in, IsBasic, IsNonbasic, IsNonsingular, IsDirectionOf, AreRates, exchanged, row_basics, basics_of, status_of, with_status, opening_statuses, IsAllowed, StandsAt, IsBasis, IsPointOf, IsOptimalBasis, price_at}
+use Rattle.lp_definitions.specs.Basis.{Basics, is_in, IsBasic, IsNonbasic, IsNonsingular, IsDirectionOf, AreRates, exchanged, row_basics, basics_of, status_of}
+use Rattle.lp_definitions.specs.Basis.{with_status, opening_statuses, IsAllowed, StandsAt, IsBasis, IsPointOf, IsOptimalBasis, price_at}
 use Rattle.lp_definitions.specs.Waypoints.{KeepsWaypoints}
 use Rattle.lp_definitions.specs.RatesEvidence.{multiplier, other_basics, sum_from}
 use Rattle.lp_definitions.specs.declared.Entry.{Entry}

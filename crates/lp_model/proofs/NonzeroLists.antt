@@ -1,5 +1,6 @@
 -- Lists of the variables whose numbers aren't 0.
-use Rattle.std.proofs.Common.{◌≡◌, ◌≢◌, ◌∙◌, sym, ap, subst, ℕ, zero, suc, ◌+◌, ◌-◌, ◌<◌, ◌≤◌, Bool, true, false, not, List, [], ◌∷◌, ◌++◌, length, drop, filter, get_or, replicate, slice_index_or, slice_set, ◌⊎◌, inl, inr, ◌↔◌, refl, add-one, IsTrue, cond, arith, All}
+use Rattle.std.proofs.Common.{◌≡◌, ◌≢◌, ◌∙◌, sym, ap, subst, ℕ, zero, suc, ◌+◌, ◌-◌, ◌<◌, ◌≤◌, Bool, true, false, not, List, [], ◌∷◌, ◌++◌, length, drop}
+use Rattle.std.proofs.Common.{filter, get_or, replicate, slice_index_or, slice_set, ◌⊎◌, inl, inr, ◌↔◌, refl, add-one, IsTrue, cond, arith, All}
 use Rattle.std.proofs.lemmas.Bool.{cases_lt}
 use Rattle.std.proofs.lemmas.List.{get_or_past, get_or-set_other, get_or-set_same, drop_all, append_assoc, append-nil}
 use Rattle.std.proofs.lemmas.List.Elements.{filter-append}

@@ -1,5 +1,6 @@
 -- What a column has on each row, one row after the other, and its numbers on combinations.
-use Rattle.std.proofs.Common.{◌≡◌, ◌≢◌, ℕ, zero, suc, ◌+◌, ◌-◌, ◌<◌, ◌≤◌, Bool, true, false, ◌||◌, List, [], ◌∷◌, ◌++◌, Option, Some, None, length, take, set, get_or, refl, ap, sym, ◌∙◌, subst, arith, zero-add}
+use Rattle.std.proofs.Common.{◌≡◌, ◌≢◌, ℕ, zero, suc, ◌+◌, ◌-◌, ◌<◌, ◌≤◌, Bool, true, false, ◌||◌, List, [], ◌∷◌, ◌++◌, Option, Some, None, length, take, set}
+use Rattle.std.proofs.Common.{get_or, refl, ap, sym, ◌∙◌, subst, arith, zero-add}
 use Rattle.std.specs.List.{slice_get, slice_index_or, enumerate_from, filter_map, cons_option, list_any}
 use Rattle.std.specs.Option.{IfSome, is_some}
 use Rattle.std.proofs.lemmas.List.{take_more, take_more_set, take_all, length-set, get_or-set_other, get_or_default}
@@ -22,7 +23,8 @@ use Rattle.selection_definitions.specs.Making.{combination_steps}
 use Rattle.selection_laws.proofs.Values.{length-before}
 use Rattle.selection_laws.proofs.Fields.{numbered-at, length-numbered, parts-at}
 use Rattle.lp_setup.specs.Parts.{by_number}
-use Rattle.lp_setup.specs.Combined.{IsRowValue, IsRowValueMade, IsRowValueOverflow, IsTermRefusal, IsSumMade, AreSumsMade, IsColumnRefusal, IsColumnOverflow, AreColumnsMade, IsMatrixOverflow, AreParts}
+use Rattle.lp_setup.specs.Combined.{IsRowValue, IsRowValueMade, IsRowValueOverflow, IsTermRefusal, IsSumMade, AreSumsMade, IsColumnRefusal, IsColumnOverflow}
+use Rattle.lp_setup.specs.Combined.{AreColumnsMade, IsMatrixOverflow, AreParts}
 use Rattle.lp_setup.proofs.Lists.{length-by_number}
 
 module _ (rows : List (Row ℕ)) (es : List (Entry ℕ)) where

@@ -1,5 +1,6 @@
 -- Lists that hold something for each number, and lists that a loop makes element by element.
-use Rattle.std.proofs.Common.{◌≡◌, ◌≢◌, ℕ, zero, suc, ◌+◌, ◌<◌, ◌⊎◌, List, [], ◌∷◌, ◌++◌, Option, Some, map, take, length, get_or, set, refl, ap, sym, ◌∙◌, arith, inl, inr, zero-add, nat_eq, true, false, unwrap_or}
+use Rattle.std.proofs.Common.{◌≡◌, ◌≢◌, ℕ, zero, suc, ◌+◌, ◌<◌, ◌⊎◌, List, [], ◌∷◌, ◌++◌, Option, Some, map, take, length, get_or, set, refl, ap, sym, ◌∙◌}
+use Rattle.std.proofs.Common.{arith, inl, inr, zero-add, nat_eq, true, false, unwrap_or}
 use Rattle.std.specs.List.{enumerate_from, range_with_len, slice_get}
 use Rattle.std.proofs.lemmas.Bool.Decides.{eqb_tells}
 use Rattle.std.proofs.lemmas.List.{length-set, get_or-set_same, get_or-set_other, take_more}

@@ -40,7 +40,16 @@ module _ (problem : Problem ℕ) (objective : ℕ) (rhs ranges : List (Entry ℕ
   -- the program of these lists
   abbrev pub made : ℕ → ℕ → List (List Coefficient) → List (Option ℚ) → List (Option ℚ) → List ℚ → LinearProgram
   made rows cols columns lower upper sides =
-      record { matrix = record { rows = rows; cols = cols; columns = columns }; lower = lower; upper = upper; rhs = sides; objective = objective; change = None; sense = sense }
+      record {
+        matrix = record { rows = rows; cols = cols; columns = columns };
+        lower = lower;
+        upper = upper;
+        rhs = sides;
+        objective = objective;
+        change =
+            None;
+        sense = sense;
+      }
 
   -- it is the program of the problem, where the lists are made of what is read of it
   pub program_made : (read_rows : List (Row ℕ)) (read_columns : List (Group (Entry ℕ))) (rows cols : ℕ) (columns : List (List Coefficient))
@@ -52,7 +61,8 @@ module _ (problem : Problem ℕ) (objective : ℕ) (rhs ranges : List (Entry ℕ
       → lower ≡ map (λ (pair : Limits). pair.lower) limits → upper ≡ map (λ (pair : Limits). pair.upper) limits
       → sides ≡ by_number (side_on rhs) (length read_rows)
       → made rows cols columns lower upper sides ≡ program_with problem objective rhs ranges bounds sense
-  program_made read_rows read_columns rows cols columns limits lower upper sides read_sides read_is read_columns_is is_rows is_cols columns_read limits_read sides_read is_lower is_upper sides_so_far =
+  program_made read_rows read_columns rows cols columns limits lower upper sides read_sides read_is read_columns_is is_rows is_cols columns_read limits_read
+      sides_read is_lower is_upper sides_so_far =
       let is_columns : columns ≡ map (coefficients problem.rows) problem.columns = columns_read ∙ (λ i. map (coefficients (read_is i)) (read_columns_is i)) in
       let is_sides : sides ≡ by_number (side_on rhs) (length problem.rows) =
       sides_so_far ∙ ap (λ (rs : List (Row ℕ)). by_number (side_on rhs) (length rs)) read_is in

@@ -7,10 +7,12 @@ ghost use Rattle.lp_definitions.specs.RatesEvidence.{Names};
 ghost use Rattle.check_definitions.specs.declared.Verdict.TheVariants.{Checked};
 ghost use Rattle.check_definitions.specs.Steps.{verdict_of, sum_steps};
 ghost use Rattle.problem_definitions.specs.Valid.{IsNumberOf, AreEntries};
-ghost use Rattle.selection_definitions.specs.Combinations.{value_in, part_product, part_products, sum_if_any, column_values as values_on_rows, on_combination as number_on, on_combinations};
+ghost use Rattle.selection_definitions.specs.Combinations.{value_in, part_product, part_products, sum_if_any, column_values as values_on_rows};
+ghost use Rattle.selection_definitions.specs.Combinations.{on_combination as number_on, on_combinations};
 ghost use Rattle.selection_definitions.specs.CombinationSums.{combination_formula};
 ghost use Rattle.lp_setup.specs.Parts.{IsSumRefusal};
-ghost use Rattle.lp_setup.specs.Combined.{IsTotalWith, IsTermOverflow, IsRefusedWith, IsRefusedPart, IsRowValue, IsRowValueMade, IsRowValueOverflow, AreParts, AreSumsMade, IsColumnOverflow};
+ghost use Rattle.lp_setup.specs.Combined.{IsTotalWith, IsTermOverflow, IsRefusedWith, IsRefusedPart, IsRowValue, IsRowValueMade, IsRowValueOverflow, AreParts};
+ghost use Rattle.lp_setup.specs.Combined.{AreSumsMade, IsColumnOverflow};
 ghost use Rattle.problem_definitions.specs.declared.TheConstants.{MAX_ROWS};
 
 use crate::parts::values_by_row;

@@ -6,7 +6,8 @@ ghost use Rattle.frac128.specs.Operations.{refuses};
 ghost use Rattle.check_definitions.specs.declared.Verdict.TheVariants.{Checked};
 ghost use Rattle.check_definitions.specs.Steps.{verdict_of};
 ghost use Rattle.selection_definitions.specs.Making.{range_steps};
-ghost use Rattle.selection_definitions.specs.Limits.{with_range, without_range as limits_without, row_limits as limits_of, bounded as limits_by, unbounded as standing};
+ghost use Rattle.selection_definitions.specs.Limits.{with_range, without_range as limits_without, row_limits as limits_of, bounded as limits_by};
+ghost use Rattle.selection_definitions.specs.Limits.{unbounded as standing};
 ghost use Rattle.lp_setup.specs.Parts.{IsSumRefusal, IsRangeSumRefusal};
 
 use frac128::{Frac, Op, Refused};

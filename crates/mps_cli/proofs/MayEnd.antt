@@ -3,7 +3,9 @@ use Rattle.std.proofs.Common.{◌≡◌, ℕ, List, [], Option, None, Some, IfSo
 use Rattle.listing_definitions.specs.Report.{Report}
 use Rattle.listing_definitions.specs.Ending.{Ending}
 use Rattle.question_definitions.specs.Solving.{Solving}
-use Rattle.run_definitions.specs.Answer.{Job, Read, bytes_of, Failures, Answer, IsProgramOf, MayEnd, words_refused, read_fails, by_itself, memory_at_start, memory_in_run, memory_at_punch, punch_fails, IsCutShort, in_report, in_end, IsAnswer, IsAnswered, whole, print_fails, print_wants_memory, card_fault, control_fault}
+use Rattle.run_definitions.specs.Answer.{Job, Read, bytes_of, Failures, Answer, IsProgramOf, MayEnd, words_refused, read_fails, by_itself, memory_at_start}
+use Rattle.run_definitions.specs.Answer.{memory_in_run, memory_at_punch, punch_fails, IsCutShort, in_report, in_end, IsAnswer, IsAnswered, whole, print_fails}
+use Rattle.run_definitions.specs.Answer.{print_wants_memory, card_fault, control_fault}
 use Rattle.job_program.specs.declared.reading.Prepared.{Prepared}
 use Rattle.job_program.specs.declared.stop.EarlyStop.{EarlyStop}
 use Rattle.job_program.specs.declared.stop.EarlyStop.TheVariants.{Words, ReadFault, Card, Control, Memory}

@@ -1,5 +1,6 @@
 -- The conversion of a whole deck, by its parts: the first faulty card, its end and its name.
-use Rattle.std.proofs.Common.{◌≡◌, ℕ, ◌+◌, ◌-◌, ◌≤◌, true, false, cond, not, List, [], ◌∷◌, ◌++◌, Option, Some, None, Ok, take, drop, slice_get, refl, ap, sym, subst, ◌∙◌, unwrap_or}
+use Rattle.std.proofs.Common.{◌≡◌, ℕ, ◌+◌, ◌-◌, ◌≤◌, true, false, cond, not, List, [], ◌∷◌, ◌++◌, Option, Some, None, Ok, take, drop, slice_get, refl, ap, sym}
+use Rattle.std.proofs.Common.{subst, ◌∙◌, unwrap_or}
 use Rattle.card_definitions.specs.Words.{unless}
 use Rattle.card_definitions.specs.Cards.{Card, live, numbered_cards, cards_between, is_skipped}
 use Rattle.card_definitions.proofs.FirstFaults.{no_first}

@@ -1,5 +1,6 @@
 -- The last row of a table.
-use Rattle.std.proofs.Common.{◌≡◌, ◌-◌, suc, false, ◌&&◌, List, [], ◌∷◌, ◌++◌, Option, Some, None, map, length, is_some, unwrap_or, IfSome, refl, ap, subst, ◌∙◌, arith}
+use Rattle.std.proofs.Common.{◌≡◌, ◌-◌, suc, false, ◌&&◌, List, [], ◌∷◌, ◌++◌, Option, Some, None, map, length, is_some, unwrap_or, IfSome, refl, ap, subst}
+use Rattle.std.proofs.Common.{◌∙◌, arith}
 use Rattle.std.specs.List.{last_or, slice_get, IsDistinct, AllByRecursion}
 use Rattle.std.specs.Map.{keys_of}
 use Rattle.std.specs.Option.{option_map, option_to_list}

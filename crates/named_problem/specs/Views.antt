@@ -10,7 +10,8 @@ use Rattle.problem_definitions.specs.declared.BoundKind.{BoundKind}
 use Rattle.problem_definitions.specs.Names.{Name, same, number_in}
 use Rattle.problem_definitions.specs.Problem.{Row, Entry, Bound, Group, Problem, has_row, has_group, group_names}
 use Rattle.deck_definitions.specs.declared.DeckFaultKind.{DeckFaultKind}
-use Rattle.deck_definitions.specs.declared.DeckFaultKind.TheVariants.{DuplicateRow, ColumnSplit, BoundTwice, EmptyName, TooManyRows, TooManyColumns, TooManyEntries}
+use Rattle.deck_definitions.specs.declared.DeckFaultKind.TheVariants.{DuplicateRow, ColumnSplit, BoundTwice, EmptyName, TooManyRows, TooManyColumns}
+use Rattle.deck_definitions.specs.declared.DeckFaultKind.TheVariants.{TooManyEntries}
 use Rattle.deck_definitions.specs.declared.Section.{Section}
 use Rattle.deck_definitions.specs.declared.Section.TheVariants.{Rows, Columns}
 use Rattle.deck_definitions.specs.Sections.{is_section}

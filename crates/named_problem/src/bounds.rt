@@ -1,5 +1,6 @@
 // The bounds of a set.
-ghost use Rattle.std.specs.Prelude.{◌≡◌, ◌≤◌, ℕ, ◌++◌, ◌∷◌, [], None, ◌&&◌, ◌||◌, true, false, IfOk, IfSome, OnOk, Some, filter, map, not, length, is_some, slice_get};
+ghost use Rattle.std.specs.Prelude.{◌≡◌, ◌≤◌, ℕ, ◌++◌, ◌∷◌, [], None, ◌&&◌, ◌||◌, true, false, IfOk, IfSome, OnOk, Some, filter, map, not, length, is_some};
+ghost use Rattle.std.specs.Prelude.{slice_get};
 ghost use Rattle.std.specs.List.{list_any};
 ghost use Rattle.card_definitions.specs.Words.{is_empty as is_none_left};
 ghost use Rattle.problem_definitions.specs.Kinds.{meet, touches_upper, touches_lower};

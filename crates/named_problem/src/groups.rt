@@ -1,5 +1,6 @@
 // Columns, and sets of right-hand sides or of ranges.
-ghost use Rattle.std.specs.Prelude.{◌≡◌, ◌≤◌, ◌<◌, ◌+◌, ◌^◌, ◌++◌, ◌∷◌, [], None, ◌&&◌, nat_lt, nat_le, nat_eq, IfOk, OnOk, IfErr, true, false, map, sum_by, length, insert, unwrap_or, not};
+ghost use Rattle.std.specs.Prelude.{◌≡◌, ◌≤◌, ◌<◌, ◌+◌, ◌^◌, ◌++◌, ◌∷◌, [], None, ◌&&◌, nat_lt, nat_le, nat_eq, IfOk, OnOk, IfErr, true, false, map, sum_by};
+ghost use Rattle.std.specs.Prelude.{length, insert, unwrap_or, not};
 ghost use Rattle.std.specs.List.{IsDistinct, list_any};
 ghost use Rattle.std.specs.Map.{keys_of, lookup};
 ghost use Rattle.std.specs.Option.{option_copied};

@@ -21,7 +21,8 @@ answered_once S function owns job failures status PrintGains PunchGains answer b
     decided : ((status ≡ status_of own.ending) × PrintGains (listing own.reports own.ending) × PunchGains (card_text own.cards)) ⊎
         (IsBrokenOff S bytes own.reports own.cards status PrintGains PunchGains ⊎ IsCutOff failures status)
     decided =
-        answer_is_decided S job failures status PrintGains PunchGains answer.0 answer.1 function answer.2 answer.3 answer.4 bytes own.reports own.cards own.ending of_job own.is_own.runs own.is_own.fits
+        answer_is_decided S job failures status PrintGains PunchGains answer.0 answer.1 function answer.2 answer.3 answer.4 bytes own.reports own.cards
+        own.ending of_job own.is_own.runs own.is_own.fits
 
     by : (((status ≡ status_of own.ending) × PrintGains (listing own.reports own.ending) × PunchGains (card_text own.cards)) ⊎
         (IsBrokenOff S bytes own.reports own.cards status PrintGains PunchGains ⊎ IsCutOff failures status)) →

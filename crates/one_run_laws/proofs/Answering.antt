@@ -13,7 +13,8 @@ use Rattle.check_definitions.specs.declared.Verdict.TheVariants.{Checked, Failed
 use Rattle.check_definitions.specs.Steps.{comparison, verdict_of}
 use Rattle.check_definitions.specs.Checks.{is_crossed, crossed_check}
 use Rattle.certificate_check.proofs.TrueClaims.{never_optimal, never_infeasible, never_unbounded}
-use Rattle.simplex_definitions.specs.Path.{PathEnding, EndsOptimal, EndsCrossed, EndsInfeasible, EndsUnbounded, turn, EndsAt, last_of, RulePathEnds, GoesOnFor, listed}
+use Rattle.simplex_definitions.specs.Path.{PathEnding, EndsOptimal, EndsCrossed, EndsInfeasible, EndsUnbounded, turn, EndsAt, last_of, RulePathEnds, GoesOnFor}
+use Rattle.simplex_definitions.specs.Path.{listed}
 use Rattle.simplex_definitions.specs.DualPath.{dual_turn, HasRightPrices, IsWrongAt, DualGoesOnFor}
 use Rattle.simplex_laws.specs.Laws.{IsNonsingularBasis, HasTableau, RuleEndsWithin}
 use Rattle.simplex_laws.proofs.Ends.{optimal_end}
@@ -32,7 +33,8 @@ use Rattle.listing_definitions.specs.declared.Mark.{Mark}
 use Rattle.listing_definitions.specs.declared.Solver.TheVariants.{Primal, Dual}
 use Rattle.listing_definitions.specs.Report.{Check}
 use Rattle.listing_definitions.specs.Report as reports
-use Rattle.question_definitions.specs.Answers.{Basis, Sheet, Question, PathEnd, Reached, PathLimit, PricesWrong, OfPath, OfSolution, OfRanges, OfPunch, OfInstall, InstallEnd, Installed, DependsBy}
+use Rattle.question_definitions.specs.Answers.{Basis, Sheet, Question, PathEnd, Reached, PathLimit, PricesWrong, OfPath, OfSolution, OfRanges, OfPunch}
+use Rattle.question_definitions.specs.Answers.{OfInstall, InstallEnd, Installed, DependsBy}
 use Rattle.answer_definitions.specs.Lines.{ray_lines}
 use Rattle.answer_definitions.specs.Bases.{IsInstalled}
 use Rattle.answer_definitions.specs.Verdicts.{verdict_of as verdict_at, check_of, found, IsSolved, IsDualSolved}
@@ -119,7 +121,15 @@ module _ (sheet : Sheet) (s : Basis) (lawful : IsLinearProgram sheet.lp) (at : I
         by (inl way) =
             let check = dual_checked right way.bases way.ending way.ends in (
               Reached way.bases (verdict_at sheet (length way.bases) way.ending) check.0,
-              (right, record { ending = way.ending; ends = way.ends; within_limit = way.within; is_verdict = record { is_verdict = refl; is_check = check.1 } }),
+              (
+                right,
+                record {
+                  ending = way.ending;
+                  ends = way.ends;
+                  within_limit = way.within;
+                  is_verdict = record { is_verdict = refl; is_check = check.1 };
+                },
+              ),
             )
         by (inr on) = (PathLimit, (right, on))
 
@@ -151,8 +161,16 @@ pub ranges : HasAnswer linear_programming OfRanges
 unfolding linear_programming
 ranges sheet s asked =
     let report = ranges_exist sheet.lp s (lawful_of OfRanges sheet s asked) (unchanged OfRanges sheet s asked) asked.suits in
-    let has = tableau_of sheet.lp s asked.is_basis in
-    (range_lines sheet s has.tableau report.0, record { tableau = has.tableau; is_tableau = has.is_tableau; report = report.0; is_report = report.1; are_lines = refl })
+    let has = tableau_of sheet.lp s asked.is_basis in (
+      range_lines sheet s has.tableau report.0,
+      record {
+        tableau = has.tableau;
+        is_tableau = has.is_tableau;
+        report = report.0;
+        is_report = report.1;
+        are_lines = refl;
+      },
+    )
 
 pub punches : HasAnswer linear_programming OfPunch
 unfolding linear_programming

@@ -13,7 +13,8 @@ use Rattle.parametric_laws.proofs.OneRhs.{lawful_rhs}
 use Rattle.parametric_laws.proofs.Runs.{objective_keeps, rhs_keeps}
 use Rattle.parametric_laws.specs.Families.{KeepsBases}
 use Rattle.listing_definitions.specs.Report.{Check}
-use Rattle.question_definitions.specs.Answers.{Basis, Sheet, Changing, Row, Set, ParametricRun, ParametricRunEnd, Opening, Chained, ParametricRunLimit, OfParametricRun}
+use Rattle.question_definitions.specs.Answers.{Basis, Sheet, Changing, Row, Set, ParametricRun, ParametricRunEnd, Opening, Chained, ParametricRunLimit}
+use Rattle.question_definitions.specs.Answers.{OfParametricRun}
 use Rattle.answer_definitions.specs.ParametricRuns.{row_of, shifts_of, family_of, IsFace, sheet_at, interval_of, end_of, IsParametricRun}
 use Rattle.answer_definitions.specs.Verdicts.{verdict_of as verdict_at, check_of, found}
 use Rattle.answer_definitions.specs.Real.{linear_programming}

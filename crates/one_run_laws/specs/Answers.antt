@@ -5,7 +5,8 @@
 use Rattle.std.specs.Prelude.{ℕ, Option}
 use Rattle.listing_definitions.specs.declared.Mark.{Mark}
 use Rattle.listing_definitions.specs.declared.Solver.TheVariants.{Primal, Dual, Paraobj, Pararhs}
-use Rattle.question_definitions.specs.Answers.{Basis, Sheet, ParametricRun, Question, AnswerTo, OfPath, OfSolution, OfRanges, OfParametricRun, OfPunch, OfInstall}
+use Rattle.question_definitions.specs.Answers.{Basis, Sheet, ParametricRun, Question, AnswerTo, OfPath, OfSolution, OfRanges, OfParametricRun, OfPunch}
+use Rattle.question_definitions.specs.Answers.{OfInstall}
 use Rattle.question_definitions.specs.Solving.{Solving, IsRight}
 use Rattle.determinism_laws.specs.Laws.{IsAsked}
 

@@ -20,7 +20,8 @@ use Rattle.listing_definitions.specs.Ending.{Ending, PriceStop, LimitStop, Overf
 use Rattle.question_definitions.specs.Answers.{Basis, Sheet, Question, AnswerTo}
 use Rattle.question_definitions.specs.Solving.{Solving, IsRight}
 use Rattle.run_definitions.specs.State.{Present, State}
-use Rattle.run_definitions.specs.Moves.{Gain, Prints, printed_by, StatementOutcome, Goes, Ends, gain_of, stops, Refusals, StatementMove, Does, MayStop, Asks, Gives, or_fault}
+use Rattle.run_definitions.specs.Moves.{Gain, Prints, printed_by, StatementOutcome, Goes, Ends, gain_of, stops, Refusals, StatementMove, Does, MayStop, Asks}
+use Rattle.run_definitions.specs.Moves.{Gives, or_fault}
 use Rattle.run_definitions.specs.Verbs.{or_deck_fault, or_selection_fault, selects, demanded, by_verdict}
 use Rattle.determinism_laws.specs.Laws.{IsOverflowStop}
 use Rattle.walk_laws.specs.Proved.{attested, Says}

@@ -12,9 +12,12 @@ use Rattle.control_definitions.specs.Cells.{Cells}
 use Rattle.selection_definitions.specs.Selection.{selected}
 use Rattle.listing_definitions.specs.declared.Mark.{Mark}
 use Rattle.listing_definitions.specs.declared.Solver.{Solver}
-use Rattle.listing_definitions.specs.Report.{PathVerdict, Check, ParametricInterval, ChainEnd, EndsAt, UnboundedPast, InfeasiblePast, Chain, Report, Solved, Solution, Parametric}
+use Rattle.listing_definitions.specs.Report.{PathVerdict, Check, ParametricInterval, ChainEnd, EndsAt, UnboundedPast, InfeasiblePast, Chain, Report, Solved}
+use Rattle.listing_definitions.specs.Report.{Solution, Parametric}
 use Rattle.listing_definitions.specs.Ending.{LimitStop, PriceStop}
-use Rattle.question_definitions.specs.Answers.{Basis, Sheet, Changing, Row, Set, changing_name, parametric_solver, ParametricRun, OfPath, OfSolution, OfParametricRun, PathEnd, Reached, PathLimit, PricesWrong, ParametricRunEnd, Opening, Chained, ParametricRunLimit}
+use Rattle.question_definitions.specs.Answers.{Basis, Sheet, Changing, Row, Set, changing_name, parametric_solver, ParametricRun, OfPath, OfSolution}
+use Rattle.question_definitions.specs.Answers.{OfParametricRun, PathEnd, Reached, PathLimit, PricesWrong, ParametricRunEnd, Opening, Chained}
+use Rattle.question_definitions.specs.Answers.{ParametricRunLimit}
 use Rattle.question_definitions.specs.Solving.{Solving}
 use Rattle.answer_definitions.specs.ParametricRuns.{family_of}
 use Rattle.run_definitions.specs.State.{Present, present_basis, gone_through, State, choice_of}

@@ -8,7 +8,8 @@ use Rattle.simplex_definitions.specs.Chain.{ChainEnd as PastBreakpoint, AtMax, U
 use Rattle.listing_definitions.specs.declared.Solver.{Solver}
 use Rattle.listing_definitions.specs.declared.Solver.TheVariants.{Primal as ByPrimal, Dual as ByDual, Paraobj as ByParaobj, Pararhs as ByPararhs}
 use Rattle.listing_definitions.specs.Report.{PathVerdict, Check, ParametricInterval, ChainEnd, Chain, Report, Solved, Parametric}
-use Rattle.question_definitions.specs.Answers.{Basis, Sheet, Changing, Row, Set, parametric_solver, ParametricRun, PathLimit, PricesWrong, Chained, ParametricRunLimit}
+use Rattle.question_definitions.specs.Answers.{Basis, Sheet, Changing, Row, Set, parametric_solver, ParametricRun, PathLimit, PricesWrong, Chained}
+use Rattle.question_definitions.specs.Answers.{ParametricRunLimit}
 use Rattle.question_definitions.specs.Solving.{Solving}
 use Rattle.answer_definitions.specs.ParametricRuns.{family_of, sheet_at, end_of}
 use Rattle.answer_definitions.specs.Real.{linear_programming}

@@ -409,21 +409,24 @@ module _ (C : Checker) (S : Solving) (Speaks : State → Report → Type 0) (Ope
       as_many : m ≡ n → EndsSame
       as_many e =
           two_lasts (made_so_far S program decks first.came) first.before second.before first.state second.state
-          (same_so_far first.before second.before first.cards second.cards first.state second.state first.came second.came first.holds second.holds e) first.gain second.gain ending other none first.last
+          (same_so_far first.before second.before first.cards second.cards first.state second.state first.came second.came first.holds second.holds e)
+          first.gain second.gain ending other none first.last
           second.last
 
       not_fewer : (n ≡ m) ⊎ (n < m) → EndsSame
       not_fewer (inl e) = as_many (sym e)
       not_fewer (inr fewer) =
           absurd (goes_late second.state second.gain other
-          (behind first.before second.before first.cards second.cards first.state second.state first.came second.came first.holds second.holds fewer) none second.last)
+          (behind first.before second.before first.cards second.cards first.state second.state first.came second.came first.holds second.holds fewer) none
+          second.last)
 
       two_wholes : (m < n) ⊎ (n ≤ m) → EndsSame
       two_wholes (inl fewer) =
           inr (more_after (made_so_far S program decks first.came ++ made_by first.state first.gain) (first.before ++ printed_by first.gain) second.before
           (second.before ++ printed_by second.gain) ending
           (printed_by second.gain) (ends_early (made_so_far S program decks first.came) first.before second.before first.state first.gain ending
-          (ahead first.before second.before first.cards second.cards first.state second.state first.came second.came first.holds second.holds fewer) first.last) refl)
+          (ahead first.before second.before first.cards second.cards first.state second.state first.came second.came first.holds second.holds fewer)
+          first.last) refl)
       two_wholes (inr more) = not_fewer (eq-or-lt_of_le {n = n} {m = m} more)
 
       pub two_runs : Story Open Same made reports others ending other

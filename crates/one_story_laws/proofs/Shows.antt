@@ -10,7 +10,8 @@ use Rattle.selection_definitions.specs.Selection.{selected}
 use Rattle.listing_definitions.specs.declared.Mark.{Mark}
 use Rattle.listing_definitions.specs.declared.Mark.TheVariants.{Optimal, Infeasible, Unbounded}
 use Rattle.listing_definitions.specs.declared.Solver.{Solver}
-use Rattle.listing_definitions.specs.Report.{SolutionLines, ParametricInterval, Chain, Report, Titled, Converted, Revised, SetUp, BcdOut, BasisOut, Inserted, Solved, Solution, Ranges, Parametric}
+use Rattle.listing_definitions.specs.Report.{SolutionLines, ParametricInterval, Chain, Report, Titled, Converted, Revised, SetUp, BcdOut, BasisOut, Inserted}
+use Rattle.listing_definitions.specs.Report.{Solved, Solution, Ranges, Parametric}
 use Rattle.question_definitions.specs.Answers.{Sheet, Changing, ParametricRun}
 use Rattle.answer_definitions.specs.ParametricRuns.{family_of}
 use Rattle.run_definitions.specs.State.{Present, State, choice_of}

@@ -9,11 +9,13 @@ use Rattle.check_definitions.specs.Steps.{in_turn}
 use Rattle.check_definitions.proofs.Passing.{both_checked, holds_if_checked}
 use Rattle.listing_definitions.specs.declared.Solver.{Solver}
 use Rattle.listing_definitions.specs.Report.{ParametricInterval, ChainEnd, EndsAt, UnboundedPast, InfeasiblePast}
-use Rattle.question_definitions.specs.Answers.{Sheet, Changing, Row, Set, parametric_solver, ParametricRun, OfPath, OfParametricRun, PathEnd, Reached, ParametricRunEnd, Opening, Chained, ParametricRunLimit}
+use Rattle.question_definitions.specs.Answers.{Sheet, Changing, Row, Set, parametric_solver, ParametricRun, OfPath, OfParametricRun, PathEnd, Reached}
+use Rattle.question_definitions.specs.Answers.{ParametricRunEnd, Opening, Chained, ParametricRunLimit}
 use Rattle.walk_definitions.specs.Checkers.{Checker}
 use Rattle.walk_definitions.specs.Words.{left_after}
 use Rattle.walk_definitions.specs.Tests.{asked, interval_test, close_test}
-use Rattle.walk_definitions.specs.Reading.{Judged, Right, Fails, Refuses, tested_by, judged_map, Claim, interval_in, close_in, parametric_run_head, Run, onward, part_in, run_in, parametric_run_in, judged}
+use Rattle.walk_definitions.specs.Reading.{Judged, Right, Fails, Refuses, tested_by, judged_map, Claim, interval_in, close_in, parametric_run_head, Run, onward}
+use Rattle.walk_definitions.specs.Reading.{part_in, run_in, parametric_run_in, judged}
 use Rattle.walk_laws.specs.Proved.{IsTaken}
 use Rattle.walk_laws.proofs.Rightly.{OnRight, on_map, on_any, on_tested}
 use Rattle.one_story_laws.proofs.Ends.{IsLast}

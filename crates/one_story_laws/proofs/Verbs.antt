@@ -11,7 +11,8 @@ use Rattle.deck_definitions.specs.Decks.{deck_taken}
 use Rattle.basis_deck_definitions.specs.Reading.{basis_reading}
 use Rattle.revise_definitions.specs.Revision.{revision}
 use Rattle.control_definitions.specs.Cells.{default_cells, move_name, move_number, move_limit, steps_allowed, set_demand}
-use Rattle.control_definitions.specs.Program.{SetupOptions, Verb, Initialz, Title, MoveName, MoveNumber, MoveLimit, Mvadr, Goto, Convert, Setup, Primal, Dual, Revise, Ranging, Paraobj, Pararhs, Solution as SolutionVerb, Bcdout, Punch, Insert, Exit}
+use Rattle.control_definitions.specs.Program.{SetupOptions, Verb, Initialz, Title, MoveName, MoveNumber, MoveLimit, Mvadr, Goto, Convert, Setup, Primal, Dual}
+use Rattle.control_definitions.specs.Program.{Revise, Ranging, Paraobj, Pararhs, Solution as SolutionVerb, Bcdout, Punch, Insert, Exit}
 use Rattle.selection_definitions.specs.Selection.{selected}
 use Rattle.listing_definitions.specs.declared.Mark.{Mark}
 use Rattle.listing_definitions.specs.declared.Solver.{Solver}
@@ -22,14 +23,16 @@ use Rattle.question_definitions.specs.Answers.{Changing, changing_name, OfRanges
 use Rattle.question_definitions.specs.Solving.{Solving}
 use Rattle.run_definitions.specs.State.{Present, State, problem_of, choice_of}
 use Rattle.run_definitions.specs.Moves.{Gain, Nothing, Prints, printed_by, Goes, StatementMove, Does}
-use Rattle.run_definitions.specs.Verbs.{size_of, files, not_less, change_row, change_set, mark_after, if_optimal, solves, shows, ranges, parametric_runs, converts, revises, sets_up, punches, punches_basis, inserts, verb_move}
+use Rattle.run_definitions.specs.Verbs.{size_of, files, not_less, change_row, change_set, mark_after, if_optimal, solves, shows, ranges, parametric_runs}
+use Rattle.run_definitions.specs.Verbs.{converts, revises, sets_up, punches, punches_basis, inserts, verb_move}
 use Rattle.run_definitions.specs.Run.{counted}
 use Rattle.soundness_laws.specs.Truth.{IsOfProblem, named_by}
 use Rattle.soundness_laws.proofs.ChangeRow.{row_named, set_named, last_is}
 use Rattle.walk_laws.proofs.Answered.{IsPathSolver}
 use Rattle.one_story_laws.specs.Story.{ReportsSame, TellSame}
 use Rattle.one_story_laws.proofs.Reported.{SaysEnough}
-use Rattle.one_story_laws.proofs.Alike.{SameSetup, no_setup, one_setup, goes_alike, IsAlike, does, may_stop, asked, unless_fault, unless_deck_fault, unless_selection_fault, selecting}
+use Rattle.one_story_laws.proofs.Alike.{SameSetup, no_setup, one_setup, goes_alike, IsAlike, does, may_stop, asked, unless_fault, unless_deck_fault}
+use Rattle.one_story_laws.proofs.Alike.{unless_selection_fault, selecting}
 use Rattle.one_story_laws.proofs.Questions.{path_asked, solution_asked, parametric_run_asked}
 use Rattle.walk_definitions.specs.Checkers.{Checker}
 

@@ -8,7 +8,8 @@ use Rattle.std.specs.Prelude.{All, Contains, Option, Some, None, slice_get, slic
 use Rattle.std.proofs.lemmas.List.Elements.{All-nil, All-cons, All-head, All-tail, All-contains}
 use Rattle.exact_values.specs.Rational.{ℚ, zero_ℚ, ◌+ℚ◌, ◌*ℚ◌, ◌≤ℚ◌}
 use Rattle.lp_definitions.specs.declared.Change.{Change}
-use Rattle.lp_definitions.specs.LinearProgram.{LinearProgram, Vector, Matrix, IsRow, IsVariable, numbers_from, variables, value_at, with_change_row, ChangeIsFree, objective_value, IsLinearProgram}
+use Rattle.lp_definitions.specs.LinearProgram.{LinearProgram, Vector, Matrix, IsRow, IsVariable, numbers_from, variables, value_at, with_change_row}
+use Rattle.lp_definitions.specs.LinearProgram.{ChangeIsFree, objective_value, IsLinearProgram}
 use Rattle.lp_definitions.specs.Solutions.{IsBest}
 use Rattle.lp_definitions.specs.Basis.{Tableau}
 use Rattle.simplex_laws.proofs.Ends.{value_at-listed}

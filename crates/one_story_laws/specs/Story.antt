@@ -6,7 +6,8 @@
 --     IsOfNoBasis report           it isn't of RANGE, PUNCH or INSERT
 --     IsCutEnding ending           a run was cut off: by the limit on steps, by a price that is wrong for DUAL, or by an overflow
 use Rattle.std.specs.Prelude.{◌≡◌, List, [], ◌∷◌}
-use Rattle.listing_definitions.specs.Report.{PathVerdict, OptimalAt, ChainEnd, EndsAt, UnboundedPast, InfeasiblePast, Report, BasisOut, Inserted, Solved, Solution, Ranges, Parametric}
+use Rattle.listing_definitions.specs.Report.{PathVerdict, OptimalAt, ChainEnd, EndsAt, UnboundedPast, InfeasiblePast, Report, BasisOut, Inserted, Solved}
+use Rattle.listing_definitions.specs.Report.{Solution, Ranges, Parametric}
 use Rattle.listing_definitions.specs.Ending.{Ending, PriceStop, LimitStop, OverflowStop}
 use Rattle.run_definitions.specs.Verbs.{mark_of}
 

@@ -15,7 +15,8 @@ use Rattle.basis_deck_definitions.specs.Reading.{basis_reading}
 use Rattle.revise_definitions.specs.Revision.{revision}
 use Rattle.problem_definitions.specs.Names.{Name}
 use Rattle.problem_definitions.specs.Problem.{Problem}
-use Rattle.control_definitions.specs.Program.{SetupOptions, Verb, Initialz, Title, MoveName, MoveNumber, MoveLimit, Mvadr, Goto, Convert, Setup, Primal, Dual, Revise, Ranging, Paraobj, Pararhs, Solution as SolutionVerb, Bcdout, Punch, Insert, Exit}
+use Rattle.control_definitions.specs.Program.{SetupOptions, Verb, Initialz, Title, MoveName, MoveNumber, MoveLimit, Mvadr, Goto, Convert, Setup, Primal, Dual}
+use Rattle.control_definitions.specs.Program.{Revise, Ranging, Paraobj, Pararhs, Solution as SolutionVerb, Bcdout, Punch, Insert, Exit}
 use Rattle.selection_definitions.specs.declared.SelectionFault.{SelectionFault}
 use Rattle.selection_definitions.specs.Choice.{Choice}
 use Rattle.selection_definitions.specs.Selection.{selected}
@@ -26,8 +27,10 @@ use Rattle.listing_definitions.specs.declared.VerbFault.{VerbFault}
 use Rattle.listing_definitions.specs.Report.{Converted, Revised}
 use Rattle.question_definitions.specs.Answers.{Basis, Changing}
 use Rattle.run_definitions.specs.State.{Present, State, problem_of, choice_of}
-use Rattle.run_definitions.specs.Moves.{StatementOutcome, Goes, Ends, gain_of, InSelection, InAnswer, StatementMove, Does, MayStop, Asks, DecidesAlone, or_fault}
-use Rattle.run_definitions.specs.Verbs.{or_deck_fault, or_selection_fault, selects, files, not_less, change_row, change_set, if_optimal, solves, shows, ranges, parametric_runs, converts, revises, sets_up, punches, punches_basis, inserts, verb_move}
+use Rattle.run_definitions.specs.Moves.{StatementOutcome, Goes, Ends, gain_of, InSelection, InAnswer, StatementMove, Does, MayStop, Asks, DecidesAlone}
+use Rattle.run_definitions.specs.Moves.{or_fault}
+use Rattle.run_definitions.specs.Verbs.{or_deck_fault, or_selection_fault, selects, files, not_less, change_row, change_set, if_optimal, solves, shows, ranges}
+use Rattle.run_definitions.specs.Verbs.{parametric_runs, converts, revises, sets_up, punches, punches_basis, inserts, verb_move}
 use Rattle.run_definitions.specs.Run.{counted}
 use Rattle.walk_definitions.specs.Walker.{refuses_selection}
 use Rattle.own_listing_laws.proofs.Pace.{rebased}

@@ -15,7 +15,8 @@ use Rattle.run_definitions.specs.Answer.{job_decks, card_fault, control_fault, r
 use Rattle.walk_definitions.specs.Checkers.{checker_of_any_length}
 use Rattle.walk_definitions.specs.Forms.{is_open_stop}
 use Rattle.walk_definitions.specs.Walker.{Walker, Attested, WalkTurn, Walks, Finds, follows, turn}
-use Rattle.walk_definitions.specs.Found.{first_walker, Reaches as Walked, begun as not_begun, walked, of_cards as ends_by_cards, of_control as ends_by_control, of_walk}
+use Rattle.walk_definitions.specs.Found.{first_walker, Reaches as Walked, begun as not_begun, walked, of_cards as ends_by_cards, of_control as ends_by_control}
+use Rattle.walk_definitions.specs.Found.{of_walk}
 use Rattle.fitting_answers.specs.Real.{linear_programming_of_128_bits}
 use Rattle.own_listing_laws.specs.WholeRuns.{ShowsAll, IsMade, ComesAttestedAtAnyLength}
 use Rattle.own_listing_laws.proofs.Suiting.{suits_any_length}
@@ -145,7 +146,8 @@ module _ (program : Program) (small : AreSmall program) where
         let due = due_last checker_of_any_length suits_any_length program small w s gain ending pace.is_rest step in
         let whole = ap is_open_stop pace.is_rest ∙ listing_closed (printed_by gain) ending closed in
         let all : ShowsAll waiting (printed_by gain ++ []) = subst (λ (rs : List Report). ShowsAll waiting rs) (sym (append-nil (printed_by gain))) shown in
-        let to = turned w s is_known (Ends gain ending) (ending_text ending) [] here step made due whole closed (λ waits. never_waits waits) waiting all pends in
+        let to = turned w s is_known (Ends gain ending) (ending_text ending) [] here step made due whole closed (λ waits. never_waits waits) waiting all
+        pends in
         record {
           last = w;
           reaches = before;

@@ -16,7 +16,8 @@ use Rattle.problem_definitions.specs.Names.{Name}
 use Rattle.problem_definitions.specs.Problem.{Problem}
 use Rattle.control_definitions.specs.declared.NameCell.{NameCell}
 use Rattle.control_definitions.specs.declared.NameCell.TheVariants.{Xdata, Xpbname, Xobj, Xrhs, Xoldname, Xchrow, Xchcol}
-use Rattle.control_definitions.specs.Program.{SetupOptions, Verb, Initialz, Title, MoveName, MoveNumber, MoveLimit, Mvadr, Goto, Convert, Setup, Primal, Dual, Revise, Ranging, Paraobj, Pararhs, Solution as SolutionVerb, Bcdout, Punch, Insert, Exit}
+use Rattle.control_definitions.specs.Program.{SetupOptions, Verb, Initialz, Title, MoveName, MoveNumber, MoveLimit, Mvadr, Goto, Convert, Setup, Primal, Dual}
+use Rattle.control_definitions.specs.Program.{Revise, Ranging, Paraobj, Pararhs, Solution as SolutionVerb, Bcdout, Punch, Insert, Exit}
 use Rattle.control_definitions.specs.Cells.{Cells, steps_allowed}
 use Rattle.selection_definitions.specs.declared.SelectionFault.{SelectionFault}
 use Rattle.selection_definitions.specs.Choice.{Choice}
@@ -27,17 +28,22 @@ use Rattle.listing_definitions.specs.declared.Mark.{Mark}
 use Rattle.listing_definitions.specs.declared.Solver.{Solver}
 use Rattle.listing_definitions.specs.declared.Solver.TheVariants.{Primal as ByPrimal, Dual as ByDual}
 use Rattle.listing_definitions.specs.declared.VerbFault.{VerbFault}
-use Rattle.listing_definitions.specs.Report.{PathVerdict, Check, SolutionLines, ParametricInterval, ChainEnd, Report, Titled, Converted, Revised, SetUp, BcdOut, BasisOut, Inserted, Solved, Solution, Ranges, Parametric}
+use Rattle.listing_definitions.specs.Report.{PathVerdict, Check, SolutionLines, ParametricInterval, ChainEnd, Report, Titled, Converted, Revised, SetUp, BcdOut}
+use Rattle.listing_definitions.specs.Report.{BasisOut, Inserted, Solved, Solution, Ranges, Parametric}
 use Rattle.listing_definitions.specs.Ending.{Overflow, Ending, LimitStop, SingularStop, PriceStop, OverflowStop}
 use Rattle.listing_definitions.specs.Listing.{ending_text}
-use Rattle.question_definitions.specs.Answers.{Basis, Sheet, Changing, ParametricRun, Question, AnswerTo, OfPath, OfSolution, OfParametricRun, PathEnd, Reached, PathLimit, PricesWrong, ParametricRunEnd, Opening, Chained, ParametricRunLimit, InstallEnd, Installed, DependsBy}
+use Rattle.question_definitions.specs.Answers.{Basis, Sheet, Changing, ParametricRun, Question, AnswerTo, OfPath, OfSolution, OfParametricRun, PathEnd, Reached}
+use Rattle.question_definitions.specs.Answers.{PathLimit, PricesWrong, ParametricRunEnd, Opening, Chained, ParametricRunLimit, InstallEnd, Installed, DependsBy}
 use Rattle.question_definitions.specs.Solving.{IsRight}
 use Rattle.answer_definitions.specs.Verdicts.{IsSolvedBy}
 use Rattle.answer_definitions.specs.Sections.{IsSolutionOf}
 use Rattle.answer_definitions.specs.ParametricRuns.{FailsToOpen, IsChained, IsParametricRun}
 use Rattle.run_definitions.specs.State.{Present, present_basis, State, problem_of, choice_of}
-use Rattle.run_definitions.specs.Moves.{Gain, Nothing, Prints, Punches, printed_by, StatementOutcome, Goes, Ends, next, stops, InSelection, InAnswer, StatementMove, Does, MayStop, Asks, Gives, DecidesAlone, or_fault}
-use Rattle.run_definitions.specs.Verbs.{or_deck_fault, or_selection_fault, selects, not_less, change_row, change_set, mark_after, if_optimal, after_path, after_parametric_run, after_install, solves, shows, ranges, parametric_runs, converts, revises, sets_up, punches, punches_basis, inserts, verb_move}
+use Rattle.run_definitions.specs.Moves.{Gain, Nothing, Prints, Punches, printed_by, StatementOutcome, Goes, Ends, next, stops, InSelection, InAnswer}
+use Rattle.run_definitions.specs.Moves.{StatementMove, Does, MayStop, Asks, Gives, DecidesAlone, or_fault}
+use Rattle.run_definitions.specs.Verbs.{or_deck_fault, or_selection_fault, selects, not_less, change_row, change_set, mark_after, if_optimal, after_path}
+use Rattle.run_definitions.specs.Verbs.{after_parametric_run, after_install, solves, shows, ranges, parametric_runs, converts, revises, sets_up, punches}
+use Rattle.run_definitions.specs.Verbs.{punches_basis, inserts, verb_move}
 use Rattle.run_definitions.specs.Run.{counted}
 use Rattle.soundness_laws.proofs.Moves.{HasProblem}
 use Rattle.walk_definitions.specs.Forms.{is_open_stop}

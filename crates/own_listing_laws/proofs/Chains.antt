@@ -1,5 +1,6 @@
 -- A chain of intervals lands: each interval is read back and passes its test, and so does the close.
-use Rattle.std.proofs.Common.{◌≡◌, ℕ, ◌+◌, ◌<◌, ◌≤◌, true, false, List, [], ◌∷◌, ◌++◌, length, map, Option, Some, None, codes, drop, if◌then◌else◌, refl, sym, ap, subst, ◌∙◌, ◌⊎◌, inl, inr, arith, append_assoc, append-nil}
+use Rattle.std.proofs.Common.{◌≡◌, ℕ, ◌+◌, ◌<◌, ◌≤◌, true, false, List, [], ◌∷◌, ◌++◌, length, map, Option, Some, None, codes, drop, if◌then◌else◌, refl, sym}
+use Rattle.std.proofs.Common.{ap, subst, ◌∙◌, ◌⊎◌, inl, inr, arith, append_assoc, append-nil}
 use Rattle.std.specs.Prelude.{All, nat_eq}
 use Rattle.std.specs.List.{flat_map, enumerate_from}
 use Rattle.std.proofs.lemmas.List.{length-append}
@@ -14,13 +15,15 @@ use Rattle.lp_definitions.specs.declared.Status.{Status}
 use Rattle.check_definitions.specs.declared.Verdict.{Verdict}
 use Rattle.check_definitions.specs.declared.Verdict.TheVariants.{Checked, Failed, Unchecked}
 use Rattle.simplex_definitions.specs.Path.{last_of}
-use Rattle.simplex_definitions.specs.Chain.{Part, ChainEnd as PastBreakpoint, AtMax, UnboundedPast as PastUnbounded, InfeasiblePast as PastInfeasible, IsPart, IsChain, at_max, past_breakpoint, goes_on, Chain}
+use Rattle.simplex_definitions.specs.Chain.{Part, ChainEnd as PastBreakpoint, AtMax, UnboundedPast as PastUnbounded, InfeasiblePast as PastInfeasible, IsPart}
+use Rattle.simplex_definitions.specs.Chain.{IsChain, at_max, past_breakpoint, goes_on, Chain}
 use Rattle.problem_definitions.specs.Problem.{Problem}
 use Rattle.listing_definitions.specs.declared.Solver.{Solver}
 use Rattle.listing_definitions.specs.Numbers.{rational_text}
 use Rattle.listing_definitions.specs.Report.{ParametricInterval, ChainEnd, EndsAt, UnboundedPast, InfeasiblePast}
 use Rattle.listing_definitions.specs.Text.{solver_text, interval_text, chain_end_text, chain_text}
-use Rattle.question_definitions.specs.Answers.{Basis, Sheet, Changing, Row, Set, changing_name, parametric_solver, ParametricRun, OfParametricRun, ParametricRunEnd, Chained}
+use Rattle.question_definitions.specs.Answers.{Basis, Sheet, Changing, Row, Set, changing_name, parametric_solver, ParametricRun, OfParametricRun}
+use Rattle.question_definitions.specs.Answers.{ParametricRunEnd, Chained}
 use Rattle.answer_definitions.specs.ParametricRuns.{family_of, IsFace, sheet_at, interval_of, end_of, IsChained}
 use Rattle.soundness_laws.specs.ParametricRuns.{ChangesFreely}
 use Rattle.simplex_laws.specs.Laws.{IsNonsingularBasis}
@@ -34,7 +37,8 @@ use Rattle.walk_definitions.specs.Checkers.{Checker}
 use Rattle.walk_definitions.specs.Words.{Parsed, left_after, max_count, fraction_in}
 use Rattle.walk_definitions.specs.Tables.{begins_table_line}
 use Rattle.walk_definitions.specs.Tests.{interval_test, close_test}
-use Rattle.walk_definitions.specs.Reading.{Judged, Fails, by_verdict, unread, tested_or, judged_map, interval_in, close_in, Run, onward, part_in, run_in, parametric_run_head, parametric_run_in, judged}
+use Rattle.walk_definitions.specs.Reading.{Judged, Fails, by_verdict, unread, tested_or, judged_map, interval_in, close_in, Run, onward, part_in, run_in}
+use Rattle.walk_definitions.specs.Reading.{parametric_run_head, parametric_run_in, judged}
 use Rattle.walk_definitions.specs.Walker.{Walker, answered}
 use Rattle.walk_definitions.proofs.Texts.{stands}
 use Rattle.own_listing_laws.specs.Laws.{IsNoFailure, chain_of}

@@ -1,7 +1,8 @@
 -- Verdicts are read back.
 --     IsReadable solver verdict    the verb may say this
 --     IsPrinted sheet verdict      its lines are those of the sheet's variables, and its count has 32 bits
-use Rattle.std.proofs.Common.{◌≡◌, ℕ, ◌<◌, ◌≤◌, true, false, not, List, [], ◌∷◌, ◌++◌, Option, Some, None, codes, if◌then◌else◌, refl, sym, ap, subst, ◌∙◌, arith, append_assoc, append-nil}
+use Rattle.std.proofs.Common.{◌≡◌, ℕ, ◌<◌, ◌≤◌, true, false, not, List, [], ◌∷◌, ◌++◌, Option, Some, None, codes, if◌then◌else◌, refl, sym, ap, subst, ◌∙◌}
+use Rattle.std.proofs.Common.{arith, append_assoc, append-nil}
 use Rattle.std.specs.Prelude.{option_map, nat_eq}
 use Rattle.std.specs.Option.{option_or}
 use Rattle.std.proofs.lemmas.List.{append_cancel_left}
@@ -27,7 +28,8 @@ use Rattle.walk_definitions.specs.Reading.{with_check, Claim, optimal_in, crosse
 use Rattle.walk_definitions.proofs.Texts.{is_text}
 use Rattle.fitting_answers.specs.Fitting.{LinesFit, CheckFits, VerdictFits}
 use Rattle.own_listing_laws.specs.Printed.{IsReadable, IsRayOf, IsPairOf, IsPrinted}
-use Rattle.own_listing_laws.proofs.Spelled.{ReadsFractions, Gives, text_first, or_else, or_first, not_there, same_rest, done, fraction_first, count_first, check_first}
+use Rattle.own_listing_laws.proofs.Spelled.{ReadsFractions, Gives, text_first, or_else, or_first, not_there, same_rest, done, fraction_first, count_first}
+use Rattle.own_listing_laws.proofs.Spelled.{check_first}
 use Rattle.own_listing_laws.proofs.Tabled.{matched_of, table_read, ray_read}
 
 -- the text of a check, and what follows it

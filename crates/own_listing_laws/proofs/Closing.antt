@@ -1,17 +1,20 @@
 -- The test of how a parametric run closes never fails: at its last end there is a best point, so what is negative past it is 0 there, and
 -- falls.
-use Rattle.std.proofs.Common.{◌≡◌, ℕ, suc, ◌+◌, ◌<◌, pos, Bool, true, false, List, [], ◌∷◌, map, Option, Some, None, refl, sym, ap, ap₂, subst, ◌∙◌, ◌⊎◌, inl, inr, arith}
+use Rattle.std.proofs.Common.{◌≡◌, ℕ, suc, ◌+◌, ◌<◌, pos, Bool, true, false, List, [], ◌∷◌, map, Option, Some, None, refl, sym, ap, ap₂, subst, ◌∙◌, ◌⊎◌, inl}
+use Rattle.std.proofs.Common.{inr, arith}
 use Rattle.std.specs.Prelude.{IsSome, unwrap_or, cond, nat_le}
 use Rattle.exact_values.specs.Rational.{ℚ, zero_ℚ, one_ℚ, neg_ℚ, ◌+ℚ◌, ◌*ℚ◌, ◌/ℚ◌, ◌≤ℚ◌, ◌<ℚ◌}
 use Rattle.exact_values.specs.Sums.{sum_to, sum_up_to}
 use Rattle.exact_values.specs.Tests.{le_ℚ, lt_ℚ}
 use Rattle.exact_values.proofs.Inverse.{div-mul_cancel}
 use Rattle.exact_values.proofs.Ring.{by_ring1, by_ring2, by_ring3, by_ring4, same_by_one, number, opposite, ◌⊕◌, ◌⊖◌, ◌⊗◌, ◌≐◌}
-use Rattle.exact_values.proofs.Order.{lt_or_le, lt_irrefl, lt_not_le, lt_by_one, zero_below_one, add-le-add, mul-positive, inverse-positive, apart_from_above, le_antisymm}
+use Rattle.exact_values.proofs.Order.{lt_or_le, lt_irrefl, lt_not_le, lt_by_one, zero_below_one, add-le-add, mul-positive, inverse-positive, apart_from_above}
+use Rattle.exact_values.proofs.Order.{le_antisymm}
 use Rattle.exact_values.proofs.Signs.{neg_above}
 use Rattle.exact_values.proofs.Sums.{sum_to-same, sum_to-add, sum_to-mul_left, sum_to-append, sum_to-zero}
 use Rattle.exact_values.proofs.TestsLaws.{test_from_le, test_from_lt}
-use Rattle.lp_definitions.specs.LinearProgram.{LinearProgram, Vector, value_at, size, IsRow, IsVariable, IsLinearProgram, lower_of, upper_of, for_min, numbers_from}
+use Rattle.lp_definitions.specs.LinearProgram.{LinearProgram, Vector, value_at, size, IsRow, IsVariable, IsLinearProgram, lower_of, upper_of, for_min}
+use Rattle.lp_definitions.specs.LinearProgram.{numbers_from}
 use Rattle.lp_definitions.specs.Solutions.{IsFeasible, IsBest, IsRay, limit_against, ProvesUnbounded}
 use Rattle.lp_laws.proofs.Duality.{infeasible_by_ray, unbounded_by_direction}
 use Rattle.lp_laws.proofs.Equations.{KeepsEquations-same}

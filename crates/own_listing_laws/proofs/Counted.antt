@@ -1,6 +1,7 @@
 -- The counts of a run are small: those of cards, of steps that are allowed, and of variables.
 --     AreSmall program             the card of each statement, and each limit that is moved
-use Rattle.std.proofs.Common.{◌≡◌, ℕ, zero, suc, ◌+◌, ◌≤◌, Bool, true, false, not, cond, ◌&&◌, ◌||◌, List, [], ◌∷◌, map, length, take, filter, Option, Some, None, ℤ, pos, negsuc, ◌==◌, Ok, if◌then◌else◌, refl, subst, arith, leb-true}
+use Rattle.std.proofs.Common.{◌≡◌, ℕ, zero, suc, ◌+◌, ◌≤◌, Bool, true, false, not, cond, ◌&&◌, ◌||◌, List, [], ◌∷◌, map, length, take, filter, Option, Some}
+use Rattle.std.proofs.Common.{None, ℤ, pos, negsuc, ◌==◌, Ok, if◌then◌else◌, refl, subst, arith, leb-true}
 use Rattle.std.specs.Prelude.{find, slice_get, bytes_eq, nat_le, nat_lt, codes}
 use Rattle.std.specs.List.{AllByRecursion, cons_option, filter_map, position_or_len}
 use Rattle.std.specs.Option.{IfSome, option_map, option_and_then}
@@ -15,10 +16,13 @@ use Rattle.problem_definitions.specs.Problem.{Problem}
 use Rattle.problem_definitions.specs.Valid.{IsProblem}
 use Rattle.control_definitions.specs.declared.ControlFault.{ControlFault}
 use Rattle.control_definitions.specs.declared.TheConstants.{MAX_STEPS}
-use Rattle.control_definitions.specs.Program.{Verb, Initialz, Title, MoveName, MoveNumber, MoveLimit, Mvadr, Goto, Convert, Setup, Primal, Dual, Revise, Ranging, Paraobj, Pararhs, Solution, Bcdout, Punch, Insert, Exit, Statement, Program, verb_by}
+use Rattle.control_definitions.specs.Program.{Verb, Initialz, Title, MoveName, MoveNumber, MoveLimit, Mvadr, Goto, Convert, Setup, Primal, Dual, Revise}
+use Rattle.control_definitions.specs.Program.{Ranging, Paraobj, Pararhs, Solution, Bcdout, Punch, Insert, Exit, Statement, Program, verb_by}
 use Rattle.control_definitions.specs.Statements.{statement_of, verb_word, Arguments, Without, With, Malformed, arguments_of}
-use Rattle.control_definitions.specs.Arguments.{quoted_name, title_argument, number_argument, steps_of, steps_argument, limit_argument, label_text, setup_arguments}
-use Rattle.control_definitions.specs.Verbs.{Cell, OfName, OfNumber, OfLimit, cell_words, demand_words, moved, VerbWord, Alone, TakesTitle, TakesCell, TakesDemand, TakesLabel, TakesOptions, EndsProgram, verb_words, verb_with, verb_of}
+use Rattle.control_definitions.specs.Arguments.{quoted_name, title_argument, number_argument, steps_of, steps_argument, limit_argument, label_text}
+use Rattle.control_definitions.specs.Arguments.{setup_arguments}
+use Rattle.control_definitions.specs.Verbs.{Cell, OfName, OfNumber, OfLimit, cell_words, demand_words, moved, VerbWord, Alone, TakesTitle, TakesCell}
+use Rattle.control_definitions.specs.Verbs.{TakesDemand, TakesLabel, TakesOptions, EndsProgram, verb_words, verb_with, verb_of}
 use Rattle.control_definitions.specs.Compiled.{is_pend, positioned, statement_on, program_of, control_fault, cards_to_pend, compiled}
 use Rattle.selection_definitions.specs.Choice.{Choice}
 use Rattle.selection_definitions.specs.Selection.{selected}

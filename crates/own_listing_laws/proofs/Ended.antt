@@ -9,7 +9,8 @@ use Rattle.check_definitions.specs.Steps.{Step, AllHold}
 use Rattle.check_definitions.specs.Checks.{optimal_steps, crossed_steps, infeasible_steps, unbounded_steps}
 use Rattle.certificate_laws.proofs.Truth.{optimal_holds, crossed_holds, infeasible_holds, unbounded_holds}
 use Rattle.simplex_definitions.specs.Moves.{is_crossed, goes_up, blocking_variable, is_below}
-use Rattle.simplex_definitions.specs.Path.{PathEnding, EndsOptimal, EndsCrossed, EndsInfeasible, EndsUnbounded, EndsAt, Turn, Moves, Ends, listed, speeds, crossed, outside, worth_rate, entering_variable, restore_feasibility, run_until, improve, turn_for, turn}
+use Rattle.simplex_definitions.specs.Path.{PathEnding, EndsOptimal, EndsCrossed, EndsInfeasible, EndsUnbounded, EndsAt, Turn, Moves, Ends, listed, speeds}
+use Rattle.simplex_definitions.specs.Path.{crossed, outside, worth_rate, entering_variable, restore_feasibility, run_until, improve, turn_for, turn}
 use Rattle.simplex_definitions.specs.DualPath.{dual_for, dual_turn}
 use Rattle.simplex_definitions.specs.DualRatio.{cheapest}
 use Rattle.simplex_laws.specs.Laws.{IsNonsingularBasis}
@@ -41,7 +42,8 @@ module _ (p : LinearProgram) (s : List Status) (t : Tableau) where
   until_tells q v None = (sized p.matrix t.point, sized p.matrix v)
 
   improve_tells : (o : Option ℕ) → ReportsOf (improve p s t o)
-  improve_tells (Some q) = until_tells q (speeds t.rate (goes_up (worth_rate p s t) q) q) (blocking_variable p t.point (speeds t.rate (goes_up (worth_rate p s t) q) q))
+  improve_tells (Some q) = until_tells q (speeds t.rate (goes_up (worth_rate p s t) q) q) (blocking_variable p t.point
+      (speeds t.rate (goes_up (worth_rate p s t) q) q))
   improve_tells None = (refl, refl)
 
   crossed_tells : (k : ℕ) → crossed p s t ≡ Some k → IsVariable p.matrix k

@@ -1,5 +1,6 @@
 -- The walk goes on past what a run prints with the word CHECKED, and past its SOLUTION.
-use Rattle.std.proofs.Common.{◌≡◌, ◌⊎◌, inl, inr, ℕ, Bool, true, false, not, ◌||◌, List, [], ◌++◌, length, Option, Some, None, if◌then◌else◌, refl, sym, ap, ap₂, ◌∙◌, append-nil}
+use Rattle.std.proofs.Common.{◌≡◌, ◌⊎◌, inl, inr, ℕ, Bool, true, false, not, ◌||◌, List, [], ◌++◌, length, Option, Some, None, if◌then◌else◌, refl, sym, ap}
+use Rattle.std.proofs.Common.{ap₂, ◌∙◌, append-nil}
 use Rattle.std.specs.Prelude.{is_none}
 use Rattle.std.specs.Option.{option_or}
 use Rattle.exact_values.specs.Rational.{ℚ}
@@ -12,13 +13,15 @@ use Rattle.listing_definitions.specs.Ending.{Ending}
 use Rattle.listing_definitions.specs.Listing.{ending_text}
 use Rattle.listing_definitions.specs.declared.Solver.{Solver}
 use Rattle.listing_definitions.specs.declared.Solver.TheVariants.{Primal, Dual, Paraobj, Pararhs}
-use Rattle.listing_definitions.specs.Report.{PathVerdict, SolutionLines, Report, Titled, Converted, Revised, SetUp, BcdOut, BasisOut, Inserted, Solved, Solution, Ranges, Parametric}
+use Rattle.listing_definitions.specs.Report.{PathVerdict, SolutionLines, Report, Titled, Converted, Revised, SetUp, BcdOut, BasisOut, Inserted, Solved}
+use Rattle.listing_definitions.specs.Report.{Solution, Ranges, Parametric}
 use Rattle.listing_definitions.specs.Report as reports
 use Rattle.listing_definitions.specs.Text.{report_text, verdict_text, solution_text}
 use Rattle.question_definitions.specs.Answers.{Basis, Sheet, Question, OfPath, OfSolution, AnswerTo, PathEnd, Reached}
 use Rattle.answer_definitions.specs.Verdicts.{IsSolvedBy}
 use Rattle.run_definitions.specs.State.{Present}
-use Rattle.run_definitions.specs.Moves.{Nothing, Prints, Punches, printed_by, gain_text, gain_of, StatementOutcome, Goes, Ends, InSelection, InAnswer, StatementMove, Does, MayStop, Asks, DecidesAlone}
+use Rattle.run_definitions.specs.Moves.{Nothing, Prints, Punches, printed_by, gain_text, gain_of, StatementOutcome, Goes, Ends, InSelection, InAnswer}
+use Rattle.run_definitions.specs.Moves.{StatementMove, Does, MayStop, Asks, DecidesAlone}
 use Rattle.run_definitions.specs.Verbs.{asks}
 use Rattle.walk_definitions.specs.Checkers.{Checker, checker_of_128_bits}
 use Rattle.walk_definitions.specs.Words.{left_after}
@@ -27,7 +30,9 @@ use Rattle.walk_definitions.specs.Forms.{is_open_stop}
 use Rattle.walk_definitions.specs.Tables.{begins_table_line}
 use Rattle.walk_definitions.specs.Tests.{point_of}
 use Rattle.walk_definitions.specs.Reading.{Judged, judged}
-use Rattle.walk_definitions.specs.Walker.{Pending, Walker, Found, Attested, Wrong, Unchecked, WalkTurn, Finds, open_if, open_stop, pending_found, open_pending, open_outcome, open_question, opened, refuses_selection, ended, unless_found, closes, follows, passed, taken, pending_after, settled, answered, due, walk_move}
+use Rattle.walk_definitions.specs.Walker.{Pending, Walker, Found, Attested, Wrong, Unchecked, WalkTurn, Finds, open_if, open_stop, pending_found, open_pending}
+use Rattle.walk_definitions.specs.Walker.{open_outcome, open_question, opened, refuses_selection, ended, unless_found, closes, follows, passed, taken}
+use Rattle.walk_definitions.specs.Walker.{pending_after, settled, answered, due, walk_move}
 use Rattle.fitting_answers.specs.Fitting.{VerdictFits}
 use Rattle.own_listing_laws.specs.Laws.{IsShownChecked, KeepsMark, WalksOn}
 use Rattle.own_listing_laws.proofs.Rightly.{judged_right}

@@ -23,7 +23,8 @@ use Rattle.listing_definitions.specs.Numbers.{rational_text}
 use Rattle.listing_definitions.specs.Report.{PathVerdict, OptimalAt, CrossedAt, InfeasibleBy, UnboundedBy, Check, ParametricInterval, ChainEnd, Solved}
 use Rattle.listing_definitions.specs.Text.{check_text, table_text, solver_text, verdict_head, verdict_lines, verdict_text}
 use Rattle.listing_laws.proofs.Words.{begin_otherwise}
-use Rattle.question_definitions.specs.Answers.{Basis, Sheet, Changing, Row, Set, changing_name, parametric_solver, ParametricRun, Question, OfParametricRun, ParametricRunEnd, Opening, Chained, ParametricRunLimit}
+use Rattle.question_definitions.specs.Answers.{Basis, Sheet, Changing, Row, Set, changing_name, parametric_solver, ParametricRun, Question, OfParametricRun}
+use Rattle.question_definitions.specs.Answers.{ParametricRunEnd, Opening, Chained, ParametricRunLimit}
 use Rattle.question_definitions.specs.Solving.{IsRight}
 use Rattle.answer_definitions.specs.Verdicts as verdicts
 use Rattle.answer_definitions.specs.ParametricRuns.{row_of, shifts_of, family_of, IsFace, sheet_at, FailsToOpen, IsChained}
@@ -40,7 +41,8 @@ use Rattle.walk_definitions.specs.Words.{Parsed, left_after, max_count, fraction
 use Rattle.walk_definitions.specs.Tables.{begins_table_line}
 use Rattle.walk_definitions.specs.Forms.{is_open_stop}
 use Rattle.walk_definitions.specs.Tests.{says, verdict_test, moving_steps, making_steps}
-use Rattle.walk_definitions.specs.Reading.{Judged, Right, Refuses, by_verdict, unread, tested_or, judged_map, judged, Claim, verdict_in, parametric_run_head, parametric_run_in}
+use Rattle.walk_definitions.specs.Reading.{Judged, Right, Refuses, by_verdict, unread, tested_or, judged_map, judged, Claim, verdict_in, parametric_run_head}
+use Rattle.walk_definitions.specs.Reading.{parametric_run_in}
 use Rattle.walk_definitions.specs.Walker.{Walker, open_question, passed, answered}
 use Rattle.walk_definitions.proofs.Texts.{is_text}
 use Rattle.fitting_answers.specs.Fitting.{VerdictFits, CheckFits, GainFits}

@@ -1,5 +1,6 @@
 -- The listing of a job's run is never found wrong.
-use Rattle.std.proofs.Common.{◌≡◌, ◌⊎◌, inl, inr, ℕ, ◌-◌, ◌<◌, Bool, true, false, List, [], ◌∷◌, ◌++◌, length, Some, None, Result, Ok, Err, refl, sym, ap, subst, ◌∙◌, arith, append_assoc, append-nil, lt-ltb, le-ltb, ◌≤◌}
+use Rattle.std.proofs.Common.{◌≡◌, ◌⊎◌, inl, inr, ℕ, ◌-◌, ◌<◌, Bool, true, false, List, [], ◌∷◌, ◌++◌, length, Some, None, Result, Ok, Err, refl, sym, ap}
+use Rattle.std.proofs.Common.{subst, ◌∙◌, arith, append_assoc, append-nil, lt-ltb, le-ltb, ◌≤◌}
 use Rattle.std.specs.Prelude.{slice_get, nat_lt}
 use Rattle.std.proofs.lemmas.Grind.{flat_map-append}
 use Rattle.std.proofs.lemmas.Option.{slice_get_within, same_Some}
@@ -10,7 +11,8 @@ use Rattle.control_definitions.specs.declared.ControlFault.{ControlFault}
 use Rattle.control_definitions.specs.Program.{Statement, Program}
 use Rattle.listing_definitions.specs.declared.Solver.TheVariants.{Primal, Dual, Paraobj, Pararhs}
 use Rattle.listing_definitions.specs.Report.{Report, Titled, Converted, Revised, SetUp, BcdOut, BasisOut, Inserted, Solved, Solution, Ranges, Parametric}
-use Rattle.listing_definitions.specs.Ending.{Ending, Ended, WordsRefused, ControlStop, VerbStop, SingularStop, PriceStop, DeckStop, CardStop, LimitStop, StatementLimit, OverflowStop, ReadFault, PrintFault, PunchFault, Memory}
+use Rattle.listing_definitions.specs.Ending.{Ending, Ended, WordsRefused, ControlStop, VerbStop, SingularStop, PriceStop, DeckStop, CardStop, LimitStop}
+use Rattle.listing_definitions.specs.Ending.{StatementLimit, OverflowStop, ReadFault, PrintFault, PunchFault, Memory}
 use Rattle.listing_definitions.specs.Text.{report_text}
 use Rattle.listing_definitions.specs.Listing.{ending_text, reports_text, listing}
 use Rattle.run_definitions.specs.State.{State, start}
@@ -32,7 +34,8 @@ use Rattle.own_listing_laws.specs.AnyLength.{IsFoundOfOwn, NeverWrongAtAnyLength
 use Rattle.own_listing_laws.specs.WholeRuns.{EachSoFar, EachInRun}
 use Rattle.own_listing_laws.proofs.Suiting.{SuitsRuns, CanRefuse, suits_128_bits, suits_any_length, never_refuses_any_length}
 use Rattle.own_listing_laws.proofs.Turns.{turn_at_end, turn_at_limit, turn_at_statement}
-use Rattle.own_listing_laws.proofs.Pace.{IsLike, WaitsAt, KeepsPace, IsRightly, rightly_more, rightly_not_wrong, Lands, lands_more, IsFoundRight, IsDue, closes_right, RefusesMove}
+use Rattle.own_listing_laws.proofs.Pace.{IsLike, WaitsAt, KeepsPace, IsRightly, rightly_more, rightly_not_wrong, Lands, lands_more, IsFoundRight, IsDue}
+use Rattle.own_listing_laws.proofs.Pace.{closes_right, RefusesMove}
 use Rattle.walk_definitions.specs.Words.{max_count}
 use Rattle.own_listing_laws.proofs.Counted.{AreSmall, MovesSmall, program_small, statement_at}
 use Rattle.own_listing_laws.proofs.Paced.{default_limits, verb_matched}

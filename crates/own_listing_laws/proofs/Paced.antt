@@ -18,7 +18,8 @@ use Rattle.control_definitions.specs.declared.NumberCell.{NumberCell}
 use Rattle.control_definitions.specs.declared.NumberCell.TheVariants.{Xparam, Xparmax}
 use Rattle.control_definitions.specs.declared.Demand.{Demand}
 use Rattle.control_definitions.specs.declared.Demand.TheVariants.{Xdonfs, Xdounb}
-use Rattle.control_definitions.specs.Program.{SetupOptions, Verb, Initialz, Title, MoveName, MoveNumber, MoveLimit, Mvadr, Goto, Convert, Setup, Primal, Dual, Revise, Ranging, Paraobj, Pararhs, Solution as SolutionVerb, Bcdout, Punch, Insert, Exit}
+use Rattle.control_definitions.specs.Program.{SetupOptions, Verb, Initialz, Title, MoveName, MoveNumber, MoveLimit, Mvadr, Goto, Convert, Setup, Primal, Dual}
+use Rattle.control_definitions.specs.Program.{Revise, Ranging, Paraobj, Pararhs, Solution as SolutionVerb, Bcdout, Punch, Insert, Exit}
 use Rattle.std.specs.Option.{IfSome}
 use Rattle.control_definitions.specs.Cells.{Cells, move_name, move_number, steps_allowed, set_demand, default_cells, move_limit}
 use Rattle.selection_definitions.specs.Selection.{selected}
@@ -32,7 +33,8 @@ use Rattle.listing_definitions.specs.Ending.{Ended}
 use Rattle.question_definitions.specs.Answers.{Basis, Changing, changing_name, ParametricRun}
 use Rattle.run_definitions.specs.State.{Present, present_basis, State, problem_of, choice_of}
 use Rattle.run_definitions.specs.Moves.{Gain, Nothing, Prints, Punches, Goes, Does}
-use Rattle.run_definitions.specs.Verbs.{size_of, files, not_less, change_row, change_set, mark_after, if_optimal, solves, shows, ranges, parametric_runs, converts, revises, sets_up, punches, punches_basis, inserts, verb_move}
+use Rattle.run_definitions.specs.Verbs.{size_of, files, not_less, change_row, change_set, mark_after, if_optimal, solves, shows, ranges, parametric_runs}
+use Rattle.run_definitions.specs.Verbs.{converts, revises, sets_up, punches, punches_basis, inserts, verb_move}
 use Rattle.run_definitions.specs.Run.{counted}
 use Rattle.soundness_laws.specs.Truth.{IsOfProblem, named_by}
 use Rattle.soundness_laws.proofs.ChangeRow.{changes_freely, row_named, set_named}
@@ -43,7 +45,8 @@ use Rattle.walk_definitions.specs.Checkers.{Checker}
 use Rattle.walk_definitions.specs.Walker.{Pending, Walker}
 use Rattle.own_listing_laws.specs.Laws.{EndsBest}
 use Rattle.own_listing_laws.proofs.Suiting.{SuitsRuns}
-use Rattle.own_listing_laws.proofs.Pace.{rebased, IsLike, WaitsFor, WaitsAt, IsMatched, IsFollowed, does, does_stop, prints_looks, punches_looks, waits_on, unless_fault, unless_no_setup, unless_deck_fault, unless_selection_fault, selecting}
+use Rattle.own_listing_laws.proofs.Pace.{rebased, IsLike, WaitsFor, WaitsAt, IsMatched, IsFollowed, does, does_stop, prints_looks, punches_looks, waits_on}
+use Rattle.own_listing_laws.proofs.Pace.{unless_fault, unless_no_setup, unless_deck_fault, unless_selection_fault, selecting}
 use Rattle.own_listing_laws.proofs.Paths.{IsPathSolver, path_followed}
 use Rattle.own_listing_laws.proofs.Views.{reported_followed}
 use Rattle.own_listing_laws.proofs.Openly.{ranges_followed, punch_followed, install_followed}

@@ -17,7 +17,8 @@ use Rattle.sensitivity_laws.proofs.MovedLimits.{fixed_at}
 use Rattle.simplex_definitions.specs.Moves.{blocking_variable}
 use Rattle.simplex_definitions.specs.Path.{listed}
 use Rattle.simplex_definitions.specs.DualRatio.{cheapest}
-use Rattle.simplex_definitions.specs.Chain.{Part, along, ChainEnd as PastBreakpoint, AtMax, UnboundedPast as PastUnbounded, InfeasiblePast as PastInfeasible, FaceTurn, FaceEnds, IsPart}
+use Rattle.simplex_definitions.specs.Chain.{Part, along, ChainEnd as PastBreakpoint, AtMax, UnboundedPast as PastUnbounded, InfeasiblePast as PastInfeasible}
+use Rattle.simplex_definitions.specs.Chain.{FaceTurn, FaceEnds, IsPart}
 use Rattle.simplex_definitions.specs.ObjectiveRun.{face_entering_variable, face_until, face_by, objective_face}
 use Rattle.simplex_definitions.specs.RhsRun.{leaves_below, leaving, face_exchange, face_at, rhs_face}
 use Rattle.problem_definitions.specs.Problem.{Problem}
@@ -30,7 +31,8 @@ use Rattle.parametric_laws.specs.Truth.{IsTruePart, IsTrueEnd}
 use Rattle.parametric_laws.proofs.OneRhs.{lawful_rhs}
 use Rattle.walk_definitions.specs.Checkers.{Checker}
 use Rattle.walk_definitions.specs.Tables.{column_of, multipliers}
-use Rattle.walk_definitions.specs.Tests.{asked, making_steps, along_steps, keeping_steps, end_test, part_test, interval_test, unbounded_past, infeasible_past, past_test, close_test}
+use Rattle.walk_definitions.specs.Tests.{asked, making_steps, along_steps, keeping_steps, end_test, part_test, interval_test, unbounded_past, infeasible_past}
+use Rattle.walk_definitions.specs.Tests.{past_test, close_test}
 use Rattle.own_listing_laws.proofs.Columns.{column_is, listed_again, numbers_of_ray}
 use Rattle.own_listing_laws.proofs.Tests.{Passes, pass_none, pass_then, passes_same, pass_steps, passes_asked}
 use Rattle.own_listing_laws.proofs.Openings.{making_holds, lawful_of}

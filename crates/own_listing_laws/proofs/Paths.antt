@@ -49,7 +49,8 @@ use Rattle.own_listing_laws.proofs.Ended.{IsOf, claim_steps, end_holds, end_is, 
 use Rattle.own_listing_laws.proofs.Suiting.{SuitsRuns, CanRefuse}
 use Rattle.own_listing_laws.proofs.Tests.{Passes, verdict_passes, verdict_never_fails}
 use Rattle.own_listing_laws.proofs.Stops.{open_limit, open_price}
-use Rattle.own_listing_laws.proofs.Pace.{rebased, WaitsFor, WaitsAt, Lands, IsDue, AreAlike, WaitsAfter, follows_lands, RefusesTest, IsFollowed, may_stop, asked_lands, never_stopped}
+use Rattle.own_listing_laws.proofs.Pace.{rebased, WaitsFor, WaitsAt, Lands, IsDue, AreAlike, WaitsAfter, follows_lands, RefusesTest, IsFollowed, may_stop}
+use Rattle.own_listing_laws.proofs.Pace.{asked_lands, never_stopped}
 
 -- ---- a test that passes
 
@@ -320,4 +321,5 @@ module _ (C : Checker) (suits : SuitsRuns C) (w : Walker) (s : State) (opening :
           absurd (never_stopped C w card question sheet (present_basis set_up) (present_basis present) go own none
           (ap is_open_stop (given.text ∙ given.ends)
           ∙ open_price _ small
-          (wrong_variable sheet (present_basis present) few solver path limit j (knows_linear_programming.solves solver sheet (present_basis present) limit (PricesWrong j) right))))
+          (wrong_variable sheet (present_basis present) few solver path limit j (knows_linear_programming.solves solver sheet (present_basis present) limit
+          (PricesWrong j) right))))

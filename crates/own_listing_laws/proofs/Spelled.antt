@@ -1,5 +1,6 @@
 -- What was written is read back: a text, a word, a number, a check.
-use Rattle.std.proofs.Common.{◌≡◌, ℕ, ◌≤◌, true, not, ◌&&◌, List, [], ◌∷◌, ◌++◌, Option, Some, None, codes, drop, length, if◌then◌else◌, refl, ap, ap₂, ◌∙◌, arith, append_assoc, append-nil, le-leb}
+use Rattle.std.proofs.Common.{◌≡◌, ℕ, ◌≤◌, true, not, ◌&&◌, List, [], ◌∷◌, ◌++◌, Option, Some, None, codes, drop, length, if◌then◌else◌, refl, ap, ap₂, ◌∙◌}
+use Rattle.std.proofs.Common.{arith, append_assoc, append-nil, le-leb}
 use Rattle.std.specs.Prelude.{option_and_then, bytes_eq, nat_le}
 use Rattle.std.specs.List.{list_all}
 use Rattle.std.specs.Option.{option_or}

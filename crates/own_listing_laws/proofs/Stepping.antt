@@ -1,7 +1,8 @@
 -- A step of an attestable run, and the turn of the walk that stands where the run does.
 --     StandsAt w objective s more  the walk stands where the run does
 --     GoesOn turn ..               and so it does after the turn
-use Rattle.std.proofs.Common.{◌≡◌, ◌⊎◌, inl, inr, ℕ, ◌+◌, ◌-◌, ◌<◌, false, List, [], ◌++◌, length, Option, Some, None, Result, Ok, refl, sym, ap, subst, ◌∙◌, arith, lt-ltb, le-ltb}
+use Rattle.std.proofs.Common.{◌≡◌, ◌⊎◌, inl, inr, ℕ, ◌+◌, ◌-◌, ◌<◌, false, List, [], ◌++◌, length, Option, Some, None, Result, Ok, refl, sym, ap, subst, ◌∙◌}
+use Rattle.std.proofs.Common.{arith, lt-ltb, le-ltb}
 use Rattle.std.specs.Prelude.{is_none, slice_get, nat_lt}
 use Rattle.std.proofs.lemmas.Option.{slice_get_within, same_Some}
 use Rattle.exact_values.specs.Rational.{ℚ}
@@ -21,13 +22,16 @@ use Rattle.question_definitions.specs.Answers.{Basis, Sheet, OfPath, OfSolution,
 use Rattle.question_definitions.specs.Solving.{Solving}
 use Rattle.answer_definitions.specs.Real.{linear_programming}
 use Rattle.run_definitions.specs.State.{Present, present_basis, gone_through, State, choice_of}
-use Rattle.run_definitions.specs.Moves.{Gain, Prints, printed_by, gain_text, gain_of, StatementOutcome, Goes, Ends, next, InSelection, MayStop, DecidesAlone, or_fault}
-use Rattle.run_definitions.specs.Verbs.{or_selection_fault, selects_present, shows_present, asks, solves, shows, mark_of, demanded, by_verdict, after_path, verb_move}
+use Rattle.run_definitions.specs.Moves.{Gain, Prints, printed_by, gain_text, gain_of, StatementOutcome, Goes, Ends, next, InSelection, MayStop, DecidesAlone}
+use Rattle.run_definitions.specs.Moves.{or_fault}
+use Rattle.run_definitions.specs.Verbs.{or_selection_fault, selects_present, shows_present, asks, solves, shows, mark_of, demanded, by_verdict, after_path}
+use Rattle.run_definitions.specs.Verbs.{verb_move}
 use Rattle.run_definitions.specs.Run.{max_executed, counted, Step, IsOver, at_end, at_limit}
 use Rattle.walk_definitions.specs.Checkers.{Checker, checker_of_128_bits}
 use Rattle.walk_definitions.specs.Forms.{is_open_stop}
 use Rattle.walk_definitions.specs.Tables.{begins_table_line}
-use Rattle.walk_definitions.specs.Walker.{Pending, Walker, Attested, WalkTurn, Walks, Finds, closes, follows, passed, pending_after, refuses_selection, walk_move, turn}
+use Rattle.walk_definitions.specs.Walker.{Pending, Walker, Attested, WalkTurn, Walks, Finds, closes, follows, passed, pending_after, refuses_selection}
+use Rattle.walk_definitions.specs.Walker.{walk_move, turn}
 use Rattle.own_listing_laws.specs.Laws.{KeepsMark}
 use Rattle.own_listing_laws.specs.Attestable.{sheet_of, IsSolving, by_primal, by_dual, to_show, AsksNothing, FindsChecked, ShowsChecked}
 use Rattle.own_listing_laws.proofs.Pace.{rebased}

@@ -1,5 +1,6 @@
 -- Stop texts and reports that can't be attested are known as such.
-use Rattle.std.proofs.Common.{◌≡◌, ℕ, ◌≤◌, Bool, true, false, ◌||◌, List, [], ◌∷◌, ◌++◌, Some, None, codes, drop, length, if◌then◌else◌, refl, ap, ◌∙◌, append_assoc, append-nil}
+use Rattle.std.proofs.Common.{◌≡◌, ℕ, ◌≤◌, Bool, true, false, ◌||◌, List, [], ◌∷◌, ◌++◌, Some, None, codes, drop, length, if◌then◌else◌, refl, ap, ◌∙◌}
+use Rattle.std.proofs.Common.{append_assoc, append-nil}
 use Rattle.std.specs.Prelude.{option_and_then, is_some}
 use Rattle.std.specs.List.{list_any}
 use Rattle.exact_values.specs.Rational.{ℚ}
@@ -12,7 +13,8 @@ use Rattle.listing_definitions.specs.Ending.{Overflow, LimitReached, SingularBas
 use Rattle.listing_definitions.specs.Text.{operation_text, name8, table_text, report_text}
 use Rattle.listing_definitions.specs.Listing.{ending_text, basis_text, way_text}
 use Rattle.walk_definitions.specs.Words.{ends_word, word_in, max_count}
-use Rattle.walk_definitions.specs.Forms.{Piece, Text, Count, Fraction, Operation, is_of, left_by, has_form, limit_stop, read_fault, punch_fault, memory_stop, singular_stop, price_stop, overflow_stop, is_open_stop, is_ranges, is_punched, is_inserted, counted_line}
+use Rattle.walk_definitions.specs.Forms.{Piece, Text, Count, Fraction, Operation, is_of, left_by, has_form, limit_stop, read_fault, punch_fault, memory_stop}
+use Rattle.walk_definitions.specs.Forms.{singular_stop, price_stop, overflow_stop, is_open_stop, is_ranges, is_punched, is_inserted, counted_line}
 use Rattle.walk_definitions.proofs.Texts.{stands, drop_text}
 use Rattle.walk_definitions.proofs.Numbers.{fraction_of_text}
 use Rattle.fitting_answers.specs.Fitting.{EvidenceFits}

@@ -1,7 +1,8 @@
 -- Table lines and tables are read back.
 --     AllMatch slots values        each value is one that its slot takes
 --     AreMatched slots values ks   so it is in the lines of these variables
-use Rattle.std.proofs.Common.{◌≡◌, ℕ, zero, suc, ◌+◌, ◌-◌, ◌<◌, Bool, true, false, not, ◌&&◌, List, [], ◌∷◌, ◌++◌, filter, replicate, length, drop, Option, Some, None, codes, cond, if◌then◌else◌, refl, sym, ap, ap₂, ◌∙◌, arith, append_assoc}
+use Rattle.std.proofs.Common.{◌≡◌, ℕ, zero, suc, ◌+◌, ◌-◌, ◌<◌, Bool, true, false, not, ◌&&◌, List, [], ◌∷◌, ◌++◌, filter, replicate, length, drop, Option}
+use Rattle.std.proofs.Common.{Some, None, codes, cond, if◌then◌else◌, refl, sym, ap, ap₂, ◌∙◌, arith, append_assoc}
 use Rattle.std.specs.Prelude.{option_map, option_and_then}
 use Rattle.std.specs.List.{list_all, list_any, prefix_len}
 use Rattle.std.proofs.lemmas.Slice.Eq.{bytes_eq-Decides}
@@ -24,7 +25,8 @@ use Rattle.answer_definitions.specs.Lines.{name_of, lines_of}
 use Rattle.listing_laws.proofs.Cutting.{weaker, heads, cut}
 use Rattle.listing_laws.proofs.Digits.{digits_are, digit_there, digits_tell}
 use Rattle.walk_definitions.specs.Words.{left_after, ends_word, with_word}
-use Rattle.walk_definitions.specs.Tables.{Slot, AnyCode, AnyNumber, Known, all_codes, value_in, slot_in, then_more, values_in, begins, begins_table_line, line_head, line_of, line_in, table_in, multiplier_in, ray_in}
+use Rattle.walk_definitions.specs.Tables.{Slot, AnyCode, AnyNumber, Known, all_codes, value_in, slot_in, then_more, values_in, begins, begins_table_line}
+use Rattle.walk_definitions.specs.Tables.{line_head, line_of, line_in, table_in, multiplier_in, ray_in}
 use Rattle.walk_definitions.proofs.Texts.{stands, is_text}
 use Rattle.walk_definitions.proofs.Lines.{whole_line}
 use Rattle.fitting_answers.specs.Fitting.{ValuesFit, LinesFit}

@@ -1,7 +1,8 @@
 -- A test of what a run prints never fails: what it prints is true, and in numbers of 128 bits the run has made the same check.
 --     Passes C v                   no comparison fails, and if an operation is refused, the checker's arithmetic refuses it
 --     verdict_passes, reported_passes    those of a verdict and of SOLUTION
-use Rattle.std.proofs.Common.{◌≡◌, ◌⊎◌, inl, inr, ℕ, zero, suc, ◌+◌, ◌-◌, ◌<◌, ◌≤◌, Bool, true, false, List, [], ◌∷◌, ◌++◌, Some, refl, sym, ap, ap₂, subst, ◌∙◌, arith}
+use Rattle.std.proofs.Common.{◌≡◌, ◌⊎◌, inl, inr, ℕ, zero, suc, ◌+◌, ◌-◌, ◌<◌, ◌≤◌, Bool, true, false, List, [], ◌∷◌, ◌++◌, Some, refl, sym, ap, ap₂, subst}
+use Rattle.std.proofs.Common.{◌∙◌, arith}
 use Rattle.std.specs.Prelude.{if◌then◌else◌}
 use Rattle.std.specs.List.{flat_map}
 use Rattle.frac128.specs.declared.Op.{Op}
@@ -21,7 +22,8 @@ use Rattle.lp_laws.proofs.Optimal.{price_of_column}
 use Rattle.check_definitions.specs.declared.Verdict.{Verdict}
 use Rattle.check_definitions.specs.declared.Verdict.TheVariants.{Checked, Failed, Unchecked}
 use Rattle.check_definitions.specs.Steps.{Step, operation, comparison, AllHold, verdict_of, followed_by, in_turn}
-use Rattle.check_definitions.specs.Checks.{equations, within_limits, feasible_point, reduced_costs, standing_prices, optimal_steps, crossed_steps, infeasible_steps, unbounded_steps, optimal_check, crossed_check, infeasible_check, unbounded_check}
+use Rattle.check_definitions.specs.Checks.{equations, within_limits, feasible_point, reduced_costs, standing_prices, optimal_steps, crossed_steps}
+use Rattle.check_definitions.specs.Checks.{infeasible_steps, unbounded_steps, optimal_check, crossed_check, infeasible_check, unbounded_check}
 use Rattle.check_definitions.proofs.Passing.{verdict-append, checked-append}
 use Rattle.certificate_laws.specs.Parts.{AreReducedCosts}
 use Rattle.certificate_laws.proofs.Truth.{all_hold, equations_hold, costs_hold, optimal_holds}

@@ -1,7 +1,8 @@
 -- A whole run in which nothing is open is attested by the checker of any length.
 --     TurnsTo w ..                 what a turn of the walk comes to, where the run comes to this
 --     IsLasting program s          what is known of a state to which a run comes that makes each selection
-use Rattle.std.proofs.Common.{◌≡◌, ◌≤◌, ◌⊎◌, inl, inr, ℕ, ◌+◌, Bool, true, false, List, [], ◌∷◌, ◌++◌, length, Option, Some, None, Result, Ok, if◌then◌else◌, refl, sym, ap, subst, ◌∙◌}
+use Rattle.std.proofs.Common.{◌≡◌, ◌≤◌, ◌⊎◌, inl, inr, ℕ, ◌+◌, Bool, true, false, List, [], ◌∷◌, ◌++◌, length, Option, Some, None, Result, Ok, if◌then◌else◌}
+use Rattle.std.proofs.Common.{refl, sym, ap, subst, ◌∙◌}
 use Rattle.std.specs.Prelude.{is_none, option_and_then}
 use Rattle.exact_values.specs.Rational.{ℚ}
 use Rattle.lp_definitions.specs.LinearProgram.{LinearProgram, IsLinearProgram}
@@ -17,12 +18,16 @@ use Rattle.listing_definitions.specs.declared.Mark.{Mark}
 use Rattle.listing_definitions.specs.declared.Mark.TheVariants.{Optimal, Infeasible, Unbounded}
 use Rattle.listing_definitions.specs.declared.Solver.{Solver}
 use Rattle.listing_definitions.specs.declared.VerbFault.{VerbFault}
-use Rattle.listing_definitions.specs.Report.{PathVerdict, OptimalAt, CrossedAt, InfeasibleBy, UnboundedBy, Check, SolutionLines, Report, Solved, Solution, Parametric}
+use Rattle.listing_definitions.specs.Report.{PathVerdict, OptimalAt, CrossedAt, InfeasibleBy, UnboundedBy, Check, SolutionLines, Report, Solved, Solution}
+use Rattle.listing_definitions.specs.Report.{Parametric}
 use Rattle.listing_definitions.specs.Listing.{ending_text}
-use Rattle.question_definitions.specs.Answers.{Sheet, Changing, parametric_solver, ParametricRun, OfPath, OfSolution, OfParametricRun, PathEnd, Reached, ParametricRunEnd, Opening, Chained}
+use Rattle.question_definitions.specs.Answers.{Sheet, Changing, parametric_solver, ParametricRun, OfPath, OfSolution, OfParametricRun, PathEnd, Reached}
+use Rattle.question_definitions.specs.Answers.{ParametricRunEnd, Opening, Chained}
 use Rattle.run_definitions.specs.State.{Present, present_basis, gone_through, State, choice_of}
-use Rattle.run_definitions.specs.Moves.{Gain, Prints, printed_by, gain_text, gain_of, StatementOutcome, Goes, Ends, next, InSelection, StatementMove, MayStop, DecidesAlone, or_fault}
-use Rattle.run_definitions.specs.Verbs.{or_selection_fault, selects_present, not_less, mark_of, asks, after_path, after_parametric_run, parametric_runs, verb_move}
+use Rattle.run_definitions.specs.Moves.{Gain, Prints, printed_by, gain_text, gain_of, StatementOutcome, Goes, Ends, next, InSelection, StatementMove, MayStop}
+use Rattle.run_definitions.specs.Moves.{DecidesAlone, or_fault}
+use Rattle.run_definitions.specs.Verbs.{or_selection_fault, selects_present, not_less, mark_of, asks, after_path, after_parametric_run, parametric_runs}
+use Rattle.run_definitions.specs.Verbs.{verb_move}
 use Rattle.run_definitions.specs.Run.{counted, Step}
 use Rattle.soundness_laws.specs.Truth.{IsOfProblem}
 use Rattle.soundness_laws.specs.ParametricRuns.{ChangesFreely}
@@ -32,7 +37,8 @@ use Rattle.walk_definitions.specs.Forms.{is_open_stop}
 use Rattle.walk_definitions.specs.Words.{max_count}
 use Rattle.walk_definitions.specs.Tests.{point_of}
 use Rattle.walk_definitions.specs.Reading.{Right, judged}
-use Rattle.walk_definitions.specs.Walker.{Pending, Walker, Wrong, WalkTurn, Finds, open_if, follows, passed, pending_after, noted, settles, settled, settling, refuses_selection, walk_move, turn}
+use Rattle.walk_definitions.specs.Walker.{Pending, Walker, Wrong, WalkTurn, Finds, open_if, follows, passed, pending_after, noted, settles, settled, settling}
+use Rattle.walk_definitions.specs.Walker.{refuses_selection, walk_move, turn}
 use Rattle.fitting_answers.specs.Real.{linear_programming_of_128_bits}
 use Rattle.own_listing_laws.specs.Laws.{KeepsMark, chain_of}
 use Rattle.own_listing_laws.specs.Attestable.{sheet_of}
@@ -45,7 +51,8 @@ use Rattle.own_listing_laws.proofs.Rightly.{judged_right_at_any_length}
 use Rattle.own_listing_laws.proofs.Alike.{IsRebased, AreAlike}
 use Rattle.own_listing_laws.proofs.Onward.{asked, path_unopened, walks_on}
 use Rattle.own_listing_laws.proofs.Stepping.{step_turn, statement_turn, verdict_alike, solves_selected, shows_selected, solving_is, showing_is}
-use Rattle.own_listing_laws.proofs.Came.{IsStuck, IsQuiet, IsQuietGain, quiet_shows, IsChanging, of_objective, of_rhs, ComesOfPath, ComesOfSolution, BeginsRun, run_of, ComesOfOpening, ComesOfRun, ComesOpen, Came, alone, of_path, of_solution, of_opening, of_run, opens, stops_so}
+use Rattle.own_listing_laws.proofs.Came.{IsStuck, IsQuiet, IsQuietGain, quiet_shows, IsChanging, of_objective, of_rhs, ComesOfPath, ComesOfSolution, BeginsRun}
+use Rattle.own_listing_laws.proofs.Came.{run_of, ComesOfOpening, ComesOfRun, ComesOpen, Came, alone, of_path, of_solution, of_opening, of_run, opens, stops_so}
 
 -- ---- what waits
 

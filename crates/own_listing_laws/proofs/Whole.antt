@@ -16,8 +16,10 @@ use Rattle.run_definitions.specs.Answer.{job_decks, IsJobRun, card_fault, contro
 use Rattle.walk_definitions.specs.Checkers.{checker_of_128_bits}
 use Rattle.walk_definitions.specs.Forms.{is_open_stop}
 use Rattle.walk_definitions.specs.Walker.{Walker, Attested, Finds, closes, turn}
-use Rattle.walk_definitions.specs.Found.{first_walker, Reaches as Walked, begun as not_begun, walked, EndsIn, of_cards as ends_by_cards, of_control as ends_by_control, of_walk}
-use Rattle.own_listing_laws.specs.Attestable.{to_show, IsAttestable, over, does, stops, finds, finds_last, shows, IsAttestableRun, of_cards, of_control, of_program, ComesAttested}
+use Rattle.walk_definitions.specs.Found.{first_walker, Reaches as Walked, begun as not_begun, walked, EndsIn, of_cards as ends_by_cards}
+use Rattle.walk_definitions.specs.Found.{of_control as ends_by_control, of_walk}
+use Rattle.own_listing_laws.specs.Attestable.{to_show, IsAttestable, over, does, stops, finds, finds_last, shows, IsAttestableRun, of_cards, of_control}
+use Rattle.own_listing_laws.specs.Attestable.{of_program, ComesAttested}
 use Rattle.own_listing_laws.proofs.Own.{ending_plain, listing_plain}
 use Rattle.own_listing_laws.proofs.Onward.{walks_on}
 use Rattle.own_listing_laws.proofs.Stepping.{StandsAt, over_found, statement_goes, statement_ends, verdict_goes, verdict_ends, solution_goes}

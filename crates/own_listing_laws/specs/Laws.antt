@@ -24,7 +24,8 @@ use Rattle.listing_definitions.specs.Report.{PathVerdict, OptimalAt, Check, Chec
 use Rattle.listing_definitions.specs.Text.{report_text, verdict_text, solution_text, interval_text, chain_end_text, chain_text}
 use Rattle.listing_definitions.specs.Ending.{Ending}
 use Rattle.listing_definitions.specs.Listing.{ending_text, listing}
-use Rattle.question_definitions.specs.Answers.{PathEnd, Basis, Sheet, changing_name, parametric_solver, ParametricRun, OfPath, OfSolution, OfParametricRun, Reached}
+use Rattle.question_definitions.specs.Answers.{PathEnd, Basis, Sheet, changing_name, parametric_solver, ParametricRun, OfPath, OfSolution, OfParametricRun}
+use Rattle.question_definitions.specs.Answers.{Reached}
 use Rattle.answer_definitions.specs.Verdicts.{IsSolvedBy}
 use Rattle.answer_definitions.specs.Sections.{IsSolutionOf, solution_lines}
 use Rattle.answer_definitions.specs.ParametricRuns.{interval_of, IsChained}

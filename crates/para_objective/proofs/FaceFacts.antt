@@ -120,7 +120,8 @@ module _ (p : LinearProgram) (h : ℕ) (lawful : IsLinearProgram p) (row : IsRow
       some_stops by (Some k) e = (k, refl, cc)
 
       -- nothing stops q
-      pub face_ends : None ≡ blocking_variable_of p z d up → (zs : List ℚ) → length zs ≡ size p.matrix → ((k : ℕ) → IsVariable p.matrix k → value_at zs k ≡ z k) →
+      pub face_ends : None ≡ blocking_variable_of p z d up → (zs : List ℚ) → length zs ≡ size p.matrix → ((k : ℕ) → IsVariable p.matrix k → value_at zs k
+          ≡ z k) →
           (end : ParaEnd) → IsUnboundedPast p theta zs d up end →
           IsObjectiveFace p h theta s (FaceEnds (end_of end))
       face_ends none zs zs_counted zs_are end is = (

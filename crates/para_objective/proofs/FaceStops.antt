@@ -30,7 +30,8 @@ module _ (p : LinearProgram) (h : ℕ) (no_change : p.change ≡ None) (theta : 
       IfOverflow why (TurnStops p s z q up ways now) →
       FaceStops (objective_family p h) (IsObjectiveFace p h) (Paraobj p h from) p.matrix theta s left ways now (primal_stop_of why)
   turn_stops q enters z up (stop.Overflow e) (by_direction r) = of_point p h from no_change s left ways now e (Some theta) r
-  turn_stops q enters z up (stop.Overflow e) (by_blocking_variable d direction r) = of_blocking_variable p h from no_change s left ways now e theta q enters z d up r
+  turn_stops q enters z up (stop.Overflow e) (by_blocking_variable d direction r) = of_blocking_variable p h from no_change s left ways now e theta q enters z
+      d up r
   turn_stops q enters z up stop.NoMemory r = tt
 
 -- ---- the program at a value can always be made: an overflow comes with evidence at a basis

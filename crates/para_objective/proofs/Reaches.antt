@@ -79,7 +79,11 @@ module _ (p : LinearProgram) (s : List Status) (h : ℕ) (lawful : IsLinearProgr
         nonsingular = basis.nonsingular;
         objective_row = lawful.objective_row;
         is_tableau =
-            record { is_point = record { keeps = optimal.is_tableau.is_point.keeps; placed = optimal.is_tableau.is_point.placed }; are_rates = optimal.is_tableau.are_rates };
+            record {
+              is_point = record { keeps = optimal.is_tableau.is_point.keeps; placed = optimal.is_tableau.is_point.placed };
+              are_rates =
+                  optimal.is_tableau.are_rates;
+            };
         feasible = record { keeps = optimal.feasible.keeps; within = optimal.feasible.within };
       }
 

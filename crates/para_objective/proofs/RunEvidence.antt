@@ -96,7 +96,8 @@ module _ (p : LinearProgram) (h : ℕ) (from : ℚ) (no_change : p.change ≡ No
 
   module _ (theta : ℚ) (q : ℕ) (enters : EntersAt (Paraobj p h from) (Some theta) s q) where
     -- the search for what stops q
-    pub of_blocking_variable : (z d : Vector) (up : Bool) → BlockingVariableRefused p s z d q up e → EvidenceHere (Paraobj p h from) p.matrix (Some theta) left s before now e
+    pub of_blocking_variable : (z d : Vector) (up : Bool) → BlockingVariableRefused p s z d q up e → EvidenceHere (Paraobj p h from) p.matrix (Some theta)
+        left s before now e
     of_blocking_variable z d up r =
         let bound : e.way ≤ 0 = r.stops.is_way in
         let no_way : e.way ≡ 0 = omega (arith, bound) in
@@ -119,7 +120,8 @@ module _ (p : LinearProgram) (h : ℕ) (from : ℚ) (no_change : p.change ≡ No
         (blocking_variable_belongs e.formula e.term r.of_call) (λ to. ⊥) (λ to none is. absurd none) wider
 
     -- the step of q by what stops it, with the basis that it leads to ahead
-    pub of_step : (by : BlockingVariable) → MovesAt (Paraobj p h from) (Some theta) s (move_by q by) → by.to ≢ Bs → 1 ≤ left → StepRefused p before s q by now e →
+    pub of_step : (by : BlockingVariable) → MovesAt (Paraobj p h from) (Some theta) s (move_by q by) → by.to ≢ Bs → 1 ≤ left → StepRefused p before s q by now
+        e →
         EvidenceHere (Paraobj p h from) p.matrix (Some theta) left s before now e
     of_step by moves apart one_left r =
         evidence_ahead p (Some (record { row = h; theta = e.theta })) (Paraobj p h from) s e refl (step_number e.formula e.term r.of_call) no_change

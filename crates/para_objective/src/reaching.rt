@@ -8,7 +8,8 @@ ghost use Rattle.basis_values.specs.Formulas.{IsRefusal};
 ghost use Rattle.simplex_laws.specs.Laws.{IsNonsingularBasis};
 ghost use Rattle.parametric_run.specs.Standing.{IsWorkspaceOf};
 ghost use Rattle.para_objective.specs.Method.{objective_problem, FitsObjective};
-ghost use Rattle.para_objective.specs.Reach.{rate_formula, zero_at, meets, IsLeast, IsWithRate, IsReachOf, IsReachAbove, IsReachFromAny, RateRefused, EndRefused};
+ghost use Rattle.para_objective.specs.Reach.{rate_formula, zero_at, meets, IsLeast, IsWithRate, IsReachOf, IsReachAbove, IsReachFromAny, RateRefused};
+ghost use Rattle.para_objective.specs.Reach.{EndRefused};
 
 use crate::choices::worth;
 use crate::method::Objective;

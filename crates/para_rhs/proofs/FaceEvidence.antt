@@ -78,7 +78,8 @@ module _ (p : LinearProgram) (shift : List ℚ) (lawful : IsLinearProgram p) (no
       (pivot d direction) h
 
   -- the step of q, with the basis that it leads to ahead
-  pub of_step : (q : ℕ) (by : BlockingVariable) → IsRhsFace p shift theta s (FaceMoves (move_by q by)) → by.to ≢ Bs → 1 ≤ left → StepRefused p before s q by now e →
+  pub of_step : (q : ℕ) (by : BlockingVariable) → IsRhsFace p shift theta s (FaceMoves (move_by q by)) → by.to ≢ Bs → 1 ≤ left → StepRefused p before s q by
+      now e →
       EvidenceHere (Pararhs p shift from) p.matrix (Some theta) left s before now e
   of_step q by moves apart one_left h = own.of_step p (Pararhs p shift from) (Some theta) s statement_own left before now e q by moves apart one_left h
 

@@ -8,7 +8,8 @@ use Rattle.exact_values.proofs.TestsLaws.{same_from_test, le_from_test}
 use Rattle.sensitivity_laws.specs.Changes.{ChangeIsRow, HasRows, IsRightTableau}
 use Rattle.sensitivity_laws.proofs.Tableaus.{by_tableau}
 use Rattle.simplex_definitions.specs.Formulas.{limit_numbered, number_of_limit}
-use Rattle.lp_definitions.specs.Basis.{is_in, basics_of, IsBasic, IsNonbasic, IsDirectionOf, ArePricesOf, StandsAt, IsOptimalBasis, IsPointOf, Tableau, IsTableau}
+use Rattle.lp_definitions.specs.Basis.{is_in, basics_of, IsBasic, IsNonbasic, IsDirectionOf, ArePricesOf, StandsAt, IsOptimalBasis, IsPointOf, Tableau}
+use Rattle.lp_definitions.specs.Basis.{IsTableau}
 use Rattle.lp_definitions.specs.LinearProgram.{LinearProgram, Vector, size, value_at, IsVariable, IsLinearProgram, lower_of, upper_of}
 use Rattle.lp_definitions.specs.declared.Change.{Change}
 use Rattle.lp_definitions.specs.declared.Status.{Status}

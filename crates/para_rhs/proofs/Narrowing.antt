@@ -19,7 +19,8 @@ use Rattle.basis_values.specs.Formulas.{IsRefusal}
 use Rattle.frac128.specs.declared.Op.TheVariants.{Sub, Div}
 use Rattle.simplex_definitions.specs.RhsRun.{shift_of}
 use Rattle.para_rhs.specs.Limits.{limit_on, number_of}
-use Rattle.para_rhs.specs.Reach.{side_ahead, bound_of, limit_sides, StaysTo, IsNarrowed, IsReachOf, basic_formula, VariableRefused, of_closing, of_distance, of_quotient, SomeVariableRefused}
+use Rattle.para_rhs.specs.Reach.{side_ahead, bound_of, limit_sides, StaysTo, IsNarrowed, IsReachOf, basic_formula, VariableRefused, of_closing, of_distance}
+use Rattle.para_rhs.specs.Reach.{of_quotient, SomeVariableRefused}
 use Rattle.para_rhs.specs.declared.limits.Side.{Side}
 use Rattle.para_rhs.specs.declared.limits.Side.TheVariants.{Lower, Upper}
 

@@ -6,7 +6,8 @@ use Rattle.frac128.specs.declared.Op.{Op}
 use Rattle.lp_definitions.specs.LinearProgram.{LinearProgram, Matrix, Vector, IsLinearProgram}
 use Rattle.lp_definitions.specs.Basis.{Basics, basics_of, Tableau}
 use Rattle.lp_definitions.specs.Waypoints.{waypoint}
-use Rattle.lp_definitions.specs.RatesEvidence.{Names, Refuses, ExchangeFormula, f1, f2, f3, f4, f5, EntryFormula, f11_product, f11_sum, CarriedFormula, f12_product, f12_sum, f12_quotient}
+use Rattle.lp_definitions.specs.RatesEvidence.{Names, Refuses, ExchangeFormula, f1, f2, f3, f4, f5, EntryFormula, f11_product, f11_sum, CarriedFormula}
+use Rattle.lp_definitions.specs.RatesEvidence.{f12_product, f12_sum, f12_quotient}
 use Rattle.lp_definitions.specs.declared.Change.{Change}
 use Rattle.lp_definitions.specs.declared.Evidence.{Evidence}
 use Rattle.lp_definitions.specs.declared.Status.{Status}
@@ -16,8 +17,11 @@ use Rattle.lp_model.specs.declared.Stop.TheVariants as stop
 use Rattle.lp_laws.proofs.Values.{clash}
 use Rattle.simplex_definitions.specs.Chain.{InOpening, begins}
 use Rattle.simplex_definitions.specs.Statements.{Primal, Pararhs, is_between, shift_at}
-use Rattle.simplex_definitions.specs.Formulas.{PointFormula, f6, f7, f10_product, f10_sum, SlackFormula, f6_slack, MoveFormula, f8, f9, RatioFormula, f14, RangeFormula, f15_limit, f15_nonbasic, f15_basic, ObjectiveFormula, f16, f17_product, f17_sum, SlopeFormula, f18_product, f18_sum, f18_difference, f18_quotient}
-use Rattle.simplex_definitions.specs.Evidence.{Formula, by_exchange, by_entry, by_carried, by_point, by_slack, by_move, by_ratio, by_range, by_objective, by_slope, ShowsRefusal, GoesTo, IsAhead, with_ahead, EvidenceHolds, ShiftHolds}
+use Rattle.simplex_definitions.specs.Formulas.{PointFormula, f6, f7, f10_product, f10_sum, SlackFormula, f6_slack, MoveFormula, f8, f9, RatioFormula, f14}
+use Rattle.simplex_definitions.specs.Formulas.{RangeFormula, f15_limit, f15_nonbasic, f15_basic, ObjectiveFormula, f16, f17_product, f17_sum, SlopeFormula}
+use Rattle.simplex_definitions.specs.Formulas.{f18_product, f18_sum, f18_difference, f18_quotient}
+use Rattle.simplex_definitions.specs.Evidence.{Formula, by_exchange, by_entry, by_carried, by_point, by_slack, by_move, by_ratio, by_range, by_objective}
+use Rattle.simplex_definitions.specs.Evidence.{by_slope, ShowsRefusal, GoesTo, IsAhead, with_ahead, EvidenceHolds, ShiftHolds}
 use Rattle.basis_values.specs.Calls.{HasRates, job_of}
 use Rattle.bounded_primal.specs.Stops.{PrimalStopsAlong, primal_stop_of}
 use Rattle.bounded_primal.specs.declared.moves.PrimalStop.{PrimalStop}

@@ -3,7 +3,8 @@ use Rattle.std.proofs.Common.{◌≡◌, ℕ, ◌-◌, List, length, get_or, ref
 use Rattle.std.specs.Prelude.{Option, Some, None, option_map}
 use Rattle.std.proofs.lemmas.List.{length-map}
 use Rattle.exact_values.specs.Rational.{ℚ, zero_ℚ}
-use Rattle.lp_definitions.specs.LinearProgram.{Matrix, LinearProgram, Vector, size, IsRow, IsVariable, IsLinearProgram, HasNoLimits, ChangeIsFree, lower_of, upper_of}
+use Rattle.lp_definitions.specs.LinearProgram.{Matrix, LinearProgram, Vector, size, IsRow, IsVariable, IsLinearProgram, HasNoLimits, ChangeIsFree, lower_of}
+use Rattle.lp_definitions.specs.LinearProgram.{upper_of}
 use Rattle.lp_definitions.specs.Basis.{Basics, is_basic, status_of, IsAllowed, StandsAt, IsBasis, IsPointOf}
 use Rattle.lp_definitions.specs.declared.Change.{Change}
 use Rattle.lp_definitions.specs.declared.Status.{Status}

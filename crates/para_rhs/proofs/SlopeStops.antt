@@ -2,14 +2,18 @@
 use Rattle.std.proofs.Common.{◌≡◌, ℕ, List, [], ◌∷◌, Bool, true, false, cond, refl, sym, ap, subst, subst₂, ◌∙◌, arith}
 use Rattle.std.specs.Prelude.{Option, None, IsTrue, not, ◌||◌, ◌&&◌, nat_eq, Contains}
 use Rattle.exact_values.specs.Rational.{ℚ, zero_ℚ, ◌*ℚ◌}
-use Rattle.simplex_definitions.specs.Evidence.{Formula, by_exchange, by_entry, by_carried, by_point, by_slack, by_move, by_ratio, by_range, by_objective, by_slope, ShowsRefusal}
-use Rattle.simplex_definitions.specs.Formulas.{nonbasic_sum, PointFormula, f6, f7, f10_product, f10_sum, SlackFormula, f6_slack, RatioFormula, f14, RangeFormula, f15_limit, f15_nonbasic, f15_basic, ObjectiveFormula, f16, f17_product, f17_sum, SlopeFormula, f18_product, f18_sum, f18_difference, f18_quotient}
+use Rattle.simplex_definitions.specs.Evidence.{Formula, by_exchange, by_entry, by_carried, by_point, by_slack, by_move, by_ratio, by_range, by_objective}
+use Rattle.simplex_definitions.specs.Evidence.{by_slope, ShowsRefusal}
+use Rattle.simplex_definitions.specs.Formulas.{nonbasic_sum, PointFormula, f6, f7, f10_product, f10_sum, SlackFormula, f6_slack, RatioFormula, f14}
+use Rattle.simplex_definitions.specs.Formulas.{RangeFormula, f15_limit, f15_nonbasic, f15_basic, ObjectiveFormula, f16, f17_product, f17_sum, SlopeFormula}
+use Rattle.simplex_definitions.specs.Formulas.{f18_product, f18_sum, f18_difference, f18_quotient}
 use Rattle.simplex_definitions.specs.Statements.{Primal, Pararhs, is_between, thetas_of, change_row, shift_at}
 use Rattle.frac128.specs.declared.Op.{Op}
 use Rattle.frac128.specs.Operations.{refuses}
 use Rattle.lp_definitions.specs.Basis.{Basics, basics_of, exchanged, Tableau, IsTableau, IsNonbasic}
 use Rattle.lp_definitions.specs.LinearProgram.{LinearProgram, IsLinearProgram}
-use Rattle.lp_definitions.specs.RatesEvidence.{Names, Refuses, ExchangeFormula, f1, f2, f3, f4, f5, EntryFormula, f11_product, f11_sum, CarriedFormula, f12_product, f12_sum, f12_quotient}
+use Rattle.lp_definitions.specs.RatesEvidence.{Names, Refuses, ExchangeFormula, f1, f2, f3, f4, f5, EntryFormula, f11_product, f11_sum, CarriedFormula}
+use Rattle.lp_definitions.specs.RatesEvidence.{f12_product, f12_sum, f12_quotient}
 use Rattle.lp_definitions.specs.Waypoints.{waypoint}
 use Rattle.lp_definitions.specs.declared.Change.{Change}
 use Rattle.lp_definitions.specs.declared.Evidence.{Evidence}

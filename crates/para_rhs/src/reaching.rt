@@ -12,7 +12,8 @@ ghost use Rattle.basis_values.specs.Formulas.{IsRefusal};
 ghost use Rattle.parametric_run.specs.Standing.{IsWorkspaceOf};
 ghost use Rattle.para_rhs.specs.Limits.{number_of};
 ghost use Rattle.para_rhs.specs.Method.{rhs_problem, FitsRhs};
-ghost use Rattle.para_rhs.specs.Reach.{side_ahead, bound_of, IsApproachOf, limit_sides, IsNarrowed, high_of, IsReachOf, IsReachFromAny, basic_formula, VariableRefused, SomeVariableRefused};
+ghost use Rattle.para_rhs.specs.Reach.{side_ahead, bound_of, IsApproachOf, limit_sides, IsNarrowed, high_of, IsReachOf, IsReachFromAny, basic_formula};
+ghost use Rattle.para_rhs.specs.Reach.{VariableRefused, SomeVariableRefused};
 ghost use Rattle.para_rhs.specs.Refusals.{RunRefused};
 
 use crate::limits::{Side, is_upper, limit_on, number_of, shift_of};

@@ -10,7 +10,8 @@ use Rattle.exact_values.proofs.Order.{le_refl}
 use Rattle.exact_values.proofs.Ring.{same_by_one, by_ring4, by_ring5, ◌⊕◌, ◌⊖◌, ◌⊗◌, ◌≐◌, number}
 use Rattle.exact_values.proofs.TestsLaws.{lt_fails_from_le}
 use Rattle.lp_definitions.specs.LinearProgram.{LinearProgram, Vector, IsRow, IsVariable, IsLinearProgram, lower_of, upper_of, for_min}
-use Rattle.lp_definitions.specs.Basis.{is_in, basics_of, status_of, with_status, is_basic, exchanged, IsBasic, IsNonbasic, AreRates, IsOptimalBasis, Tableau, IsTableau, objective_rate}
+use Rattle.lp_definitions.specs.Basis.{is_in, basics_of, status_of, with_status, is_basic, exchanged, IsBasic, IsNonbasic, AreRates, IsOptimalBasis, Tableau}
+use Rattle.lp_definitions.specs.Basis.{IsTableau, objective_rate}
 use Rattle.lp_definitions.specs.declared.Status.{Status}
 use Rattle.lp_definitions.specs.declared.Status.TheVariants.{Bs, Ll, Ul}
 use Rattle.lp_laws.specs.Rates.{exchanged_rate}
@@ -92,7 +93,8 @@ module _ (p : LinearProgram) (h : ℕ) (lawful : IsLinearProgram p) (row : IsRow
   k_is = (blocking_variable_some present t.point v k stops).0
 
   pivot : t.rate k q ≢ zero_ℚ
-  pivot zero = nothing (reaches_limit (step_length present t.point v k) (step_length present t.point v k) ((blocking_variable_some present t.point v k stops).1 k k_is))
+  pivot zero = nothing (reaches_limit (step_length present t.point v k) (step_length present t.point v k)
+      ((blocking_variable_some present t.point v k stops).1 k k_is))
     where
       nothing : (x : ℚ) × (step_length present t.point v k ≡ Some x) → ⊥
       nothing (x, e) =

@@ -151,8 +151,15 @@ module _ (p : LinearProgram) (shift : List ℚ) (lawful : IsLinearProgram p) (no
   exchanged_optimal leads =
       let next = to_rhs p shift theta (after s exchange) leads in
       (by_tableau now (after s exchange) next.is_basis next.nonsingular rows (record { point = t.point; rate = exchanged_rate t.rate move.r move.q })
-      (record { is_point = point_after; are_rates = rates_after now no_change s there t tab right_now.right move.r move.q below basic found.0 tests.0 least })).1
-      (record { feasible = right_now.feasible; right = right_after now no_change s there t tab right_now.right move.r move.q below basic found.0 tests.0 least next })
+      (record {
+        is_point = point_after;
+        are_rates = rates_after now no_change s there t tab right_now.right move.r move.q below basic found.0 tests.0 least;
+      })).1
+      (record {
+        feasible = right_now.feasible;
+        right = right_after now no_change s there t tab right_now.right move.r move.q below basic found.0 tests.0 least
+            next;
+      })
 
 rhs_stays : (p : LinearProgram) (shift : List ℚ) → IsLinearProgram p → p.change ≡ None → (theta : ℚ) (s : List Status) (m : Move) → IsNonsingularBasis p s →
     IsOptimalBasis (rhs_family p shift theta) s → IsRhsFace p shift theta s (FaceMoves m) → IsOptimalBasis (rhs_family p shift theta) (after s m)

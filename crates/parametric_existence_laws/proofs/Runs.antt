@@ -9,8 +9,11 @@ use Rattle.exact_values.proofs.Order.{le_refl, le_antisymm, le_of_lt, lt_or_le, 
 use Rattle.lp_definitions.specs.LinearProgram.{LinearProgram, IsLinearProgram}
 use Rattle.lp_definitions.specs.Basis.{IsOptimalBasis}
 use Rattle.lp_definitions.specs.declared.Status.{Status}
-use Rattle.simplex_definitions.specs.Path.{Move, after, last_of, PathEnding, EndsOptimal, EndsCrossed, EndsInfeasible, EndsUnbounded, turn, RulePath, RuleGoesOn, PathEnds}
-use Rattle.simplex_definitions.specs.Chain.{Part, ChainEnd, AtMax, FailedOpening, Chain, FaceTurn, FaceMoves, FaceDone, FaceEnds, ReachesTo, IsPart, IsFaceStep, FacesTo, IsChain, at_max, past_breakpoint, goes_on, InOpening, AtBreakpoint, Reaches, begins, path_step, first_breakpoint, face_step, next_breakpoint, RunGoesOnFor}
+use Rattle.simplex_definitions.specs.Path.{Move, after, last_of, PathEnding, EndsOptimal, EndsCrossed, EndsInfeasible, EndsUnbounded, turn, RulePath}
+use Rattle.simplex_definitions.specs.Path.{RuleGoesOn, PathEnds}
+use Rattle.simplex_definitions.specs.Chain.{Part, ChainEnd, AtMax, FailedOpening, Chain, FaceTurn, FaceMoves, FaceDone, FaceEnds, ReachesTo, IsPart, IsFaceStep}
+use Rattle.simplex_definitions.specs.Chain.{FacesTo, IsChain, at_max, past_breakpoint, goes_on, InOpening, AtBreakpoint, Reaches, begins, path_step}
+use Rattle.simplex_definitions.specs.Chain.{first_breakpoint, face_step, next_breakpoint, RunGoesOnFor}
 use Rattle.simplex_laws.specs.Laws.{IsNonsingularBasis, RuleEndsWithin}
 use Rattle.simplex_laws.proofs.Ends.{optimal_end}
 use Rattle.simplex_laws.proofs.Goes.{ends_or_goes_on}

@@ -12,7 +12,8 @@ use Rattle.simplex_definitions.specs.Path.{Move, after, last_of, PathEnding, End
 use Rattle.simplex_laws.specs.Laws.{IsNonsingularBasis}
 use Rattle.simplex_laws.proofs.UnboundedEnds.{crossed_end, unbounded_end}
 use Rattle.simplex_laws.proofs.Rays.{infeasible_end}
-use Rattle.simplex_definitions.specs.Chain.{Part, ChainEnd, FailedOpening, Chain, FaceTurn, FaceMoves, FaceDone, FaceEnds, IsFailure, IsPart, IsFaceStep, IsFacePath, IsChain, at_max, past_breakpoint, goes_on}
+use Rattle.simplex_definitions.specs.Chain.{Part, ChainEnd, FailedOpening, Chain, FaceTurn, FaceMoves, FaceDone, FaceEnds, IsFailure, IsPart, IsFaceStep}
+use Rattle.simplex_definitions.specs.Chain.{IsFacePath, IsChain, at_max, past_breakpoint, goes_on}
 use Rattle.parametric_laws.proofs.Runs.{face_step_leads, face_path_leads, opening_leads}
 use Rattle.parametric_laws.specs.Families.{KeepsBases}
 use Rattle.parametric_laws.specs.Truth.{IsCovered, IsTruePart, IsTrueEnd, IsTrueRun, IsTrueFailure}

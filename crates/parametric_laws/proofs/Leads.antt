@@ -11,5 +11,6 @@ use Rattle.simplex_laws.proofs.Steps.{motion_leads}
 
 -- a nonbasic q rises or falls until k stops it
 pub stopped_leads : (p : LinearProgram) (s : List Status) (t : Tableau) → IsNonsingularBasis p s → IsTableau p s t → (q k : ℕ) (up : Bool) →
-    IsNonbasic p.matrix (basics_of s) q → blocking_variable p t.point (speeds t.rate up q) ≡ Some k → IsNonsingularBasis p (after s (stopped_by q (speeds t.rate up q) k))
+    IsNonbasic p.matrix (basics_of s) q → blocking_variable p t.point (speeds t.rate up q) ≡ Some k →
+    IsNonsingularBasis p (after s (stopped_by q (speeds t.rate up q) k))
 stopped_leads p s t at tab q k up enters stops = (motion_leads p s t at.is_basis at.nonsingular tab q k up enters stops).at

@@ -7,7 +7,9 @@ use Rattle.lp_definitions.specs.declared.Status.{Status}
 use Rattle.simplex_definitions.specs.Path.{last_of, PathEnding, EndsOptimal, IsStep, EndsAt, PathEnds}
 use Rattle.simplex_laws.specs.Laws.{IsNonsingularBasis}
 use Rattle.simplex_laws.proofs.OnePath.{one_step, one_end, step_or_end}
-use Rattle.simplex_definitions.specs.Chain.{Part, ChainEnd, RunReport, FailedOpening, Chain, FaceTurn, FaceMoves, FaceDone, FaceEnds, IsFailure, ReachesTo, IsFaceStep, IsFacePath, IsChain, at_max, past_breakpoint, goes_on, IsReport, RunPlace, InOpening, AtBreakpoint, basis_of, Reaches, begins, path_step, first_breakpoint, face_step, next_breakpoint, GoesOn, RunGoesOnFor}
+use Rattle.simplex_definitions.specs.Chain.{Part, ChainEnd, RunReport, FailedOpening, Chain, FaceTurn, FaceMoves, FaceDone, FaceEnds, IsFailure, ReachesTo}
+use Rattle.simplex_definitions.specs.Chain.{IsFaceStep, IsFacePath, IsChain, at_max, past_breakpoint, goes_on, IsReport, RunPlace, InOpening, AtBreakpoint}
+use Rattle.simplex_definitions.specs.Chain.{basis_of, Reaches, begins, path_step, first_breakpoint, face_step, next_breakpoint, GoesOn, RunGoesOnFor}
 use Rattle.parametric_laws.proofs.Runs.{reached_leads}
 use Rattle.parametric_laws.proofs.OneRun.{IsStill, one_reach, still_or_steps, one_face_step}
 use Rattle.parametric_laws.specs.Families.{HasOneFace}

@@ -172,7 +172,8 @@ module _ (p : LinearProgram) (h : ℕ) (theta : ℚ) (s : List Status) (t : Tabl
     (at : IsNonsingularBasis p s)
     (tab : IsTableau (objective_family p h theta) s t) (have : HasFeasiblePoint p s) (q : ℕ)
     (entering_variable : IsFaceEnteringVariable (objective_family p h theta) h theta s t q)
-    (stops : blocking_variable (objective_family p h theta) t.point (motion (objective_family p h theta) h theta s t q) ≡ None) (x : ℚ) (past : theta <ℚ x) where
+    (stops : blocking_variable (objective_family p h theta) t.point (motion (objective_family p h theta) h theta s t q) ≡ None) (x : ℚ)
+    (past : theta <ℚ x) where
   abbrev c : ℚ
   c = change_rate (objective_family p h theta) h theta s t q
 

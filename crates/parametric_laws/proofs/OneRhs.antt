@@ -19,7 +19,8 @@ use Rattle.simplex_laws.proofs.OneTurn.{SameTableau, listed_same, ray_same}
 use Rattle.simplex_laws.proofs.Searches.{found_passes}
 use Rattle.simplex_definitions.specs.Chain.{FaceTurn, FaceEnds, InfeasiblePast}
 use Rattle.simplex_definitions.specs.DualRatio.{cheapest}
-use Rattle.simplex_definitions.specs.RhsRun.{shift_of, shifted, rhs_family, IsSlope, leaves_below, leaves_above, leaving, face_exchange, face_at, rhs_face, IsRhsFace}
+use Rattle.simplex_definitions.specs.RhsRun.{shift_of, shifted, rhs_family, IsSlope, leaves_below, leaves_above, leaving, face_exchange, face_at, rhs_face}
+use Rattle.simplex_definitions.specs.RhsRun.{IsRhsFace}
 use Rattle.sensitivity_laws.proofs.MovedLimits.{free_to}
 use Rattle.simplex_laws.proofs.OneRatio.{cheapest_same}
 use Rattle.parametric_laws.proofs.Rhs.{to_rhs}

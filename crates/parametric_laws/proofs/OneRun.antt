@@ -13,7 +13,9 @@ use Rattle.simplex_definitions.specs.Path.{after, last_of, PathEnding, EndsOptim
 use Rattle.simplex_laws.specs.Laws.{IsNonsingularBasis, SameEnds}
 use Rattle.simplex_laws.proofs.UnboundedEnds.{objective_value-same}
 use Rattle.simplex_laws.proofs.OnePath.{one_path}
-use Rattle.simplex_definitions.specs.Chain.{Part, ChainEnd, RunReport, FailedOpening, Chain, FaceTurn, FaceMoves, FaceDone, FaceEnds, along, IsFailure, ReachesTo, IsPart, IsFaceStep, IsFacePath, FacesTo, IsChain, at_max, past_breakpoint, goes_on, IsRun, IsFailedOpening, IsReport}
+use Rattle.simplex_definitions.specs.Chain.{Part, ChainEnd, RunReport, FailedOpening, Chain, FaceTurn, FaceMoves, FaceDone, FaceEnds, along, IsFailure}
+use Rattle.simplex_definitions.specs.Chain.{ReachesTo, IsPart, IsFaceStep, IsFacePath, FacesTo, IsChain, at_max, past_breakpoint, goes_on, IsRun}
+use Rattle.simplex_definitions.specs.Chain.{IsFailedOpening, IsReport}
 use Rattle.simplex_definitions.specs.ObjectiveRun.{objective_family, IsObjectiveFace}
 use Rattle.simplex_definitions.specs.RhsRun.{rhs_family, IsRhsFace}
 use Rattle.parametric_laws.specs.Laws.{SameReports}
@@ -244,7 +246,13 @@ module _ (p : LinearProgram) (family : ℚ → LinearProgram) (Face : ℚ → Li
 pub objective_faces : (p : LinearProgram) (h : ℕ) → IsLinearProgram p → IsRow p.matrix h → HasNoLimits p h →
     HasOneFace p (objective_family p h) (IsObjectiveFace p h)
 objective_faces p h lawful row free =
-    record { keeps = objective_keeps p h; lawful = lawful_objective p h lawful row free; sized = λ theta. refl; one_face = one_objective_face p h lawful row free }
+    record {
+      keeps = objective_keeps p h;
+      lawful = lawful_objective p h lawful row free;
+      sized = λ theta. refl;
+      one_face = one_objective_face p h lawful row
+          free;
+    }
 
 pub rhs_faces : (p : LinearProgram) (shift : List ℚ) → IsLinearProgram p → HasOneFace p (rhs_family p shift) (IsRhsFace p shift)
 rhs_faces p shift lawful =

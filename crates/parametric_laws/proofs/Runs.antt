@@ -7,7 +7,9 @@ use Rattle.simplex_definitions.specs.Path.{last_of, PathEnding, EndsOptimal, Pat
 use Rattle.simplex_laws.specs.Laws.{IsNonsingularBasis}
 use Rattle.simplex_laws.proofs.Steps.{step_leads}
 use Rattle.simplex_laws.proofs.OnePath.{path_leads}
-use Rattle.simplex_definitions.specs.Chain.{Part, ChainEnd, RunReport, FailedOpening, Chain, FaceTurn, IsFaceStep, IsFacePath, IsChain, at_max, past_breakpoint, goes_on, IsRun, IsReport, RunPlace, InOpening, AtBreakpoint, basis_of, Reaches, begins, path_step, first_breakpoint, face_step, next_breakpoint}
+use Rattle.simplex_definitions.specs.Chain.{Part, ChainEnd, RunReport, FailedOpening, Chain, FaceTurn, IsFaceStep, IsFacePath, IsChain, at_max, past_breakpoint}
+use Rattle.simplex_definitions.specs.Chain.{goes_on, IsRun, IsReport, RunPlace, InOpening, AtBreakpoint, basis_of, Reaches, begins, path_step, first_breakpoint}
+use Rattle.simplex_definitions.specs.Chain.{face_step, next_breakpoint}
 use Rattle.simplex_definitions.specs.ObjectiveRun.{objective_family, IsObjectiveFace}
 use Rattle.simplex_definitions.specs.RhsRun.{rhs_family, IsRhsFace}
 use Rattle.parametric_laws.specs.Laws.{LeadsToBases}

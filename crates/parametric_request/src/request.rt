@@ -1,7 +1,8 @@
 // What PARAOBJ and PARARHS ask for.
 ghost use Rattle.std.specs.Prelude.{IfOk, IfErr};
 ghost use Rattle.control_definitions.specs.Cells.{steps_allowed};
-ghost use Rattle.parametric_request.specs.Asking.{Changes, IsAsked, IsNoChange, IsNotAsked, IsLastValue, IsLastFault, IsChangeOf, IsOf, changing_of, parametric_run_of};
+ghost use Rattle.parametric_request.specs.Asking.{Changes, IsAsked, IsNoChange, IsNotAsked, IsLastValue, IsLastFault, IsChangeOf, IsOf, changing_of};
+ghost use Rattle.parametric_request.specs.Asking.{parametric_run_of};
 
 use frac128::Frac;
 use listing_definitions::VerbFault;

@@ -8,7 +8,8 @@ use Rattle.lp_definitions.specs.Waypoints.{KeepsWaypoints, waypoint}
 use Rattle.lp_definitions.specs.declared.Evidence.{Evidence}
 use Rattle.lp_definitions.specs.declared.Status.{Status}
 use Rattle.simplex_definitions.specs.Path.{IsPath, EndsAt, EndsOptimal, last_of}
-use Rattle.simplex_definitions.specs.Chain.{FaceTurn, FaceDone, ReachesTo, IsFaceStep, IsFacePath, RunPlace, InOpening, AtBreakpoint, basis_of, breakpoint_of, Reaches, begins, path_step, first_breakpoint, face_step, next_breakpoint}
+use Rattle.simplex_definitions.specs.Chain.{FaceTurn, FaceDone, ReachesTo, IsFaceStep, IsFacePath, RunPlace, InOpening, AtBreakpoint, basis_of, breakpoint_of}
+use Rattle.simplex_definitions.specs.Chain.{Reaches, begins, path_step, first_breakpoint, face_step, next_breakpoint}
 use Rattle.simplex_definitions.specs.Statements.{SolvingStatement}
 use Rattle.simplex_definitions.specs.Evidence.{EvidenceHolds}
 use Rattle.basis_values.specs.Calls.{LieIn}

@@ -22,7 +22,8 @@ use Rattle.lp_model.specs.declared.reports.ParaReport.{ParaReport}
 use Rattle.lp_model.specs.declared.reports.ParaReport.TheVariants.{Opening, Run}
 use Rattle.simplex_definitions.specs.Counts.{counted_steps}
 use Rattle.simplex_definitions.specs.Path.{PathEnding, last_of}
-use Rattle.simplex_definitions.specs.Chain.{Part, ChainEnd, AtMax, UnboundedPast, InfeasiblePast, FaceTurn, IsRun, IsFailedOpening, RunPlace, breakpoint_of, basis_of, Reaches, RunGoesOnFor}
+use Rattle.simplex_definitions.specs.Chain.{Part, ChainEnd, AtMax, UnboundedPast, InfeasiblePast, FaceTurn, IsRun, IsFailedOpening, RunPlace, breakpoint_of}
+use Rattle.simplex_definitions.specs.Chain.{basis_of, Reaches, RunGoesOnFor}
 use Rattle.simplex_definitions.specs.Statements.{SolvingStatement}
 use Rattle.simplex_definitions.specs.Evidence.{EvidenceHolds}
 use Rattle.basis_values.specs.Calls.{LieIn}

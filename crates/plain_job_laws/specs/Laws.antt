@@ -3,7 +3,8 @@
 --     IsPlainJob bytes             so does each statement of the job's program
 --     PlainJobLaw                  such a job meets no evidence of an overflow, whatever its decks are
 use Rattle.std.specs.Prelude.{◌≡◌, ℕ, List, Some, slice_get}
-use Rattle.control_definitions.specs.Program.{Statement, Program, Verb, Initialz, Title, MoveName, MoveNumber, MoveLimit, Mvadr, Goto, Convert, Setup, Primal, Dual, Revise, Ranging, Paraobj, Pararhs, Solution, Bcdout, Punch, Insert, Exit}
+use Rattle.control_definitions.specs.Program.{Statement, Program, Verb, Initialz, Title, MoveName, MoveNumber, MoveLimit, Mvadr, Goto, Convert, Setup, Primal}
+use Rattle.control_definitions.specs.Program.{Dual, Revise, Ranging, Paraobj, Pararhs, Solution, Bcdout, Punch, Insert, Exit}
 use Rattle.run_definitions.specs.Answer.{IsProgramOf}
 use Rattle.answer_definitions.specs.Real.{linear_programming}
 use Rattle.determinism_laws.specs.Laws.{MeetsNoEvidence}

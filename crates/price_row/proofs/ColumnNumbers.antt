@@ -1,5 +1,6 @@
 -- Sums as whole numbers over a denominator, and the numbers that are kept of values over it.
-use Rattle.std.proofs.Common.{◌≡◌, ◌≢◌, ℕ, ◌+◌, ◌-◌, ◌<◌, ◌≤◌, ◌⊎◌, inl, inr, List, length, get_or, set, refl, sym, ◌∙◌, ap, ap₂, true, false, subst, arith, ℤ, pos}
+use Rattle.std.proofs.Common.{◌≡◌, ◌≢◌, ℕ, ◌+◌, ◌-◌, ◌<◌, ◌≤◌, ◌⊎◌, inl, inr, List, length, get_or, set, refl, sym, ◌∙◌, ap, ap₂, true, false, subst, arith, ℤ}
+use Rattle.std.proofs.Common.{pos}
 use Rattle.std.specs.Prelude.{eqb, ◌+ℤ◌, ◌*ℤ◌, Option, None, Some, IfSome}
 use Rattle.std.specs.Option.{SomeIff}
 use Rattle.std.proofs.lemmas.Bool.Decides.{eqb_tells}

@@ -1,5 +1,6 @@
 -- Which rates are wanted, by the signs of their numbers over a denominator.
-use Rattle.std.proofs.Common.{◌≡◌, ◌≢◌, ℕ, ◌+◌, ◌-◌, ◌<◌, ◌≤◌, ◌⊎◌, inl, inr, List, length, set, refl, sym, ◌∙◌, ap, ap₂, Bool, true, false, cond, subst, arith, int_lt, ℤ, pos}
+use Rattle.std.proofs.Common.{◌≡◌, ◌≢◌, ℕ, ◌+◌, ◌-◌, ◌<◌, ◌≤◌, ◌⊎◌, inl, inr, List, length, set, refl, sym, ◌∙◌, ap, ap₂, Bool, true, false, cond, subst, arith}
+use Rattle.std.proofs.Common.{int_lt, ℤ, pos}
 use mathlib.Core.Bool.{beq}
 use Rattle.std.specs.Prelude.{eqb, not, ◌||◌, Some, None}
 use Rattle.std.proofs.lemmas.Bool.Decides.{eqb_tells}

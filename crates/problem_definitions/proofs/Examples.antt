@@ -32,7 +32,10 @@ unfolding three_parts
 two_groups = refl
 
 new_set : in_set (codes "C") (λ items. 5 ∷ items)
-    (grouped three_parts) ≡ record { name = codes "B"; items = 1 ∷ 2 ∷ 4 ∷ [] } ∷ record { name = codes "A"; items = 3 ∷ [] } ∷ record { name = codes "C"; items = 5 ∷ [] } ∷ []
+    (grouped three_parts) ≡ record { name = codes "B"; items = 1 ∷ 2 ∷ 4 ∷ [] } ∷ record { name = codes "A"; items = 3 ∷ [] } ∷ record {
+      name = codes "C";
+      items = 5 ∷ [];
+    } ∷ []
 unfolding three_parts
 new_set = refl
 

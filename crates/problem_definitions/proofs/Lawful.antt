@@ -1,5 +1,6 @@
 -- What holds of every problem, said by names: then it holds of the problem by numbers.
-use Rattle.std.proofs.Common.{◌≡◌, ℕ, ◌+◌, ◌≤◌, Bool, true, false, ◌&&◌, List, [], ◌∷◌, ◌++◌, Option, Some, None, option_map, length, map, refl, ap, ap₂, sym, ◌∙◌, subst, append_assoc, length-append, nat_eq, fold, is_some}
+use Rattle.std.proofs.Common.{◌≡◌, ℕ, ◌+◌, ◌≤◌, Bool, true, false, ◌&&◌, List, [], ◌∷◌, ◌++◌, Option, Some, None, option_map, length, map, refl, ap, ap₂, sym}
+use Rattle.std.proofs.Common.{◌∙◌, subst, append_assoc, length-append, nat_eq, fold, is_some}
 use Rattle.std.specs.List.{All, AllByRecursion, IsDistinct, enumerate_from}
 use Rattle.std.specs.Option.{IfSome}
 use Rattle.std.proofs.lemmas.List.{length-map, map-append}
@@ -7,9 +8,11 @@ use Rattle.card_definitions.specs.Words.{is_empty}
 use Rattle.problem_definitions.specs.declared.TheConstants.{MAX_ROWS, MAX_COLUMNS, MAX_ENTRIES}
 use Rattle.problem_definitions.specs.Names.{Name, same, has_name, number_in, name_at, marker}
 use Rattle.problem_definitions.specs.Kinds.{meet, takes_value}
-use Rattle.problem_definitions.specs.Problem.{Row, Entry, Bound, Group, Problem, row_names, group_names, entry_count, has_row, has_free_row, has_combination, has_group}
+use Rattle.problem_definitions.specs.Problem.{Row, Entry, Bound, Group, Problem, row_names, group_names, entry_count, has_row, has_free_row, has_combination}
+use Rattle.problem_definitions.specs.Problem.{has_group}
 use Rattle.problem_definitions.specs.Numbering.{entry_by, row_by, bound_by, group_by, numbered}
-use Rattle.problem_definitions.specs.Valid.{IsName, IsDecimal, AreLabels, IsNumberOf, AreEntries, clash, AreBounds, AreSets, is_free_row, is_combination, IsProblem}
+use Rattle.problem_definitions.specs.Valid.{IsName, IsDecimal, AreLabels, IsNumberOf, AreEntries, clash, AreBounds, AreSets, is_free_row, is_combination}
+use Rattle.problem_definitions.specs.Valid.{IsProblem}
 use Rattle.problem_definitions.proofs.Names.{row_is_named}
 use Rattle.problem_definitions.proofs.Groups.{map-map, has_group-names}
 pub use Rattle.problem_definitions.proofs.LawfulEntries.{AreLawfulEntries}

@@ -1,5 +1,7 @@
 -- Rows whose parts stand on rows before them.
-use Rattle.std.proofs.Common.{◌≡◌, ℕ, suc, ◌+◌, ◌≤◌, Bool, true, false, not, cond, ◌||◌, List, [], ◌∷◌, ◌++◌, Option, Some, None, option_map, map, take, drop, length, IfSome, refl, ap, ap₂, sym, ◌∙◌, subst, arith, append_assoc, append-nil, if◌then◌else◌, filter, find, insert, unwrap_or, is_some, ◌&&◌, take-append-drop}
+use Rattle.std.proofs.Common.{◌≡◌, ℕ, suc, ◌+◌, ◌≤◌, Bool, true, false, not, cond, ◌||◌, List, [], ◌∷◌, ◌++◌, Option, Some, None, option_map, map, take, drop}
+use Rattle.std.proofs.Common.{length, IfSome, refl, ap, ap₂, sym, ◌∙◌, subst, arith, append_assoc, append-nil, if◌then◌else◌, filter, find, insert, unwrap_or}
+use Rattle.std.proofs.Common.{is_some, ◌&&◌, take-append-drop}
 use Rattle.std.specs.List.{AllByRecursion, IsDistinct, prefix_len, position_or_len}
 use Rattle.std.proofs.lemmas.List.{map-append, length-map}
 use Rattle.std.proofs.lemmas.List.Folds.{list_any-append}

@@ -9,7 +9,8 @@ use Rattle.listing_definitions.specs.declared.Mark.{Mark}
 use Rattle.listing_definitions.specs.declared.Solver.{Solver}
 use Rattle.listing_definitions.specs.Report.{SolutionLines, RangeLines}
 use Rattle.listing_definitions.specs.Ending.{Place}
-use Rattle.question_definitions.specs.Answers.{Basis, Sheet, ParametricRun, Question, OfPath, OfSolution, OfRanges, OfParametricRun, OfPunch, OfInstall, AnswerTo, PathEnd, ParametricRunEnd, InstallEnd}
+use Rattle.question_definitions.specs.Answers.{Basis, Sheet, ParametricRun, Question, OfPath, OfSolution, OfRanges, OfParametricRun, OfPunch, OfInstall}
+use Rattle.question_definitions.specs.Answers.{AnswerTo, PathEnd, ParametricRunEnd, InstallEnd}
 
 pub record Solving : Type 1 where
   -- the path of a solving verb from a basis ends so, where it may take so many steps, or any number of them

@@ -1,5 +1,6 @@
 -- From lists of prices, rates and values to the tableau of the basis.
-use Rattle.std.proofs.Common.{◌≡◌, ◌≢◌, ℕ, ◌+◌, ◌<◌, ◌≤◌, ◌⊎◌, inl, inr, List, length, set, refl, sym, ap, ap₂, subst, subst₂, ◌∙◌, Bool, true, false, Option, Some, None, arith, cond, pos}
+use Rattle.std.proofs.Common.{◌≡◌, ◌≢◌, ℕ, ◌+◌, ◌<◌, ◌≤◌, ◌⊎◌, inl, inr, List, length, set, refl, sym, ap, ap₂, subst, subst₂, ◌∙◌, Bool, true, false, Option}
+use Rattle.std.proofs.Common.{Some, None, arith, cond, pos}
 use Rattle.std.specs.Prelude.{◌↔◌, IfSome, ◌&&◌, not, eqb, nat_eq}
 use Rattle.std.proofs.lemmas.Bool.Decides.{eqb_tells}
 use Rattle.exact_values.specs.Rational.{ℚ, zero_ℚ, neg_ℚ, ◌-ℚ◌, ◌/ℚ◌, ◌≤ℚ◌}
@@ -15,7 +16,8 @@ use Rattle.sensitivity_laws.proofs.Signs.{sides_of_rate}
 use Rattle.sensitivity_laws.proofs.Limits.{out_of_basis}
 use Rattle.simplex_definitions.specs.Formulas.{limit_numbered}
 use Rattle.lp_definitions.specs.LinearProgram.{LinearProgram, Vector, size, IsRow, IsVariable, IsLinearProgram, lower_of, upper_of, for_min, with_change_row}
-use Rattle.lp_definitions.specs.Basis.{basics_of, is_in, is_basic, status_of, IsBasic, IsNonbasic, AreRates, IsPointOf, ArePricesOf, IsOptimalBasis, Tableau, IsTableau, objective_rate}
+use Rattle.lp_definitions.specs.Basis.{basics_of, is_in, is_basic, status_of, IsBasic, IsNonbasic, AreRates, IsPointOf, ArePricesOf, IsOptimalBasis, Tableau}
+use Rattle.lp_definitions.specs.Basis.{IsTableau, objective_rate}
 use Rattle.lp_definitions.specs.declared.Change.{Change}
 use Rattle.lp_definitions.specs.declared.Status.{Status}
 use Rattle.lp_definitions.specs.declared.Status.TheVariants.{Bs}

@@ -1,5 +1,6 @@
 -- The bounds that a basic's limits make.
-use Rattle.std.proofs.Common.{◌≡◌, ◌≢◌, ℕ, ◌+◌, ◌-◌, ◌<◌, ◌≤◌, ◌⊎◌, inl, inr, List, set, length, get_or, pos, refl, sym, ap, subst, subst₂, ◌∙◌, Bool, true, false, Option, Some, None, arith}
+use Rattle.std.proofs.Common.{◌≡◌, ◌≢◌, ℕ, ◌+◌, ◌-◌, ◌<◌, ◌≤◌, ◌⊎◌, inl, inr, List, set, length, get_or, pos, refl, sym, ap, subst, subst₂, ◌∙◌, Bool, true}
+use Rattle.std.proofs.Common.{false, Option, Some, None, arith}
 use Rattle.std.specs.Prelude.{◌↔◌, IfSome, IsSome, nat_eq, cond, eqb}
 use Rattle.std.proofs.lemmas.Bool.Decides.{eqb_tells}
 use Rattle.std.proofs.lemmas.List.{get_or-set_same, get_or-set_other, get_or_default}
@@ -25,7 +26,9 @@ use Rattle.simplex_definitions.specs.Ranges.{stands_at_limit}
 use Rattle.basis_values.specs.Formulas.{IsRefusal}
 use Rattle.basis_values.specs.declared.formula.Formula.{Formula}
 use Rattle.basis_values.specs.Reach.{reach_formula}
-use Rattle.ranging.specs.LimitEnds.{less_value, distances_of, distance_numbered, IsBasicEnd, IsKeptOr, IsQuotientOf, IsWithDistance, IsFarEnough, IsWithDistances, IsWithBasic, IsDistanceRefused, IsBasicRefused, no_ends, ends_at, IsLimitEnd, IsMet, IsLimitRefused, IsRateRefused, AreMet}
+use Rattle.ranging.specs.LimitEnds.{less_value, distances_of, distance_numbered, IsBasicEnd, IsKeptOr, IsQuotientOf, IsWithDistance, IsFarEnough}
+use Rattle.ranging.specs.LimitEnds.{IsWithDistances, IsWithBasic, IsDistanceRefused, IsBasicRefused, no_ends, ends_at, IsLimitEnd, IsMet, IsLimitRefused}
+use Rattle.ranging.specs.LimitEnds.{IsRateRefused, AreMet}
 use Rattle.ranging.specs.declared.limit_ends.Distances.{Distances}
 
 pub limit_refused : (p : LinearProgram) (value : ℚ) (i which : ℕ) (e : Evidence) (limit : Option ℚ) → limit ≡ limit_numbered p i which → which < 3
@@ -103,7 +106,11 @@ module _ (far : Distances) (rate : ℚ) (apart : rate ≢ zero_ℚ) (i : ℕ) wh
       λ h. (second.exact x).1 ((first.exact x).1 (h.0, h.1.0), h.1.1),
     );
     made =
-        record { low = in_turn ends.low mid.low now.low first.made.low second.made.low; high = in_turn ends.high mid.high now.high first.made.high second.made.high };
+        record {
+          low = in_turn ends.low mid.low now.low first.made.low second.made.low;
+          high = in_turn ends.high mid.high now.high first.made.high
+              second.made.high;
+        };
   }
 
   pub low_refused : (k : ℕ) (e : Evidence) → IsDistanceRefused far.low rate i k 1 e → IsBasicRefused far rate i k e

@@ -1,5 +1,6 @@
 -- What the items of the lists are, and what making them may refuse.
-use Rattle.std.proofs.Common.{◌≡◌, ◌≢◌, ℕ, ◌+◌, ◌-◌, ◌<◌, ◌⊎◌, inl, inr, List, refl, sym, ap, subst, subst₂, ◌∙◌, Bool, true, false, Option, Some, None, arith, cond, pos}
+use Rattle.std.proofs.Common.{◌≡◌, ◌≢◌, ℕ, ◌+◌, ◌-◌, ◌<◌, ◌⊎◌, inl, inr, List, refl, sym, ap, subst, subst₂, ◌∙◌, Bool, true, false, Option, Some, None, arith}
+use Rattle.std.proofs.Common.{cond, pos}
 use Rattle.std.specs.Prelude.{◌↔◌, IfSome, eqb}
 use Rattle.std.proofs.lemmas.Bool.Decides.{eqb_tells}
 use Rattle.exact_values.specs.Rational.{ℚ, one_ℚ, neg_ℚ, ◌+ℚ◌, ◌-ℚ◌, ◌*ℚ◌, ◌/ℚ◌, ◌≤ℚ◌}
@@ -17,7 +18,8 @@ use Rattle.sensitivity_laws.proofs.Signs.{sides_of_rate}
 use Rattle.sensitivity_laws.proofs.Tableaus.{by_tableau}
 use Rattle.simplex_definitions.specs.Formulas.{limit_numbered, number_of_limit}
 use Rattle.frac128.specs.declared.Op.TheVariants.{Add, Sub}
-use Rattle.lp_definitions.specs.LinearProgram.{LinearProgram, Vector, size, IsColumn, IsVariable, IsLinearProgram, lower_of, upper_of, cost, for_min, with_change_row}
+use Rattle.lp_definitions.specs.LinearProgram.{LinearProgram, Vector, size, IsColumn, IsVariable, IsLinearProgram, lower_of, upper_of, cost, for_min}
+use Rattle.lp_definitions.specs.LinearProgram.{with_change_row}
 use Rattle.lp_definitions.specs.Basis.{basics_of, is_in, status_of, StandsAt, IsBasic, IsNonbasic, AreRates, IsPointOf, ArePricesOf, IsOptimalBasis, Tableau}
 use Rattle.lp_definitions.specs.declared.Change.{Change}
 use Rattle.lp_definitions.specs.declared.Evidence.{Evidence}

@@ -145,8 +145,11 @@ module _ (p : LinearProgram) (s : List Status) (prices row : Vector) where
       → AreRowEnds p s prices row (n + 1) now
   next_ends n ends now price rate price_is rate_is before with = record {
     exact = λ y. (to y, back y);
-    made =
-        (more_ends n ends.low now.low price rate price_is rate_is with.low before.made.0, more_ends n ends.high now.high price rate price_is rate_is with.high before.made.1);
+    made = (
+      more_ends n ends.low now.low price rate price_is rate_is with.low before.made.0,
+      more_ends n ends.high now.high price rate price_is rate_is with.high
+          before.made.1,
+    );
   }
     where
       own : (y : ℚ) → SidesHold (sides_of p s price rate (n + 1)) (neg_ℚ y) ↔ SidesHold (sides_of p s (prices (n + 1)) (row (n + 1)) (n + 1)) (neg_ℚ y)

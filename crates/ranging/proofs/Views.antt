@@ -13,7 +13,8 @@ use Rattle.lp_laws.proofs.Values.{clash}
 use Rattle.lp_laws.proofs.WaypointLaws.{within_itself, kept_within}
 use Rattle.simplex_definitions.specs.Formulas.{f6, f7, f14, f15_limit, f15_nonbasic, f15_basic, limit_numbered, number_of_limit}
 use Rattle.simplex_definitions.specs.Statements.{SolvingStatement, Primal, Range, is_between, belongs}
-use Rattle.simplex_definitions.specs.Evidence.{Formula, ShowsRefusal, by_exchange, by_entry, by_carried, by_point, by_slack, by_move, by_ratio, by_range, by_objective, by_slope, names_waypoint}
+use Rattle.simplex_definitions.specs.Evidence.{Formula, ShowsRefusal, by_exchange, by_entry, by_carried, by_point, by_slack, by_move, by_ratio, by_range}
+use Rattle.simplex_definitions.specs.Evidence.{by_objective, by_slope, names_waypoint}
 use Rattle.basis_values.specs.Calls.{job_of, is_of_point, PointRefused, RangeRefused}
 use Rattle.basis_values.proofs.Refusals.{no_parameter}
 use Rattle.basis_values.proofs.Covered.{stops_covered}

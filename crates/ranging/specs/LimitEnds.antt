@@ -4,7 +4,8 @@
 --     no_ends, ends_at xs k        no ends; those of variable k
 --     IsMet p z v i ends now       the ends now keep what the earlier ones keep, and i within its limits, where its rate is v
 --     IsLimitRefused, IsRateRefused    a distance of i is refused, or one over its rate
-use Rattle.std.specs.Prelude.{◌≡◌, ◌≢◌, ◌↔◌, ◌⊎◌, ℕ, ◌-◌, ◌≤◌, ◌<◌, Bool, true, List, Option, Some, None, IfSome, option_map, slice_index_or, nat_eq, if◌then◌else◌}
+use Rattle.std.specs.Prelude.{◌≡◌, ◌≢◌, ◌↔◌, ◌⊎◌, ℕ, ◌-◌, ◌≤◌, ◌<◌, Bool, true, List, Option, Some, None, IfSome, option_map, slice_index_or, nat_eq}
+use Rattle.std.specs.Prelude.{if◌then◌else◌}
 use Rattle.exact_values.specs.Rational.{ℚ, zero_ℚ, ◌-ℚ◌, ◌*ℚ◌, ◌/ℚ◌, ◌≤ℚ◌}
 use Rattle.affine_laws.specs.Ends.{MeetsBy, IsBetweenEnds}
 use Rattle.affine_laws.specs.declared.tightening.Endpoint.{Endpoint}

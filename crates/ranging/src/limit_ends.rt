@@ -8,7 +8,8 @@ ghost use Rattle.lp_definitions.specs.Basis.{status_of};
 ghost use Rattle.simplex_definitions.specs.Ranges.{stands_at_limit};
 ghost use Rattle.basis_values.specs.Formulas.{IsRefusal};
 ghost use Rattle.basis_values.specs.Reach.{reach_formula};
-ghost use Rattle.ranging.specs.LimitEnds.{less_value, distances_of, IsWithDistance, IsWithDistances, IsWithBasic, IsDistanceRefused, IsBasicRefused, AreMet, IsLimitRefused, IsRateRefused};
+ghost use Rattle.ranging.specs.LimitEnds.{less_value, distances_of, IsWithDistance, IsWithDistances, IsWithBasic, IsDistanceRefused, IsBasicRefused, AreMet};
+ghost use Rattle.ranging.specs.LimitEnds.{IsLimitRefused, IsRateRefused};
 
 use crate::choices::at_limit;
 use affine_laws::{Ends, ProductBound, tightened};

@@ -9,7 +9,8 @@ use Rattle.lp_definitions.specs.LinearProgram.{Matrix, Vector, size, IsVariable,
 use Rattle.lp_definitions.specs.Basis.{Basics, is_in, IsBasic, IsNonbasic, IsNonsingular, exchanged}
 use Rattle.lp_model.specs.RatesCalls.{HasPivot}
 use Rattle.rates_dense.specs.declared.line.Line.{Line}
-use Rattle.rates_dense.specs.Lines.{quotient_at, AreQuotients, IsTakenOver, entering_rate, staying_rate, LineByLine, SameRates, IsCommitted, entering_line, changed_line, same_line, IsExchanged}
+use Rattle.rates_dense.specs.Lines.{quotient_at, AreQuotients, IsTakenOver, entering_rate, staying_rate, LineByLine, SameRates, IsCommitted, entering_line}
+use Rattle.rates_dense.specs.Lines.{changed_line, same_line, IsExchanged}
 use Rattle.rates_dense.specs.Placed.{IsPlaced}
 use Rattle.rates_dense.specs.Table.{IsLine, IsTableOf}
 use Rattle.rates_dense.proofs.Fills.{filled_at, taken_everywhere}
@@ -18,7 +19,8 @@ use Rattle.lp_laws.proofs.Values.{clash}
 use Rattle.lp_laws.specs.Rates.{exchanged_rate}
 use Rattle.lp_laws.proofs.Uniqueness.{one_direction}
 use Rattle.lp_laws.proofs.Exchange.{IsNonsingular-exchanged, AreRates-exchanged}
-use Rattle.rates_dense.proofs.NewLines.{line_entry, untouched_entry, unchanged_entry, unchanged_entering, basic_stays, entering_basic, basic_before, staying_new, entering_new}
+use Rattle.rates_dense.proofs.NewLines.{line_entry, untouched_entry, unchanged_entry, unchanged_entering, basic_stays, entering_basic, basic_before}
+use Rattle.rates_dense.proofs.NewLines.{staying_new, entering_new}
 
 -- a line whose rates are the same
 pub line_kept : (a : Matrix) (b : Basics) (rate : ℕ → ℕ → ℚ) (old new : Line) → SameRates old new → IsLine a b rate old → IsLine a b rate new

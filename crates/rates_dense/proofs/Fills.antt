@@ -7,7 +7,8 @@ use Rattle.frac128.specs.declared.Op.TheVariants.{Sub, Mul, Div}
 use Rattle.lp_definitions.specs.declared.Evidence.{Evidence}
 use Rattle.lp_definitions.specs.LinearProgram.{value_at}
 use Rattle.rates_dense.specs.Lines.{IsFilled, quotient_at, IsListed, AreChanged, IsFilledAt, IsTakenOver}
-use Rattle.rates_dense.specs.Refusals.{IsRefusal, IsDifferenceRefused, by_product, by_difference, QuotientRefused, of_rate, StayingRefused, of_product, of_difference}
+use Rattle.rates_dense.specs.Refusals.{IsRefusal, IsDifferenceRefused, by_product, by_difference, QuotientRefused, of_rate, StayingRefused, of_product}
+use Rattle.rates_dense.specs.Refusals.{of_difference}
 
 -- one more place is filled
 pub filled_more : (xs : List ℚ) (n : ℕ) (v : ℚ) (f : ℕ → ℚ) → n < length xs → ((k : ℕ) → k < n → get_or xs k zero_ℚ ≡ f (k + 1)) → v ≡ f (n + 1) → (k : ℕ) →

@@ -14,7 +14,8 @@ use Rattle.lp_model.specs.RatesCalls.{HasPivot}
 use Rattle.rates_dense.specs.declared.line.Line.{Line}
 use Rattle.rates_dense.specs.Lines.{AreQuotients}
 use Rattle.rates_dense.specs.Table.{IsLine, IsTableOf}
-use Rattle.rates_dense.specs.Refusals.{IsRefusal, QuotientRefused, of_rate, of_one, StayingRefused, of_product, of_difference, of_multiple, LinesRefused, at_leaver, at_another, IsOwn}
+use Rattle.rates_dense.specs.Refusals.{IsRefusal, QuotientRefused, of_rate, of_one, StayingRefused, of_product, of_difference, of_multiple, LinesRefused}
+use Rattle.rates_dense.specs.Refusals.{at_leaver, at_another, IsOwn}
 use Rattle.rates_dense.proofs.LineSteps.{some_line}
 use Rattle.rates_dense.proofs.NewLines.{line_entry, quotient_at_basic, quotient_at_nonbasic, quotient_at_leaver}
 use Rattle.rates_dense.proofs.Exchanges.{slot, slot_within, rate_apart, leaver_entry, leaver_at_entering, nonsingular_then, are_quotients}

@@ -4,7 +4,8 @@ ghost use Rattle.std.specs.Prelude.{◌≡◌, ◌≢◌, ℕ, true, false, ◌<
 ghost use Rattle.exact_values.specs.Rational.{ℚ, zero_ℚ, one_ℚ, ◌-ℚ◌, ◌*ℚ◌, ◌/ℚ◌};
 ghost use Rattle.lp_definitions.specs.LinearProgram.{value_at};
 ghost use Rattle.lp_definitions.specs.RatesEvidence.{Names};
-ghost use Rattle.rates_dense.specs.Lines.{IsFilled, quotient_at, AreNumbers, AreChanged, IsFilledAt, IsTakenOver, entering_rate, staying_rate, IsBlankLine, IsWritten, IsUnchanged, SameRates, IsReady, IsCommitted};
+ghost use Rattle.rates_dense.specs.Lines.{IsFilled, quotient_at, AreNumbers, AreChanged, IsFilledAt, IsTakenOver, entering_rate, staying_rate, IsBlankLine};
+ghost use Rattle.rates_dense.specs.Lines.{IsWritten, IsUnchanged, SameRates, IsReady, IsCommitted};
 ghost use Rattle.lp_model.specs.Formulas.{number_of, basic_of, nonbasic_of};
 ghost use Rattle.rates_dense.specs.Refusals.{IsRefusal, IsDifferenceRefused, QuotientRefused, StayingRefused};
 

@@ -1,5 +1,6 @@
 -- What is due before an exchange, how long the file is after it, and what the fields keep.
-use Rattle.std.proofs.Common.{◌≡◌, ◌≢◌, ℕ, zero, suc, ◌+◌, ◌-◌, ◌^◌, ◌<◌, ◌≤◌, ◌⊎◌, inl, inr, Bool, List, [], ◌∷◌, length, drop, sym, ◌∙◌, ap, true, false, subst, arith, Option, Some, None, Result, Ok, Err, OnOk}
+use Rattle.std.proofs.Common.{◌≡◌, ◌≢◌, ℕ, zero, suc, ◌+◌, ◌-◌, ◌^◌, ◌<◌, ◌≤◌, ◌⊎◌, inl, inr, Bool, List, [], ◌∷◌, length, drop, sym, ◌∙◌, ap, true, false}
+use Rattle.std.proofs.Common.{subst, arith, Option, Some, None, Result, Ok, Err, OnOk}
 use Rattle.std.specs.Prelude.{slice_index_or, MatchBool}
 use Rattle.std.proofs.lemmas.List.{length-append}
 use Rattle.exact_values.specs.Rational.{ℚ}
@@ -16,7 +17,8 @@ use Rattle.reinversion.specs.Rebuilt.{IsRemade, KeptRefused}
 use Rattle.reinversion.specs.declared.form.ProductForm.TheInside.{Inside}
 use Rattle.reinversion.specs.declared.form.Reinverted.{Reinverted}
 use Rattle.reinversion.specs.declared.form.Reinverted.TheVariants.{Done, Kept}
-use Rattle.reinversion.specs.Form.{Form, IsForm, IfDone, IfKept, IsDue, HasLongPivot, IsPrepared, not_due, is_new, is_refused, IsTurn, goes_on, made_anew, stays_long}
+use Rattle.reinversion.specs.Form.{Form, IsForm, IfDone, IfKept, IsDue, HasLongPivot, IsPrepared, not_due, is_new, is_refused, IsTurn, goes_on, made_anew}
+use Rattle.reinversion.specs.Form.{stays_long}
 
 past_at_most : (b : Basics) (m : ℕ) → marked (drop m b) ≤ marked b
 past_at_most [] zero = omega arith

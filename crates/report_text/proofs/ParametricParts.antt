@@ -25,7 +25,8 @@ pub chain_parts : (by : Solver) (chain : Chain) →
 chain_parts by chain = simp (append_assoc, append-nil)
 
 pub interval_parts : (number : ℕ) (interval : ParametricInterval) →
-    concat (codes "INTERVAL " ∷ digits number ∷ codes " FROM " ∷ rational_text interval.from ∷ codes " TO " ∷ rational_text interval.to ∷ codes "\n" ∷ []) ++ table_text interval.lines ≡ interval_text (number, interval)
+    concat (codes "INTERVAL " ∷ digits number ∷ codes " FROM " ∷ rational_text interval.from ∷ codes " TO " ∷ rational_text interval.to ∷ codes "\n" ∷ [])
+    ++ table_text interval.lines ≡ interval_text (number, interval)
 interval_parts number interval = simp (append_assoc, append-nil)
 
 -- the line of an end, and the lines after it

@@ -8,7 +8,8 @@ use Rattle.listing_definitions.specs.Text.{ranges_text, line_text, table_text}
 use Rattle.listing_tables.specs.declared.sheet.Sheet.{Sheet}
 use Rattle.listing_tables.specs.declared.table.Ranging.{Ranging}
 use Rattle.listing_tables.specs.declared.table.Table.TheVariants.{LimitRows, LimitColumns, BetweenRows, BetweenColumns}
-use Rattle.listing_tables.specs.Lines.{line_of, stands_at_limit, stands_between, limit_row_values, limit_column_values, between_row_values, between_column_values}
+use Rattle.listing_tables.specs.Lines.{line_of, stands_at_limit, stands_between, limit_row_values, limit_column_values, between_row_values}
+use Rattle.listing_tables.specs.Lines.{between_column_values}
 use Rattle.listing_tables.specs.Tables.{HasLine, line_view}
 use Rattle.listing_tables.proofs.Tables.{lines_kept}
 use Rattle.report_text.specs.Ranges.{AreRanges, ranges_view, limit_rows_heading, limit_columns_heading, between_rows_heading, between_columns_heading}

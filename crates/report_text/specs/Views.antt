@@ -18,9 +18,11 @@ use Rattle.report_text.specs.Ranges.{AreRanges}
 use Rattle.report_text.specs.Solutions.{IsSolution}
 use Rattle.report_text.specs.Verdicts.{IsFull, IsOutcome, verdict_view, check_view}
 use Rattle.report_text.specs.declared.report.Report.{Report}
-use Rattle.report_text.specs.declared.report.Report.TheVariants.{Title, Converted, Revised, SetUp, BcdOut, BasisOut, Inserted, Solved, Solution, Ranges, Parametric, End}
+use Rattle.report_text.specs.declared.report.Report.TheVariants.{Title, Converted, Revised, SetUp, BcdOut, BasisOut, Inserted, Solved, Solution, Ranges}
+use Rattle.report_text.specs.declared.report.Report.TheVariants.{Parametric, End}
 use Rattle.report_text.specs.declared.report.Ending.{Ending}
-use Rattle.report_text.specs.declared.report.Ending.TheVariants.{Code, Words, Control, Verb, Singular as SingularBasis, WrongPrices as PricesWrong, Deck, Card, Limit, Statements, Overflow, ReadFault, PunchFault, Memory}
+use Rattle.report_text.specs.declared.report.Ending.TheVariants.{Code, Words, Control, Verb, Singular as SingularBasis, WrongPrices as PricesWrong, Deck, Card}
+use Rattle.report_text.specs.declared.report.Ending.TheVariants.{Limit, Statements, Overflow, ReadFault, PunchFault, Memory}
 
 -- ---- ends
 

@@ -1,5 +1,6 @@
 -- The tests of a card of a REVISE deck, and what it changes, by what is known of the cards before it.
-use Rattle.std.proofs.Common.{◌≡◌, ℕ, ◌+◌, Bool, true, false, cond, ◌||◌, List, [], ◌∷◌, ◌++◌, Option, Some, None, map, take, refl, ap, ap₂, sym, ◌∙◌, unwrap_or}
+use Rattle.std.proofs.Common.{◌≡◌, ℕ, ◌+◌, Bool, true, false, cond, ◌||◌, List, [], ◌∷◌, ◌++◌, Option, Some, None, map, take, refl, ap, ap₂, sym, ◌∙◌}
+use Rattle.std.proofs.Common.{unwrap_or}
 use Rattle.std.specs.List.{last_or}
 use Rattle.std.specs.Option.{option_or, option_map, option_and_then}
 use Rattle.std.proofs.lemmas.List.{map-append}
@@ -23,7 +24,8 @@ use Rattle.deck_definitions.specs.Conversion.{section_card_fault, form_fault}
 use Rattle.deck_definitions.proofs.Steps.{section_after-push, style_of-push, style_of-data, last_or-push}
 use Rattle.revise_definitions.specs.declared.Action.{Action}
 use Rattle.revise_definitions.specs.declared.Action.TheVariants.{Modify, Delete, Before, After}
-use Rattle.revise_definitions.specs.Actions.{is_action_card, is_heading, deletes, action_on, anchor_on, action_card_after, action_after, anchor_after, under_after, edit_in, edit_of}
+use Rattle.revise_definitions.specs.Actions.{is_action_card, is_heading, deletes, action_on, anchor_on, action_card_after, action_after, anchor_after}
+use Rattle.revise_definitions.specs.Actions.{under_after, edit_in, edit_of}
 use Rattle.revise_definitions.specs.Edits.{goes_on, goes_on_row, rows_begun, row_place, edited}
 use Rattle.revise_definitions.specs.Tests.{action_fault, edit_fault, action_data_fault}
 use Rattle.revise_definitions.specs.Revision.{revised, may_come_after, inner_card_fault, revise_card_fault}

@@ -1,5 +1,6 @@
 -- Nothing is said twice in a lawful problem, so what a list has at a place differs from all before it.
-use Rattle.std.proofs.Common.{◌≡◌, ℕ, zero, suc, ◌<◌, Bool, true, false, ◌&&◌, ◌||◌, List, [], ◌∷◌, Option, Some, None, get_or, length, map, take, refl, ap, ap₂, sym, subst, ◌∙◌, arith}
+use Rattle.std.proofs.Common.{◌≡◌, ℕ, zero, suc, ◌<◌, Bool, true, false, ◌&&◌, ◌||◌, List, [], ◌∷◌, Option, Some, None, get_or, length, map, take, refl, ap}
+use Rattle.std.proofs.Common.{ap₂, sym, subst, ◌∙◌, arith}
 use Rattle.std.specs.List.{list_any, AllByRecursion, IsDistinct}
 use Rattle.std.specs.Option.{IfSome}
 use Rattle.problem_definitions.specs.Kinds.{touches_upper, touches_lower}

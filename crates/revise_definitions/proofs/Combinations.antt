@@ -12,7 +12,8 @@ use Rattle.problem_definitions.specs.Problem.{Problem, Row, Entry, combination}
 use Rattle.problem_definitions.specs.Numbering.{numbered, by_names}
 use Rattle.deck_definitions.specs.declared.DeckFault.{DeckFault}
 use Rattle.deck_definitions.specs.declared.DeckFaultKind.{DeckFaultKind}
-use Rattle.deck_definitions.specs.declared.DeckFaultKind.TheVariants.{BadRowType, DuplicateRow, UnknownRow, DuplicateEntry, Number, RangeOnFree, DeleteMissing, EntryOnCombination}
+use Rattle.deck_definitions.specs.declared.DeckFaultKind.TheVariants.{BadRowType, DuplicateRow, UnknownRow, DuplicateEntry, Number, RangeOnFree, DeleteMissing}
+use Rattle.deck_definitions.specs.declared.DeckFaultKind.TheVariants.{EntryOnCombination}
 use Rattle.revise_definitions.specs.Revision.{revised, revise_fault, revise_card_fault, revision}
 use Rattle.revise_definitions.proofs.Old.{row, entry, group}
 

@@ -7,7 +7,10 @@ use Rattle.card_definitions.specs.Fields.{reading_of}
 use Rattle.card_definitions.specs.Numbers.{number_fault}
 use Rattle.deck_definitions.specs.declared.DeckFault.{DeckFault}
 use Rattle.deck_definitions.specs.declared.DeckFaultKind.{DeckFaultKind}
-use Rattle.deck_definitions.specs.declared.DeckFaultKind.TheVariants.{SectionOrder, UnknownSection, BadRowType, DuplicateRow, ColumnSplit, UnknownRow, DuplicateEntry, Number, RangeOnFree, BadBoundType, UnknownColumn, NoEndata, Marker, EmptyName, TooManyEntries, ExtraField, UnknownAction, NoAnchor, DeleteMissing, ModifyMissing}
+use Rattle.deck_definitions.specs.declared.DeckFaultKind.TheVariants.{SectionOrder, UnknownSection, BadRowType, DuplicateRow, ColumnSplit, UnknownRow}
+use Rattle.deck_definitions.specs.declared.DeckFaultKind.TheVariants.{DuplicateEntry, Number, RangeOnFree, BadBoundType, UnknownColumn, NoEndata, Marker}
+use Rattle.deck_definitions.specs.declared.DeckFaultKind.TheVariants.{EmptyName, TooManyEntries, ExtraField, UnknownAction, NoAnchor, DeleteMissing}
+use Rattle.deck_definitions.specs.declared.DeckFaultKind.TheVariants.{ModifyMissing}
 use Rattle.deck_definitions.specs.declared.Section.TheVariants.{Columns}
 use Rattle.deck_definitions.specs.DataCards.{Pair, entry_of}
 use Rattle.revise_definitions.specs.Revision.{revise_fault, revise_card_fault, revised}

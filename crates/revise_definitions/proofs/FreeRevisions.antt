@@ -8,7 +8,8 @@ use Rattle.problem_definitions.specs.Names.{Name}
 use Rattle.problem_definitions.specs.Problem.{Problem}
 use Rattle.deck_definitions.specs.declared.DeckFault.{DeckFault}
 use Rattle.deck_definitions.specs.declared.DeckFaultKind.{DeckFaultKind}
-use Rattle.deck_definitions.specs.declared.DeckFaultKind.TheVariants.{SectionOrder, BadRowType, RangeOnFree, BadBoundType, WordCount, LongName, UnknownAction, NoAnchor, DeleteMissing, ModifyMissing}
+use Rattle.deck_definitions.specs.declared.DeckFaultKind.TheVariants.{SectionOrder, BadRowType, RangeOnFree, BadBoundType, WordCount, LongName, UnknownAction}
+use Rattle.deck_definitions.specs.declared.DeckFaultKind.TheVariants.{NoAnchor, DeleteMissing, ModifyMissing}
 use Rattle.revise_definitions.specs.Revision.{revised, revise_fault, revise_card_fault}
 use Rattle.revise_definitions.proofs.Old.{old}
 
@@ -37,13 +38,16 @@ unfolding revised reading_of words
 rows_edited = refl
 
 columns_edited : free ("COLUMNS" ∷ " BEFORE Y" ∷ " Z COST 3 LIM 4" ∷ " MODIFY" ∷ " X COST 5" ∷ " DELETE" ∷ " X LIM" ∷ " Y" ∷ [])
-    ≡ fixed ("COLUMNS" ∷ " BEFORE       Y" ∷ "    Z         COST      3              LIM       4" ∷ " MODIFY" ∷ "    X         COST      5" ∷ " DELETE" ∷ "    X         LIM" ∷ "    Y" ∷ [])
+    ≡ fixed ("COLUMNS" ∷ " BEFORE       Y" ∷ "    Z         COST      3              LIM       4" ∷ " MODIFY" ∷ "    X         COST      5" ∷ " DELETE"
+    ∷ "    X         LIM" ∷ "    Y" ∷ [])
 unfolding revised reading_of words
 columns_edited = refl
 
 sets_edited : free
-    ("RHS" ∷ " MODIFY" ∷ " LIM 9" ∷ " B COST 1" ∷ " DELETE" ∷ " B LIM" ∷ "RANGES" ∷ " DELETE" ∷ " R" ∷ "BOUNDS" ∷ " MODIFY" ∷ " FR BND Y" ∷ " UP X 7" ∷ " DELETE" ∷ " BND X" ∷ [])
-    ≡ fixed ("RHS" ∷ " MODIFY" ∷ "              LIM       9" ∷ "    B         COST      1" ∷ " DELETE" ∷ "    B         LIM" ∷ "RANGES" ∷ " DELETE" ∷ "    R" ∷ "BOUNDS" ∷ " MODIFY" ∷ " FR BND       Y" ∷ " UP           X         7" ∷ " DELETE" ∷ "    BND       X" ∷ [])
+    ("RHS" ∷ " MODIFY" ∷ " LIM 9" ∷ " B COST 1" ∷ " DELETE" ∷ " B LIM" ∷ "RANGES" ∷ " DELETE" ∷ " R" ∷ "BOUNDS" ∷ " MODIFY" ∷ " FR BND Y" ∷ " UP X 7"
+    ∷ " DELETE" ∷ " BND X" ∷ [])
+    ≡ fixed ("RHS" ∷ " MODIFY" ∷ "              LIM       9" ∷ "    B         COST      1" ∷ " DELETE" ∷ "    B         LIM" ∷ "RANGES" ∷ " DELETE" ∷ "    R"
+    ∷ "BOUNDS" ∷ " MODIFY" ∷ " FR BND       Y" ∷ " UP           X         7" ∷ " DELETE" ∷ "    BND       X" ∷ [])
 unfolding revised reading_of words
 sets_edited = refl
 

@@ -1,6 +1,7 @@
 -- What one more card does to the action that holds, to the cards under it and to the revised problem: the steps of a
 -- reader that goes card by card.
-use Rattle.std.proofs.Common.{◌≡◌, ℕ, ◌+◌, ◌-◌, ◌≤◌, Bool, true, false, cond, not, ◌||◌, List, [], ◌∷◌, ◌++◌, Option, Some, None, unwrap_or, length, drop, map, fold, refl, ap, ◌∙◌, arith}
+use Rattle.std.proofs.Common.{◌≡◌, ℕ, ◌+◌, ◌-◌, ◌≤◌, Bool, true, false, cond, not, ◌||◌, List, [], ◌∷◌, ◌++◌, Option, Some, None, unwrap_or, length, drop, map}
+use Rattle.std.proofs.Common.{fold, refl, ap, ◌∙◌, arith}
 use Rattle.std.specs.List.{filter, last_or, after_last, prefix_len, suffix_len}
 use Rattle.std.specs.Option.{option_map, option_and_then, option_to_list}
 use Rattle.std.proofs.lemmas.List.{append-nil, length-append, reverse-append, map-append, drop-append-le}

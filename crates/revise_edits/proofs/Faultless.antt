@@ -1,5 +1,6 @@
 -- What a card gives in whose tests no fault was found: what its edit needs.
-use Rattle.std.proofs.Common.{◌≡◌, ℕ, ◌+◌, Bool, true, false, cond, not, ◌&&◌, List, [], ◌∷◌, ◌++◌, Option, Some, None, is_some, is_none, length, nat_le, refl, sym, subst, ◌∙◌}
+use Rattle.std.proofs.Common.{◌≡◌, ℕ, ◌+◌, Bool, true, false, cond, not, ◌&&◌, List, [], ◌∷◌, ◌++◌, Option, Some, None, is_some, is_none, length, nat_le, refl}
+use Rattle.std.proofs.Common.{sym, subst, ◌∙◌}
 use Rattle.std.specs.Option.{option_or, IfSome}
 use Rattle.card_definitions.specs.Words.{named, is_empty, ◌⟹◌}
 use Rattle.card_definitions.specs.Fields.{Reading}
@@ -10,7 +11,8 @@ use Rattle.problem_definitions.specs.Problem.{Row, Entry, Problem, has_row, has_
 use Rattle.problem_definitions.specs.Parts.{parts_of, rows_before}
 use Rattle.problem_definitions.specs.Groups.{items_of}
 use Rattle.deck_definitions.specs.declared.DeckFaultKind.{DeckFaultKind}
-use Rattle.deck_definitions.specs.declared.DeckFaultKind.TheVariants.{BadRowType, DuplicateRow, ColumnSplit, RangeOnFree, UnknownColumn, EmptyName, TooManyRows, TooManyColumns, ModifyMissing}
+use Rattle.deck_definitions.specs.declared.DeckFaultKind.TheVariants.{BadRowType, DuplicateRow, ColumnSplit, RangeOnFree, UnknownColumn, EmptyName, TooManyRows}
+use Rattle.deck_definitions.specs.declared.DeckFaultKind.TheVariants.{TooManyColumns, ModifyMissing}
 use Rattle.deck_definitions.specs.declared.Section.{Section}
 use Rattle.deck_definitions.specs.declared.Section.TheVariants.{Rows, Columns, Rhs, Ranges, Bounds}
 use Rattle.deck_definitions.specs.DataCards.{Pair, pair_if, pairs_of, part_pairs_of, entry_of, kind_on, bound_kinds, combination_kinds}
@@ -20,7 +22,8 @@ use Rattle.named_problem.specs.Views.{rows_alone, bound_end_fault}
 use Rattle.revise_definitions.specs.declared.Action.{Action}
 use Rattle.revise_definitions.specs.declared.Action.TheVariants.{Modify, Delete, Before, After}
 use Rattle.revise_definitions.specs.Edits.{put_entry}
-use Rattle.revise_definitions.specs.Tests.{put_fault, puts_fault, has_range, frees, has_type_for, modified_fields_fault, modify_rows_fault, modify_columns_fault, modify_sets_fault, modify_bound_fault}
+use Rattle.revise_definitions.specs.Tests.{put_fault, puts_fault, has_range, frees, has_type_for, modified_fields_fault, modify_rows_fault}
+use Rattle.revise_definitions.specs.Tests.{modify_columns_fault, modify_sets_fault, modify_bound_fault}
 use Rattle.revise_definitions.proofs.Pairs.{puts_fault-cons}
 use Rattle.named_problem.specs.Additions.{AreNumbers, AreNew}
 use Rattle.revise_edits.specs.Summary.{Under, goes_on_from, goes_on_row_from}

@@ -8,7 +8,9 @@ ghost use Rattle.deck_definitions.specs.declared.Section.TheVariants.{Columns};
 ghost use Rattle.deck_definitions.specs.Tests.{kind_filled, marks, filled_from_3, filled_from_4, row_fields_fault, rows_fault, pairs_fault, of_bound_type};
 ghost use Rattle.deck_fields.specs.Views.{viewed};
 ghost use Rattle.named_problem.specs.Views.{rows_alone};
-ghost use Rattle.revise_definitions.specs.Tests.{has_range, has_type_for, frees, modified_fields_fault, puts_fault, modify_rows_fault, delete_rows_fault, modify_columns_fault, modify_sets_fault, delete_entry_fault, delete_columns_fault, delete_sets_fault, modify_bound_fault, delete_bounds_fault};
+ghost use Rattle.revise_definitions.specs.Tests.{has_range, has_type_for, frees, modified_fields_fault, puts_fault, modify_rows_fault, delete_rows_fault};
+ghost use Rattle.revise_definitions.specs.Tests.{modify_columns_fault, modify_sets_fault, delete_entry_fault, delete_columns_fault, delete_sets_fault};
+ghost use Rattle.revise_definitions.specs.Tests.{modify_bound_fault, delete_bounds_fault};
 ghost use Rattle.revise_edits.specs.EditTests.{insert_columns_test};
 
 use crate::pairs::{first_of, pairs_fault_of, parts_fault_of, put_parts_fault_of, puts_fault_of};

@@ -1,5 +1,6 @@
 -- A problem by numbers is lawful by names.
-use Rattle.std.proofs.Common.{◌≡◌, ℕ, ◌+◌, ◌≤◌, Bool, true, false, ◌&&◌, List, [], ◌∷◌, ◌++◌, Option, Some, None, option_map, length, map, refl, ap, sym, ◌∙◌, subst, append_assoc, arith, nat_eq, is_some}
+use Rattle.std.proofs.Common.{◌≡◌, ℕ, ◌+◌, ◌≤◌, Bool, true, false, ◌&&◌, List, [], ◌∷◌, ◌++◌, Option, Some, None, option_map, length, map, refl, ap, sym, ◌∙◌}
+use Rattle.std.proofs.Common.{subst, append_assoc, arith, nat_eq, is_some}
 use Rattle.std.specs.List.{All, AllByRecursion, IsDistinct, sum_by, enumerate_from}
 use Rattle.std.specs.Option.{IfSome}
 use Rattle.std.proofs.lemmas.List.{length-map, length-append, map-append}
@@ -10,14 +11,16 @@ use Rattle.problem_definitions.specs.Names.{Name, same, has_name, name_at, marke
 use Rattle.problem_definitions.specs.Kinds.{meet, takes_value}
 use Rattle.problem_definitions.specs.Problem.{Row, Entry, Bound, Group, Problem, row_names, group_names, has_row, has_free_row, has_combination, has_group}
 use Rattle.problem_definitions.specs.Numbering.{entry_by, row_by, bound_by, group_by, by_names}
-use Rattle.problem_definitions.specs.Valid.{IsName, IsDecimal, AreLabels, IsNumberOf, AreEntries, clash, AreBounds, AreSets, is_free_row, is_combination, IsProblem}
+use Rattle.problem_definitions.specs.Valid.{IsName, IsDecimal, AreLabels, IsNumberOf, AreEntries, clash, AreBounds, AreSets, is_free_row, is_combination}
+use Rattle.problem_definitions.specs.Valid.{IsProblem}
 use Rattle.problem_definitions.proofs.Names.{row_is_named}
 use Rattle.problem_definitions.proofs.Groups.{map-map, has_group-names}
 use Rattle.problem_definitions.proofs.Each.{each-change, each-mapped, distinct-mapped, all-each}
 use Rattle.problem_definitions.proofs.RowsBy.{row_names-by, row_count-by, has_free_row-by, has_combination-by}
 use Rattle.problem_definitions.proofs.LawfulEntries.{AreLawfulEntries}
 use Rattle.problem_definitions.proofs.Parts.{ArePartsAfter}
-use Rattle.problem_definitions.proofs.Lawful.{IsLabel, AreGroups, AreColumnEntries, AreRightHandSides, AreRanges, clash_by_name, AreLawfulBounds, AreBoundSets, IsLawful, names-by, empty-map}
+use Rattle.problem_definitions.proofs.Lawful.{IsLabel, AreGroups, AreColumnEntries, AreRightHandSides, AreRanges, clash_by_name, AreLawfulBounds, AreBoundSets}
+use Rattle.problem_definitions.proofs.Lawful.{IsLawful, names-by, empty-map}
 use Rattle.revise_laws.proofs.Places.{name_at-there, name_at-front, names_apart, free_row-name, combination-name}
 
 labels : (names : List Name) → AreLabels names → AllByRecursion IsLabel names

@@ -1,5 +1,6 @@
 -- The edits of columns keep a problem lawful.
-use Rattle.std.proofs.Common.{◌≡◌, ℕ, ◌+◌, ◌≤◌, Bool, true, false, cond, not, ◌&&◌, ◌||◌, List, [], ◌∷◌, ◌++◌, None, length, map, refl, sym, ◌∙◌, subst, arith, is_some, nat_le}
+use Rattle.std.proofs.Common.{◌≡◌, ℕ, ◌+◌, ◌≤◌, Bool, true, false, cond, not, ◌&&◌, ◌||◌, List, [], ◌∷◌, ◌++◌, None, length, map, refl, sym, ◌∙◌, subst, arith}
+use Rattle.std.proofs.Common.{is_some, nat_le}
 use Rattle.std.specs.List.{AllByRecursion, IsDistinct, insert}
 use Rattle.std.specs.Option.{IfSome}
 use Rattle.std.proofs.lemmas.List.{length-append}
@@ -30,7 +31,9 @@ use Rattle.revise_definitions.specs.Actions.{Edit}
 use Rattle.revise_definitions.specs.Edits.{place_of, goes_on, insert_column, delete_column, without_row, without_column, put_entries}
 use Rattle.revise_definitions.specs.Tests.{puts_fault, modify_columns_fault, insert_columns_fault}
 use Rattle.revise_definitions.proofs.Pairs.{put_entries-length}
-use Rattle.revise_laws.proofs.Lists.{each-filter, each-passes, distinct-filter, distinct-mapped_filter, any-filter, length-filter, sum-filter, each-insert, distinct-insert, map-insert, any-inserted, length-inserted, sum-inserted, no_items, groups-changed, groups-without, groups-all, groups-filled, has_group-changed, length-changed, sum-changed}
+use Rattle.revise_laws.proofs.Lists.{each-filter, each-passes, distinct-filter, distinct-mapped_filter, any-filter, length-filter, sum-filter, each-insert}
+use Rattle.revise_laws.proofs.Lists.{distinct-insert, map-insert, any-inserted, length-inserted, sum-inserted, no_items, groups-changed, groups-without}
+use Rattle.revise_laws.proofs.Lists.{groups-all, groups-filled, has_group-changed, length-changed, sum-changed}
 use Rattle.revise_laws.proofs.Puts.{Fits, no-entries, puts-each, puts-lawful, puts-fit, puts-few}
 use Rattle.revise_laws.proofs.RowEdits.{bound_sets-still}
 

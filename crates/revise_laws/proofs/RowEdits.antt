@@ -1,5 +1,6 @@
 -- The edits of rows keep a problem lawful.
-use Rattle.std.proofs.Common.{◌≡◌, ℕ, ◌+◌, ◌≤◌, Bool, true, false, cond, not, ◌&&◌, ◌||◌, List, [], ◌∷◌, ◌++◌, Option, Some, None, length, map, take, refl, ap, ap₂, sym, ◌∙◌, subst, arith, is_none, is_some, nat_le, unwrap_or}
+use Rattle.std.proofs.Common.{◌≡◌, ℕ, ◌+◌, ◌≤◌, Bool, true, false, cond, not, ◌&&◌, ◌||◌, List, [], ◌∷◌, ◌++◌, Option, Some, None, length, map, take, refl, ap}
+use Rattle.std.proofs.Common.{ap₂, sym, ◌∙◌, subst, arith, is_none, is_some, nat_le, unwrap_or}
 use Rattle.std.specs.List.{AllByRecursion, IsDistinct, filter, insert, last_or}
 use Rattle.std.specs.Option.{option_map, option_or, option_and_then, IfSome}
 use Rattle.std.proofs.lemmas.List.{length-map}
@@ -11,7 +12,8 @@ use Rattle.problem_definitions.specs.declared.RowKind.{RowKind}
 use Rattle.problem_definitions.specs.declared.RowKind.TheVariants.{N, G, L, E}
 use Rattle.problem_definitions.specs.Names.{Name, same, has_name, marker}
 use Rattle.problem_definitions.specs.Kinds.{is_free_kind}
-use Rattle.problem_definitions.specs.Problem.{Row, plain_row, combination, Entry, Bound, Group, Problem, row_names, has_row, has_free_row, has_combination, has_group, has_entry}
+use Rattle.problem_definitions.specs.Problem.{Row, plain_row, combination, Entry, Bound, Group, Problem, row_names, has_row, has_free_row, has_combination}
+use Rattle.problem_definitions.specs.Problem.{has_group, has_entry}
 use Rattle.problem_definitions.specs.Parts.{parts_of, with_parts, in_row, rows_before}
 use Rattle.problem_definitions.specs.Groups.{in_all}
 use Rattle.problem_definitions.specs.Valid.{IsDecimal}
@@ -19,7 +21,8 @@ use Rattle.problem_definitions.proofs.Names.{same_eq, same_sym, row_is_named}
 use Rattle.problem_definitions.proofs.Groups.{map-map}
 use Rattle.problem_definitions.proofs.Each.{each-change, absent-apart}
 use Rattle.problem_definitions.proofs.LawfulEntries.{AreLawfulEntries}
-use Rattle.problem_definitions.proofs.Parts.{ArePartsAfter, AreNamed, AreLeft, entries-wider, parts-mapped, parts-changed, parts-insert, parts-left, parts_of-new, parts_of-lawful, in_row-names, in_row-length}
+use Rattle.problem_definitions.proofs.Parts.{ArePartsAfter, AreNamed, AreLeft, entries-wider, parts-mapped, parts-changed, parts-insert, parts-left}
+use Rattle.problem_definitions.proofs.Parts.{parts_of-new, parts_of-lawful, in_row-names, in_row-length}
 use Rattle.problem_definitions.proofs.Lawful.{IsLabel, AreColumnEntries, AreRightHandSides, AreRanges, AreLawfulBounds, AreBoundSets, IsLawful}
 use Rattle.problem_definitions.proofs.OtherRows.{AreStill, groups-same, rows-changed, in_row-still}
 use Rattle.deck_definitions.specs.declared.DeckFaultKind.{DeckFaultKind}
@@ -33,7 +36,9 @@ use Rattle.deck_definitions.proofs.Accepted.{pairs-lawful, not_full}
 use Rattle.revise_definitions.specs.Actions.{Edit}
 use Rattle.revise_definitions.specs.Edits.{row_place, goes_on_row, earlier_rows, insert_row, retyped, modify_row, delete_row, put_entries, without_row}
 use Rattle.revise_definitions.specs.Tests.{has_range, frees, has_type_for, puts_fault, modified_fields_fault, modify_rows_fault}
-use Rattle.revise_laws.proofs.Lists.{each-filter, each-passes, distinct-mapped_filter, each-mapped_filter, any-filter, none-filter, length-filter, each-insert, distinct-insert, map-insert, any-inserted, none-inserted, length-inserted, groups-all, groups-filled, sum-all, has_group-all}
+use Rattle.revise_laws.proofs.Lists.{each-filter, each-passes, distinct-mapped_filter, each-mapped_filter, any-filter, none-filter, length-filter, each-insert}
+use Rattle.revise_laws.proofs.Lists.{distinct-insert, map-insert, any-inserted, none-inserted, length-inserted, groups-all, groups-filled, sum-all}
+use Rattle.revise_laws.proofs.Lists.{has_group-all}
 use Rattle.revise_laws.proofs.Puts.{no-entries, puts-lawful, puts-fit}
 
 -- bounds on columns that are still there
@@ -325,7 +330,8 @@ module _ (name : Name) (p : Problem Name) (lawful : IsLawful p) where
         groups-filled AreRangesLeft (AreRanges rows_left) (λ items c e. record { entries_lawful = c.entries_lawful; filled = e; limited = c.limited })
         (in_all (without_row name) p.ranges)
         (groups-all (AreRanges p.rows) AreRangesLeft (without_row name)
-        (λ items c. record { entries_lawful = entries-left name p.rows rows_left row-left items c.entries_lawful; limited = limited-left items c.limited }) p.ranges lawful.ranges);
+        (λ items c. record { entries_lawful = entries-left name p.rows rows_left row-left items c.entries_lawful; limited = limited-left items c.limited })
+        p.ranges lawful.ranges);
     bounds =
         groups-same (AreBoundSets p.columns) (AreBoundSets (in_all (without_row name) p.columns))
         (bound_sets-still p.columns (in_all (without_row name) p.columns) (has_group-all (without_row name) p.columns)) p.bounds lawful.bounds;

@@ -1,5 +1,6 @@
 -- The edits of sets of right-hand sides, ranges and bounds keep a problem lawful.
-use Rattle.std.proofs.Common.{◌≡◌, Bool, true, false, cond, not, ◌&&◌, ◌||◌, List, [], ◌∷◌, ◌++◌, Option, Some, None, map, refl, ap₂, sym, ◌∙◌, is_some, unwrap_or}
+use Rattle.std.proofs.Common.{◌≡◌, Bool, true, false, cond, not, ◌&&◌, ◌||◌, List, [], ◌∷◌, ◌++◌, Option, Some, None, map, refl, ap₂, sym, ◌∙◌, is_some}
+use Rattle.std.proofs.Common.{unwrap_or}
 use Rattle.std.specs.List.{AllByRecursion, IsDistinct, filter}
 use Rattle.std.specs.Option.{option_map, IfSome}
 use Rattle.std.proofs.lemmas.Bool.{not-false}

@@ -13,7 +13,8 @@ use Rattle.run_definitions.specs.State.{State, start}
 use Rattle.run_definitions.specs.Moves.{Prints, StatementOutcome, next}
 use Rattle.run_definitions.specs.Verbs.{verb_move}
 use Rattle.run_definitions.specs.Run.{counted, Step, begun, stepped, is_over, at_end, IsRun}
-use Rattle.run_definitions.specs.Answer.{Failures, WithoutBytes, Read, Made, job_decks, control_fault as by_control_fault, run, IsJobRun, words_refused, read_fails, by_itself, memory_at_start, IsSoFar, in_report, in_end, whole, print_fails, IsAnswer}
+use Rattle.run_definitions.specs.Answer.{Failures, WithoutBytes, Read, Made, job_decks, control_fault as by_control_fault, run, IsJobRun, words_refused}
+use Rattle.run_definitions.specs.Answer.{read_fails, by_itself, memory_at_start, IsSoFar, in_report, in_end, whole, print_fails, IsAnswer}
 use Rattle.run_definitions.proofs.Courses.{silent}
 
 -- nothing fails; a read fails; a write to the print fails

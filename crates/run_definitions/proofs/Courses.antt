@@ -1,7 +1,8 @@
 -- A plain program that follows a run as long as it asks nothing of linear programming, and the proof that what it finds is the run.
 use Rattle.std.proofs.Common.{◌≡◌, refl, sym, ap, subst, append_assoc, append-nil, inl}
 use Rattle.std.proofs.lemmas.Bool.{ltb-true}
-use Rattle.std.specs.Prelude.{ℕ, zero, suc, ◌-◌, ◌<◌, Bool, true, false, nat_lt, List, [], ◌++◌, Option, Some, None, unwrap_or, Result, Ok, Err, slice_get, length}
+use Rattle.std.specs.Prelude.{ℕ, zero, suc, ◌-◌, ◌<◌, Bool, true, false, nat_lt, List, [], ◌++◌, Option, Some, None, unwrap_or, Result, Ok, Err, slice_get}
+use Rattle.std.specs.Prelude.{length}
 use Rattle.card_definitions.specs.declared.CardFault.{CardFault}
 use Rattle.card_definitions.specs.Cards.{Card, cards_of, job_fault}
 use Rattle.control_definitions.specs.declared.ControlFault.{ControlFault}

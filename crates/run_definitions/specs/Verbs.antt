@@ -9,7 +9,11 @@ use Rattle.problem_definitions.specs.Problem.{Problem, has_free_row, has_group, 
 use Rattle.problem_definitions.specs.Numbering.{by_names}
 use Rattle.deck_definitions.specs.declared.DeckFault.{DeckFault}
 use Rattle.deck_definitions.specs.declared.DeckFaultKind.{DeckFaultKind}
-use Rattle.deck_definitions.specs.declared.DeckFaultKind.TheVariants.{SectionOrder, UnknownSection, BadRowType, DuplicateRow, ColumnSplit, UnknownRow, DuplicateEntry, Number, RangeOnFree, BadBoundType, UnknownColumn, BoundTwice, NoEndata, Marker, EmptyName, TooManyRows, TooManyColumns, TooManyEntries, ExtraField, UnknownAction, NoAnchor, DeleteMissing, ModifyMissing, WordCount, LongName, LongNumber, EntryOnCombination, BadBasisCode, NamedTwice, NoSuchLimit}
+use Rattle.deck_definitions.specs.declared.DeckFaultKind.TheVariants.{SectionOrder, UnknownSection, BadRowType, DuplicateRow, ColumnSplit, UnknownRow}
+use Rattle.deck_definitions.specs.declared.DeckFaultKind.TheVariants.{DuplicateEntry, Number, RangeOnFree, BadBoundType, UnknownColumn, BoundTwice, NoEndata}
+use Rattle.deck_definitions.specs.declared.DeckFaultKind.TheVariants.{Marker, EmptyName, TooManyRows, TooManyColumns, TooManyEntries, ExtraField, UnknownAction}
+use Rattle.deck_definitions.specs.declared.DeckFaultKind.TheVariants.{NoAnchor, DeleteMissing, ModifyMissing, WordCount, LongName, LongNumber}
+use Rattle.deck_definitions.specs.declared.DeckFaultKind.TheVariants.{EntryOnCombination, BadBasisCode, NamedTwice, NoSuchLimit}
 use Rattle.deck_definitions.specs.Conversion.{conversion, deck_name}
 use Rattle.deck_definitions.specs.Written.{written}
 use Rattle.deck_definitions.specs.Decks.{deck_taken}
@@ -20,7 +24,8 @@ use Rattle.lp_definitions.specs.LinearProgram.{LinearProgram}
 use Rattle.lp_definitions.specs.Basis.{opening_statuses}
 use Rattle.control_definitions.specs.declared.NameCell.{NameCell}
 use Rattle.control_definitions.specs.declared.NameCell.TheVariants.{Xobj, Xrhs}
-use Rattle.control_definitions.specs.Program.{SetupOptions, Verb, Initialz, Title, MoveName, MoveNumber, MoveLimit, Mvadr, Goto, Convert, Setup, Primal, Dual, Revise, Ranging, Paraobj, Pararhs, Solution as SolutionVerb, Bcdout, Punch, Insert, Exit}
+use Rattle.control_definitions.specs.Program.{SetupOptions, Verb, Initialz, Title, MoveName, MoveNumber, MoveLimit, Mvadr, Goto, Convert, Setup, Primal, Dual}
+use Rattle.control_definitions.specs.Program.{Revise, Ranging, Paraobj, Pararhs, Solution as SolutionVerb, Bcdout, Punch, Insert, Exit}
 use Rattle.selection_definitions.specs.declared.SelectionFault.{SelectionFault}
 use Rattle.selection_definitions.specs.Choice.{Choice}
 use Rattle.selection_definitions.specs.Selection.{selected}
@@ -29,13 +34,18 @@ use Rattle.listing_definitions.specs.declared.Mark.TheVariants.{Optimal, Infeasi
 use Rattle.listing_definitions.specs.declared.Solver.{Solver}
 use Rattle.listing_definitions.specs.declared.Solver.TheVariants.{Primal as ByPrimal, Dual as ByDual}
 use Rattle.listing_definitions.specs.declared.VerbFault.{VerbFault}
-use Rattle.listing_definitions.specs.declared.VerbFault.TheVariants.{DeckNotFound, NoProblem, NoSetup, NotSolved, NotOptimal, NoChangeRow, NoChangeSet, NoParmax, ParmaxBelow, NoObjective, ObjectiveNotFree, NoRhsSet, NoRangeSet, NoBoundSet}
-use Rattle.listing_definitions.specs.Report.{PathVerdict, OptimalAt, CrossedAt, InfeasibleBy, UnboundedBy, Report, Titled, Filed, Converted, Revised, SetUp, BcdOut, BasisOut, Inserted, Solved, Solution, Ranges, Parametric, ChainEnd, EndsAt, UnboundedPast, InfeasiblePast}
+use Rattle.listing_definitions.specs.declared.VerbFault.TheVariants.{DeckNotFound, NoProblem, NoSetup, NotSolved, NotOptimal, NoChangeRow, NoChangeSet}
+use Rattle.listing_definitions.specs.declared.VerbFault.TheVariants.{NoParmax, ParmaxBelow, NoObjective, ObjectiveNotFree, NoRhsSet, NoRangeSet, NoBoundSet}
+use Rattle.listing_definitions.specs.Report.{PathVerdict, OptimalAt, CrossedAt, InfeasibleBy, UnboundedBy, Report, Titled, Filed, Converted, Revised, SetUp}
+use Rattle.listing_definitions.specs.Report.{BcdOut, BasisOut, Inserted, Solved, Solution, Ranges, Parametric, ChainEnd, EndsAt, UnboundedPast, InfeasiblePast}
 use Rattle.listing_definitions.specs.Ending.{Ending, Ended, VerbStop, SingularStop, PriceStop, DeckStop, LimitStop}
-use Rattle.question_definitions.specs.Answers.{Basis, Sheet, Changing, Row, Set, changing_name, parametric_solver, ParametricRun, Question, AnswerTo, OfPath, OfSolution, OfRanges, OfParametricRun, OfPunch, OfInstall, PathEnd, Reached, PathLimit, PricesWrong, ParametricRunEnd, Opening, Chained, ParametricRunLimit, InstallEnd, Installed, DependsBy}
+use Rattle.question_definitions.specs.Answers.{Basis, Sheet, Changing, Row, Set, changing_name, parametric_solver, ParametricRun, Question, AnswerTo, OfPath}
+use Rattle.question_definitions.specs.Answers.{OfSolution, OfRanges, OfParametricRun, OfPunch, OfInstall, PathEnd, Reached, PathLimit, PricesWrong}
+use Rattle.question_definitions.specs.Answers.{ParametricRunEnd, Opening, Chained, ParametricRunLimit, InstallEnd, Installed, DependsBy}
 use Rattle.control_definitions.specs.Cells.{default_cells, move_name, move_number, move_limit, steps_allowed, set_demand}
 use Rattle.run_definitions.specs.State.{Present, present_basis, path_of, gone_through, State, problem_of, choice_of}
-use Rattle.run_definitions.specs.Moves.{Nothing, Prints, Punches, StatementOutcome, Ends, next, jump, stops, InSelection, InAnswer, StatementMove, Does, MayStop, Asks, or_fault}
+use Rattle.run_definitions.specs.Moves.{Nothing, Prints, Punches, StatementOutcome, Ends, next, jump, stops, InSelection, InAnswer, StatementMove, Does}
+use Rattle.run_definitions.specs.Moves.{MayStop, Asks, or_fault}
 
 -- ---- decks
 

@@ -1,5 +1,6 @@
 -- What CONVERT and REVISE come to.
-use Rattle.std.proofs.Common.{◌≡◌, ℕ, ◌+◌, ◌-◌, ◌≤◌, length, arith, Bool, true, List, ◌∷◌, Option, None, Some, Result, Ok, Err, IfOk, if◌then◌else◌, drop, refl, sym, ap, subst, ◌∙◌}
+use Rattle.std.proofs.Common.{◌≡◌, ℕ, ◌+◌, ◌-◌, ◌≤◌, length, arith, Bool, true, List, ◌∷◌, Option, None, Some, Result, Ok, Err, IfOk, if◌then◌else◌, drop, refl}
+use Rattle.std.proofs.Common.{sym, ap, subst, ◌∙◌}
 use Rattle.std.specs.Prelude.{IfErr, option_and_then}
 use Rattle.std.proofs.lemmas.Slice.Eq.{bytes_eq-Decides}
 use Rattle.job_devices.specs.States.{SinkState}

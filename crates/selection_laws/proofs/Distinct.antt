@@ -1,5 +1,6 @@
 -- The numbers of a column stand on rows of the problem, each on a row of its own.
-use Rattle.std.proofs.Common.{◌≡◌, ◌≢◌, ℕ, suc, ◌+◌, ◌-◌, ◌<◌, ◌⊎◌, inl, inr, true, false, List, [], ◌∷◌, ◌++◌, Option, Some, None, map, length, refl, ap, sym, ◌∙◌, subst, arith, nat_eq, unwrap_or, IsFalse}
+use Rattle.std.proofs.Common.{◌≡◌, ◌≢◌, ℕ, suc, ◌+◌, ◌-◌, ◌<◌, ◌⊎◌, inl, inr, true, false, List, [], ◌∷◌, ◌++◌, Option, Some, None, map, length, refl, ap, sym}
+use Rattle.std.proofs.Common.{◌∙◌, subst, arith, nat_eq, unwrap_or, IsFalse}
 use Rattle.std.specs.List.{AllByRecursion, IsDistinct, enumerate_from, filter_map, cons_option, slice_get}
 use Rattle.std.specs.Option.{option_map, is_some}
 use Rattle.std.proofs.lemmas.List.{map-append}

@@ -1,5 +1,6 @@
 -- What a lawful problem gives for combinations: their parts stand on rows before them, and columns have no entries on them.
-use Rattle.std.proofs.Common.{◌≡◌, ℕ, zero, suc, ◌+◌, ◌-◌, ◌≤◌, ◌≢◌, ◌⊎◌, inl, inr, true, false, List, [], ◌∷◌, Some, None, length, slice_get, slice_index_or, nat_eq, IfSome, IsFalse, All, refl, ap, ap₂, ◌∙◌, subst, arith}
+use Rattle.std.proofs.Common.{◌≡◌, ℕ, zero, suc, ◌+◌, ◌-◌, ◌≤◌, ◌≢◌, ◌⊎◌, inl, inr, true, false, List, [], ◌∷◌, Some, None, length, slice_get, slice_index_or}
+use Rattle.std.proofs.Common.{nat_eq, IfSome, IsFalse, All, refl, ap, ap₂, ◌∙◌, subst, arith}
 use Rattle.std.specs.List.{enumerate_from, AllByRecursion}
 use Rattle.std.proofs.lemmas.Option.{slice_get_within}
 use Rattle.std.proofs.lemmas.Bool.Decides.{eqb_tells}

@@ -1,5 +1,6 @@
 -- What a column has on each row, one row after the other.
-use Rattle.std.proofs.Common.{◌≡◌, ℕ, zero, suc, ◌+◌, ◌-◌, ◌<◌, ◌≤◌, List, [], ◌∷◌, ◌++◌, Option, Some, None, length, take, drop, fold, slice_get, slice_index_or, refl, ap, sym, ◌∙◌, arith, length-append, length-take, take-append-drop}
+use Rattle.std.proofs.Common.{◌≡◌, ℕ, zero, suc, ◌+◌, ◌-◌, ◌<◌, ◌≤◌, List, [], ◌∷◌, ◌++◌, Option, Some, None, length, take, drop, fold, slice_get}
+use Rattle.std.proofs.Common.{slice_index_or, refl, ap, sym, ◌∙◌, arith, length-append, length-take, take-append-drop}
 use Rattle.std.proofs.lemmas.List.Sums.{fold-append}
 use Rattle.exact_values.specs.Rational.{ℚ}
 use Rattle.problem_definitions.specs.Problem.{Row, Entry}

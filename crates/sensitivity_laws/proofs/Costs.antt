@@ -1,10 +1,12 @@
 -- The cost of a column changes.
-use Rattle.std.proofs.Common.{◌≡◌, ◌≢◌, ℕ, zero, suc, ◌+◌, ◌-◌, ◌<◌, List, [], ◌∷◌, set, refl, sym, ap, subst, ◌∙◌, Option, Some, None, Bool, true, false, ◌⊎◌, inl, inr, arith, filter}
+use Rattle.std.proofs.Common.{◌≡◌, ◌≢◌, ℕ, zero, suc, ◌+◌, ◌-◌, ◌<◌, List, [], ◌∷◌, set, refl, sym, ap, subst, ◌∙◌, Option, Some, None, Bool, true, false, ◌⊎◌}
+use Rattle.std.proofs.Common.{inl, inr, arith, filter}
 use Rattle.std.specs.Prelude.{◌↔◌, IfSome, nat_eq, not, cond, eqb}
 use Rattle.std.proofs.lemmas.Bool.Decides.{eqb_tells}
 use Rattle.std.proofs.lemmas.List.{get_or-set_same, get_or-set_other}
 use Rattle.exact_values.specs.Rational.{ℚ, ◌+ℚ◌, ◌*ℚ◌, ◌≤ℚ◌}
-use Rattle.lp_definitions.specs.LinearProgram.{LinearProgram, Vector, on_row, column, entry, cost, IsRow, IsColumn, lower_of, upper_of, with_change_row, for_min}
+use Rattle.lp_definitions.specs.LinearProgram.{LinearProgram, Vector, on_row, column, entry, cost, IsRow, IsColumn, lower_of, upper_of, with_change_row}
+use Rattle.lp_definitions.specs.LinearProgram.{for_min}
 use Rattle.lp_definitions.specs.Basis.{is_in, is_basic, basics_of, status_of, StandsAt, IsBasis, IsNonsingular, IsOptimalBasis, Tableau, IsTableau}
 use Rattle.lp_definitions.specs.declared.Change.{Change}
 use Rattle.lp_definitions.specs.declared.Entry.{Entry}

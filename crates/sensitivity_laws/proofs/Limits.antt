@@ -1,5 +1,6 @@
 -- The limit at which a nonbasic stands moves.
-use Rattle.std.proofs.Common.{◌≡◌, ◌≢◌, ℕ, ◌-◌, List, set, refl, sym, ap, ap₂, subst, subst₂, ◌∙◌, Option, Some, None, Bool, true, false, ◌⊎◌, inl, inr, arith, pos}
+use Rattle.std.proofs.Common.{◌≡◌, ◌≢◌, ℕ, ◌-◌, List, set, refl, sym, ap, ap₂, subst, subst₂, ◌∙◌, Option, Some, None, Bool, true, false, ◌⊎◌, inl, inr, arith}
+use Rattle.std.proofs.Common.{pos}
 use Rattle.std.specs.Prelude.{◌↔◌, IfSome, IsSome, cond, eqb}
 use Rattle.std.proofs.lemmas.Bool.Decides.{eqb_tells}
 use Rattle.std.proofs.lemmas.List.{get_or-set_same, get_or-set_other}

@@ -3,7 +3,8 @@ use Rattle.std.proofs.Common.{◌≡◌, ℕ, ◌⊎◌, inl, inr, List, refl, a
 use Rattle.std.specs.Prelude.{◌↔◌}
 use Rattle.exact_values.specs.Rational.{◌+ℚ◌, ◌*ℚ◌}
 use Rattle.lp_definitions.specs.LinearProgram.{Matrix, LinearProgram, IsRow, IsVariable, lower_of, upper_of, with_change_row, for_min}
-use Rattle.lp_definitions.specs.Basis.{is_in, is_basic, basics_of, status_of, IsBasis, IsNonbasic, IsNonsingular, IsOptimalBasis, IsFixed, IsRightAt, Tableau, IsTableau, objective_rate}
+use Rattle.lp_definitions.specs.Basis.{is_in, is_basic, basics_of, status_of, IsBasis, IsNonbasic, IsNonsingular, IsOptimalBasis, IsFixed, IsRightAt, Tableau}
+use Rattle.lp_definitions.specs.Basis.{IsTableau, objective_rate}
 use Rattle.lp_definitions.specs.declared.Change.{Change}
 use Rattle.lp_definitions.specs.declared.Status.{Status}
 use Rattle.lp_definitions.specs.declared.Status.TheVariants.{Bs, Ll, Ul, Fr}

@@ -1,5 +1,6 @@
 -- What INSERT comes to.
-use Rattle.std.proofs.Common.{◌≡◌, ℕ, ◌-◌, List, [], ◌∷◌, Option, Some, None, IfSome, Result, Ok, Err, inl, inr, refl, sym, ap, subst, ◌∙◌, arith, length, drop, All}
+use Rattle.std.proofs.Common.{◌≡◌, ℕ, ◌-◌, List, [], ◌∷◌, Option, Some, None, IfSome, Result, Ok, Err, inl, inr, refl, sym, ap, subst, ◌∙◌, arith, length, drop}
+use Rattle.std.proofs.Common.{All}
 use Rattle.exact_values.specs.Rational.{ℚ}
 use Rattle.job_devices.specs.States.{SinkState}
 use Rattle.job_devices.specs.declared.device.WriteStop.{WriteStop}
@@ -55,7 +56,8 @@ use Rattle.setup_verbs.proofs.Giving.{gives_fault, gives_found}
 use Rattle.setup_verbs.proofs.Selected.{same_matrix}
 use Rattle.setup_verbs.proofs.Present.{ready_solved}
 use Rattle.setup_verbs.specs.declared.insert.Found.TheVariants as found
-use Rattle.setup_verbs.specs.Inserting.{Found, IsBasisOf, IsDeckEnd, overflow_ending, IsInstalledSetup, IsSingularFor, IsInstalledFor, IsInserted, EndsSo, IsSingularAt, IsFound, refused_found}
+use Rattle.setup_verbs.specs.Inserting.{Found, IsBasisOf, IsDeckEnd, overflow_ending, IsInstalledSetup, IsSingularFor, IsInstalledFor, IsInserted, EndsSo}
+use Rattle.setup_verbs.specs.Inserting.{IsSingularAt, IsFound, refused_found}
 use Rattle.setup_verbs.proofs.Selecting.{setup_gone, viewed, present, selected_gives, fault_gives, overflow_gives}
 
 -- what INSERT does with what is selected

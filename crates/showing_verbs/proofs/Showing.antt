@@ -29,7 +29,8 @@ use Rattle.listing_tables.specs.declared.sheet.Sheet.{Sheet as OwnSheet}
 use Rattle.verb_answers.specs.Answers.{sheet_view}
 use Rattle.verb_answers.specs.Stops.{SolutionRefused}
 use Rattle.run_definitions.specs.State.{Present, State, choice_of, present_basis, path_of}
-use Rattle.run_definitions.specs.Moves.{Gain, Nothing, Prints, punched_by, StatementOutcome, next, stops, InAnswer, StatementMove, MayStop, Asks, Gives, or_fault}
+use Rattle.run_definitions.specs.Moves.{Gain, Nothing, Prints, punched_by, StatementOutcome, next, stops, InAnswer, StatementMove, MayStop, Asks, Gives}
+use Rattle.run_definitions.specs.Moves.{or_fault}
 use Rattle.run_definitions.specs.Verbs.{or_selection_fault, verb_move}
 use Rattle.run_machine.specs.declared.act.Act.{Act}
 use Rattle.run_machine.specs.declared.act.Halt.{Halt}

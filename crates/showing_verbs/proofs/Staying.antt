@@ -26,4 +26,11 @@ module _ (cards : List (List ℕ)) (old : Machine) (setup new : Setup) (ready : 
       ((m : Mark) → IsSolved m old.cells.xobj old.cells.xrhs old.file setup → IsSolved m old.cells.xobj old.cells.xrhs old.file new) →
       IsSound cards (record old { setup = Some new })
   sound_kept is keeps =
-      record { first = s.first; last = s.last; demands = s.demands; ready = ready; solved = while_marked old.cells old.file setup new old.mark old.setup is keeps s.solved }
+      record {
+        first = s.first;
+        last = s.last;
+        demands = s.demands;
+        ready = ready;
+        solved = while_marked old.cells old.file setup new old.mark old.setup is
+            keeps s.solved;
+      }

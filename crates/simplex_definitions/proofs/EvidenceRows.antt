@@ -76,7 +76,8 @@ abbrev great_slack : LinearProgram
 great_slack = raised (problem (plus 1) (plus 1) great) tiny
 
 slack : SlackFormula great_slack (opening_statuses great_slack) (opened great_slack) (of_formula 6 0 0 2 0 3 Sub great tiny)
-unfolding tableau_for table_for refuses fraction whole ◌+ℚ◌ ◌*ℚ◌ neg_ℚ inverse_ℚ reciprocal compare_ℚ sum_to gcd shared_factor raised_numerator raised_sum sum_denominator
+unfolding tableau_for table_for refuses fraction whole ◌+ℚ◌ ◌*ℚ◌ neg_ℚ inverse_ℚ reciprocal compare_ℚ sum_to gcd shared_factor raised_numerator raised_sum
+    sum_denominator
 slack = f6_slack 2 (record { is_formula = refl; is_p = refl; is_q = refl; is_i = refl; is_j = refl; is_term = refl })
     (omega arith, omega arith)
     (record { is_op = refl; is_left = same_parts _ _ refl refl; is_right = same_parts _ _ refl refl; refused = refl })

@@ -8,7 +8,8 @@ use Rattle.lp_definitions.specs.Basis.{opening_statuses}
 use Rattle.lp_definitions.specs.declared.Status.{Status}
 use Rattle.lp_definitions.specs.declared.Status.TheVariants.{Bs, Ll, Ul, Fr}
 use Rattle.simplex_definitions.specs.Path.{PathEnding, EndsOptimal, EndsCrossed, EndsInfeasible, EndsUnbounded, turn}
-use Rattle.simplex_definitions.proofs.Programs.{testprob, beale, bare, crossing, torn, unbounded_end, band, two, two_with, one_with, greatest, transport, freed, sinking, capped}
+use Rattle.simplex_definitions.proofs.Programs.{testprob, beale, bare, crossing, torn, unbounded_end, band, two, two_with, one_with, greatest, transport, freed}
+use Rattle.simplex_definitions.proofs.Programs.{sinking, capped}
 use Rattle.simplex_definitions.proofs.Solve.{solved, table_for, viewed, parts, Optimal, Crossed, Infeasible, Unbounded}
 
 -- three steps to the least cost 54

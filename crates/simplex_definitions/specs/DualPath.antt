@@ -9,7 +9,8 @@ use Rattle.lp_definitions.specs.LinearProgram.{LinearProgram}
 use Rattle.lp_definitions.specs.Basis.{Tableau, IsTableau}
 use Rattle.lp_definitions.specs.declared.Status.{Status}
 use Rattle.simplex_definitions.specs.Moves.{is_below}
-use Rattle.simplex_definitions.specs.Path.{PathEnding, EndsCrossed, Turn, Ends, crossed, outside, entering_variable, restore_feasibility, improve, RuleStep, RuleEnd, RulePath, RulePathEnds, RuleGoesOn}
+use Rattle.simplex_definitions.specs.Path.{PathEnding, EndsCrossed, Turn, Ends, crossed, outside, entering_variable, restore_feasibility, improve, RuleStep}
+use Rattle.simplex_definitions.specs.Path.{RuleEnd, RulePath, RulePathEnds, RuleGoesOn}
 use Rattle.simplex_definitions.specs.DualRatio.{cheapest}
 
 module _ (p : LinearProgram) (s : List Status) (t : Tableau) where

@@ -12,8 +12,10 @@ use Rattle.lp_definitions.specs.RatesEvidence.{ExchangeFormula, EntryFormula, Ca
 use Rattle.lp_definitions.specs.declared.Evidence.{Evidence}
 use Rattle.lp_definitions.specs.declared.Status.{Status}
 use Rattle.simplex_definitions.specs.Path.{Move, after}
-use Rattle.simplex_definitions.specs.Formulas.{PointFormula, SlackFormula, MoveFormula, RatioFormula, RangeFormula, ObjectiveFormula, ShiftFormula, SlopeFormula}
-use Rattle.simplex_definitions.specs.Statements.{SolvingStatement, Primal, Dual, Range, is_between, belongs, program_at, change_row, shift_at, thetas_of, MovesAt, EntersAt, BringsAt}
+use Rattle.simplex_definitions.specs.Formulas.{PointFormula, SlackFormula, MoveFormula, RatioFormula, RangeFormula, ObjectiveFormula, ShiftFormula}
+use Rattle.simplex_definitions.specs.Formulas.{SlopeFormula}
+use Rattle.simplex_definitions.specs.Statements.{SolvingStatement, Primal, Dual, Range, is_between, belongs, program_at, change_row, shift_at, thetas_of}
+use Rattle.simplex_definitions.specs.Statements.{MovesAt, EntersAt, BringsAt}
 
 -- the formula tells of an exchange at a waypoint
 abbrev pub names_waypoint : ℕ → Bool

@@ -5,7 +5,8 @@
 --     with_row p i t               t times the activity of row i is added to the objective
 --     at_limits, columns_of, intermediate_rows      the variables of the three lists
 --     RangeReport, IsRangeReport p s r      the three lists; each interval has just the values at which the basis is optimal
-use Rattle.std.specs.Prelude.{◌≡◌, ◌↔◌, ℕ, ◌+◌, ◌-◌, Bool, true, false, not, ◌&&◌, List, ◌∷◌, map, Option, Some, IfSome, All, filter, if◌then◌else◌, nat_eq, slice_set}
+use Rattle.std.specs.Prelude.{◌≡◌, ◌↔◌, ℕ, ◌+◌, ◌-◌, Bool, true, false, not, ◌&&◌, List, ◌∷◌, map, Option, Some, IfSome, All, filter, if◌then◌else◌, nat_eq}
+use Rattle.std.specs.Prelude.{slice_set}
 use Rattle.exact_values.specs.Rational.{ℚ, ◌≤ℚ◌}
 use Rattle.lp_definitions.specs.LinearProgram.{LinearProgram, variables, numbers_from, column, with_change, with_limits}
 use Rattle.lp_definitions.specs.Basis.{is_basic, status_of, IsOptimalBasis}

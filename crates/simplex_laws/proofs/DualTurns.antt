@@ -11,7 +11,8 @@ use Rattle.lp_definitions.specs.declared.Status.{Status}
 use Rattle.lp_definitions.specs.declared.Status.TheVariants.{Ll, Ul}
 use Rattle.simplex_definitions.specs.Moves.{least, lowers, entering, is_below}
 use Rattle.simplex_definitions.specs.DualRatio.{restores_feasibility, ratio, is_cheapest, cheapest}
-use Rattle.simplex_definitions.specs.Path.{PathEnding, EndsUnbounded, Turn, Moves, Ends, Move, after, turn, turn_for, crossed, outside, entering_variable, restore_feasibility, improve, excess_rate, worth_rate, RuleStep, RuleEnd, EndsAt}
+use Rattle.simplex_definitions.specs.Path.{PathEnding, EndsUnbounded, Turn, Moves, Ends, Move, after, turn, turn_for, crossed, outside, entering_variable}
+use Rattle.simplex_definitions.specs.Path.{restore_feasibility, improve, excess_rate, worth_rate, RuleStep, RuleEnd, EndsAt}
 use Rattle.simplex_definitions.specs.DualPath.{dual_for, dual_turn, HasRightPrices, IsWrongAt, IsDualStep, DualEndsAt}
 use Rattle.simplex_laws.specs.Laws.{IsNonsingularBasis}
 use Rattle.simplex_laws.proofs.UnboundedEnds.{IsEntering, enters, lowering_enters}

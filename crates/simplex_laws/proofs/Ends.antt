@@ -9,7 +9,8 @@ use Rattle.exact_values.proofs.Order.{le_refl, le_antisymm}
 use Rattle.exact_values.proofs.TestsLaws.{le_from_lt_fails, same_from_test}
 use Rattle.lp_definitions.specs.LinearProgram.{Matrix, LinearProgram, Vector, value_at, size, IsVariable, IsLinearProgram, lower_of, upper_of, for_min}
 use Rattle.lp_definitions.specs.Solutions.{IsWithinLimits, IsFeasible, IsDualCertificate}
-use Rattle.lp_definitions.specs.Basis.{is_in, basics_of, status_of, is_basic, IsBasis, IsAllowed, StandsAt, IsPointOf, Tableau, IsTableau, IsFixed, IsRightAt, price_at, objective_rate}
+use Rattle.lp_definitions.specs.Basis.{is_in, basics_of, status_of, is_basic, IsBasis, IsAllowed, StandsAt, IsPointOf, Tableau, IsTableau, IsFixed, IsRightAt}
+use Rattle.lp_definitions.specs.Basis.{price_at, objective_rate}
 use Rattle.lp_definitions.specs.declared.Status.{Status}
 use Rattle.lp_definitions.specs.declared.Status.TheVariants.{Bs, Ll, Ul, Fr}
 use Rattle.lp_laws.proofs.Equations.{KeepsEquations-same}

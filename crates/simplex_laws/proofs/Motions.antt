@@ -6,7 +6,8 @@ use Rattle.exact_values.specs.Rational.{ℚ, zero_ℚ, neg_ℚ, ◌+ℚ◌, ◌-
 use Rattle.exact_values.specs.Tests.{lt_ℚ}
 use Rattle.exact_values.proofs.Ring.{by_ring1, by_ring2, by_ring3, by_ring4, ◌⊕◌, ◌⊖◌, ◌⊗◌, ◌≐◌, number, opposite}
 use Rattle.exact_values.proofs.Inverse.{div-mul_cancel, same_quotients}
-use Rattle.exact_values.proofs.Order.{le_refl, le_trans, le_antisymm, le_of_lt, le_by_one, le_by_product, le-div, mul-le_of_le-div, apart_from_above, apart_from_below}
+use Rattle.exact_values.proofs.Order.{le_refl, le_trans, le_antisymm, le_of_lt, le_by_one, le_by_product, le-div, mul-le_of_le-div, apart_from_above}
+use Rattle.exact_values.proofs.Order.{apart_from_below}
 use Rattle.exact_values.proofs.TestsLaws.{lt_from_test, le_from_lt_fails, le_from_test}
 use Rattle.exact_values.proofs.Signs.{neg_above}
 use Rattle.lp_definitions.specs.LinearProgram.{LinearProgram, IsVariable, KeepsEquations, lower_of, upper_of}

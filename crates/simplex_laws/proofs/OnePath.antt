@@ -4,7 +4,8 @@ use Rattle.lp_definitions.specs.LinearProgram.{LinearProgram, IsLinearProgram}
 use Rattle.lp_definitions.specs.Basis.{basics_of, Tableau, IsTableau}
 use Rattle.lp_definitions.specs.declared.Status.{Status}
 use Rattle.lp_laws.proofs.Uniqueness.{one_point, one_table}
-use Rattle.simplex_definitions.specs.Path.{PathEnding, Turn, turn, after, Rule, RuleStep, RuleEnd, RulePath, RulePathEnds, RuleGoesOn, IsStep, EndsAt, IsPath, last_of, PathEnds, GoesOnFor}
+use Rattle.simplex_definitions.specs.Path.{PathEnding, Turn, turn, after, Rule, RuleStep, RuleEnd, RulePath, RulePathEnds, RuleGoesOn, IsStep, EndsAt, IsPath}
+use Rattle.simplex_definitions.specs.Path.{last_of, PathEnds, GoesOnFor}
 use Rattle.simplex_laws.specs.Laws.{IsNonsingularBasis, SameEnds, EndsWithin, RuleEndsWithin}
 use Rattle.simplex_laws.proofs.OneTurn.{SameTableau, turn_same}
 use Rattle.simplex_laws.proofs.Steps.{step_leads}

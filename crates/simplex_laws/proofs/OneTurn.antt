@@ -8,8 +8,10 @@ use Rattle.lp_definitions.specs.Basis.{is_in, basics_of, status_of, is_basic, Is
 use Rattle.lp_definitions.specs.declared.Status.{Status}
 use Rattle.lp_definitions.specs.declared.Status.TheVariants.{Bs, Ll, Ul, Fr}
 use Rattle.lp_laws.proofs.Uniqueness.{is_in-basics_of}
-use Rattle.simplex_definitions.specs.Moves.{is_below, is_outside, is_fixed, rises_from, falls_from, lowers, entering, signed, goes_up, step_length, is_no_later, reaches_first, blocking_variable, on_limit}
-use Rattle.simplex_definitions.specs.Path.{Moves, Ends, EndsOptimal, EndsInfeasible, EndsUnbounded, listed, ray_of, excess_rate, speeds, crossed, outside, worth_rate, entering_variable, restore_feasibility, run_until, improve, turn_for, turn}
+use Rattle.simplex_definitions.specs.Moves.{is_below, is_outside, is_fixed, rises_from, falls_from, lowers, entering, signed, goes_up, step_length, is_no_later}
+use Rattle.simplex_definitions.specs.Moves.{reaches_first, blocking_variable, on_limit}
+use Rattle.simplex_definitions.specs.Path.{Moves, Ends, EndsOptimal, EndsInfeasible, EndsUnbounded, listed, ray_of, excess_rate, speeds, crossed, outside}
+use Rattle.simplex_definitions.specs.Path.{worth_rate, entering_variable, restore_feasibility, run_until, improve, turn_for, turn}
 use Rattle.simplex_laws.proofs.Numbered.{find_same, find_some, list_all_same, map_same}
 use Rattle.simplex_laws.proofs.UnboundedEnds.{enters, objective_value-same}
 
@@ -62,7 +64,8 @@ step_length_same : (p : LinearProgram) (z y v w : Vector) (k : ℕ) → z k ≡ 
 unfolding step_length_at
 step_length_same p z y v w k first second = ap₂ (step_length_at p k) first second
 
-pub blocking_variable_same : (p : LinearProgram) (z y v w : Vector) → ((k : ℕ) → IsVariable p.matrix k → z k ≡ y k) → ((k : ℕ) → IsVariable p.matrix k → v k ≡ w k) →
+pub blocking_variable_same : (p : LinearProgram) (z y v w : Vector) → ((k : ℕ) → IsVariable p.matrix k → z k ≡ y k) → ((k : ℕ) → IsVariable p.matrix k → v k
+    ≡ w k) →
     blocking_variable p z v ≡ blocking_variable p y w
 blocking_variable_same p z y v w first second =
     find_same (reaches_first p z v) (reaches_first p y w) (size p.matrix) 1 (λ k low high.

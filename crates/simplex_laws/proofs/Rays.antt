@@ -14,7 +14,8 @@ use Rattle.exact_values.proofs.TestsLaws.{lt_from_test}
 use Rattle.exact_values.proofs.Signs.{neg_below, neg_above}
 use Rattle.lp_definitions.specs.LinearProgram.{LinearProgram, Vector, value_at, size, entry, IsVariable, IsColumn, KeepsEquations, lower_of, upper_of}
 use Rattle.lp_definitions.specs.Solutions.{IsRay}
-use Rattle.lp_definitions.specs.Basis.{IsNonsingular, is_in, basics_of, status_of, is_basic, IsBasis, IsBasic, StandsAt, IsAllowed, IsFixed, IsRightAt, Tableau, IsTableau}
+use Rattle.lp_definitions.specs.Basis.{IsNonsingular, is_in, basics_of, status_of, is_basic, IsBasis, IsBasic, StandsAt, IsAllowed, IsFixed, IsRightAt, Tableau}
+use Rattle.lp_definitions.specs.Basis.{IsTableau}
 use Rattle.lp_definitions.specs.RatesEvidence.{multiplier}
 use Rattle.lp_definitions.specs.declared.Status.{Status}
 use Rattle.lp_definitions.specs.declared.Status.TheVariants.{Bs, Ll, Ul, Fr}

@@ -38,7 +38,8 @@ blocking_variable_is p z v k is first before = least_is p (reaches_first p z v) 
         ∙ before j from to))
 
 -- nothing stops a motion where no variable has a limit ahead
-pub blocking_variable_nothing : (p : LinearProgram) (z v : Vector) → ((k : ℕ) → IsVariable p.matrix k → step_length p z v k ≡ None) → blocking_variable p z v ≡ None
+pub blocking_variable_nothing : (p : LinearProgram) (z v : Vector) → ((k : ℕ) → IsVariable p.matrix k → step_length p z v k ≡ None) → blocking_variable p z v
+    ≡ None
 blocking_variable_nothing p z v h = least_none p (reaches_first p z v) (λ k is. late k is (reaches_first p z v k) refl)
   where
     late : (k : ℕ) → IsVariable p.matrix k → (b : Bool) → reaches_first p z v k ≡ b → reaches_first p z v k ≡ false

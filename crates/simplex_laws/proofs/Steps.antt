@@ -9,13 +9,15 @@ use Rattle.exact_values.proofs.Ring.{by_ring1, ◌≐◌, number, opposite}
 use Rattle.exact_values.proofs.Order.{lt_irrefl}
 use Rattle.exact_values.proofs.TestsLaws.{lt_from_test}
 use Rattle.lp_definitions.specs.LinearProgram.{LinearProgram, Vector, IsVariable, lower_of, upper_of}
-use Rattle.lp_definitions.specs.Basis.{AreRates, is_in, basics_of, status_of, with_status, is_basic, IsBasis, IsBasic, IsNonbasic, IsAllowed, IsNonsingular, opening_statuses, Tableau, IsTableau}
+use Rattle.lp_definitions.specs.Basis.{AreRates, is_in, basics_of, status_of, with_status, is_basic, IsBasis, IsBasic, IsNonbasic, IsAllowed, IsNonsingular}
+use Rattle.lp_definitions.specs.Basis.{opening_statuses, Tableau, IsTableau}
 use Rattle.lp_definitions.specs.declared.Status.{Status}
 use Rattle.lp_definitions.specs.declared.Status.TheVariants.{Bs, Ll, Ul, Fr}
 use Rattle.lp_laws.specs.Rates.{exchanged_rate}
 use Rattle.lp_laws.proofs.Values.{clash}
 use Rattle.lp_laws.proofs.Exchange.{IsNonsingular-exchanged, AreRates-exchanged}
-use Rattle.lp_laws.proofs.Statuses.{basics_of-replaced, basics_of-flipped, status_of_basic, status_of_nonbasic, IsBasis-replaced, IsBasis-flipped, IsBasis-opening, basics_of-opening}
+use Rattle.lp_laws.proofs.Statuses.{basics_of-replaced, basics_of-flipped, status_of_basic, status_of_nonbasic, IsBasis-replaced, IsBasis-flipped}
+use Rattle.lp_laws.proofs.Statuses.{IsBasis-opening, basics_of-opening}
 use Rattle.lp_laws.proofs.Opening.{IsNonsingular-row_basics}
 use Rattle.simplex_definitions.specs.Moves.{is_below, signed, goes_up, limit_ahead, step_length, reached, blocking_variable}
 use Rattle.simplex_definitions.specs.Path.{Move, Moves, after, speeds, IsStep, excess_rate, worth_rate}
@@ -115,7 +117,8 @@ ahead_some None z v x e = cc
 ahead_some (Some l) z v x e = (l, refl)
 
 -- what stops a motion stands ahead of it at a limit that it has
-blocking_variable_ahead : (p : LinearProgram) (z v : Vector) (k : ℕ) → blocking_variable p z v ≡ Some k → IsAhead (lower_of p k) (upper_of p k) (v k) (reached v k)
+blocking_variable_ahead : (p : LinearProgram) (z v : Vector) (k : ℕ) → blocking_variable p z v ≡ Some k → IsAhead (lower_of p k) (upper_of p k) (v k)
+    (reached v k)
 blocking_variable_ahead p z v k e =
     let first = blocking_variable_some p z v k e in
     let reach = reaches_limit (step_length p z v k) (step_length p z v k) (first.1 k first.0) in

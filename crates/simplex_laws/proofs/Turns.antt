@@ -7,7 +7,8 @@ use Rattle.lp_definitions.specs.Basis.{Tableau, basics_of, price_at}
 use Rattle.lp_definitions.specs.declared.Status.{Status}
 use Rattle.lp_definitions.specs.declared.Status.TheVariants.{Ll, Ul}
 use Rattle.simplex_definitions.specs.Moves.{is_below, goes_up, blocking_variable}
-use Rattle.simplex_definitions.specs.Path.{Move, Turn, Moves, Ends, EndsOptimal, EndsCrossed, EndsInfeasible, EndsUnbounded, listed, ray_of, speeds, stopped_by, crossed, outside, worth_rate, entering_variable, restore_feasibility, run_until, improve, turn_for, turn}
+use Rattle.simplex_definitions.specs.Path.{Move, Turn, Moves, Ends, EndsOptimal, EndsCrossed, EndsInfeasible, EndsUnbounded, listed, ray_of, speeds, stopped_by}
+use Rattle.simplex_definitions.specs.Path.{crossed, outside, worth_rate, entering_variable, restore_feasibility, run_until, improve, turn_for, turn}
 
 module _ (p : LinearProgram) (s : List Status) (t : Tableau) where
   -- the speeds at which q improves the objective

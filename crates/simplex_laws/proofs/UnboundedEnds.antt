@@ -9,7 +9,8 @@ use Rattle.exact_values.proofs.Sums.{sum_to-same, sum_to-neg}
 use Rattle.exact_values.proofs.Order.{le_of_lt, lt_not_le}
 use Rattle.exact_values.proofs.TestsLaws.{lt_from_test, le_from_lt_fails}
 use Rattle.exact_values.proofs.Signs.{neg_below}
-use Rattle.lp_definitions.specs.LinearProgram.{Matrix, LinearProgram, Vector, value_at, size, IsVariable, KeepsEquations, lower_of, upper_of, for_min, entry, combined, with_change_row, objective_value, IsLinearProgram, ChangeIsFree}
+use Rattle.lp_definitions.specs.LinearProgram.{Matrix, LinearProgram, Vector, value_at, size, IsVariable, KeepsEquations, lower_of, upper_of, for_min, entry}
+use Rattle.lp_definitions.specs.LinearProgram.{combined, with_change_row, objective_value, IsLinearProgram, ChangeIsFree}
 use Rattle.lp_definitions.specs.Solutions.{IsFeasible, IsCrossed, ProvesUnbounded}
 use Rattle.lp_definitions.specs.Basis.{basics_of, status_of, is_basic, IsBasis, IsNonbasic, Tableau, IsTableau}
 use Rattle.lp_definitions.specs.declared.Change.{Change}
@@ -19,7 +20,8 @@ use Rattle.lp_definitions.specs.declared.Status.{Status}
 use Rattle.lp_definitions.specs.declared.Status.TheVariants.{Bs, Ll, Ul, Fr}
 use Rattle.lp_laws.proofs.Equations.{KeepsEquations-same}
 use Rattle.lp_laws.proofs.Uniqueness.{is_in-basics_of}
-use Rattle.simplex_definitions.specs.Moves.{on_limits, is_crossed, is_fixed, rises_from, falls_from, lowers, signed, goes_up, limit_ahead, entering, blocking_variable}
+use Rattle.simplex_definitions.specs.Moves.{on_limits, is_crossed, is_fixed, rises_from, falls_from, lowers, signed, goes_up, limit_ahead, entering}
+use Rattle.simplex_definitions.specs.Moves.{blocking_variable}
 use Rattle.simplex_definitions.specs.Path.{EndsCrossed, EndsUnbounded, Ends, EndsAt, listed, speeds, worth_rate}
 use Rattle.simplex_laws.proofs.Numbered.{find_some}
 use Rattle.simplex_laws.proofs.BlockingVariables.{blocking_variable_none}

@@ -11,7 +11,8 @@ use Rattle.lp_definitions.specs.Solutions.{IsFeasible, IsBest, IsDualCertificate
 use Rattle.lp_definitions.specs.Basis.{basics_of, IsBasis, IsNonsingular, IsOptimalBasis, IsPointOf, ArePricesOf, Tableau, IsTableau, opening_statuses}
 use Rattle.lp_definitions.specs.declared.Status.{Status}
 use Rattle.simplex_definitions.specs.Moves.{least, is_no_later, step_length, blocking_variable}
-use Rattle.simplex_definitions.specs.Path.{PathEnding, EndsOptimal, EndsCrossed, EndsInfeasible, EndsUnbounded, turn, Rule, RulePathEnds, IsStep, EndsAt, IsPath, last_of, PathEnds, GoesOnFor}
+use Rattle.simplex_definitions.specs.Path.{PathEnding, EndsOptimal, EndsCrossed, EndsInfeasible, EndsUnbounded, turn, Rule, RulePathEnds, IsStep, EndsAt}
+use Rattle.simplex_definitions.specs.Path.{IsPath, last_of, PathEnds, GoesOnFor}
 
 pub record IsNonsingularBasis (p : LinearProgram) (s : List Status) : Type 0 where
   pub is_basis : IsBasis p s
@@ -99,7 +100,9 @@ pub record SearchLaws : Type 0 where
   pub blocking_variable_is : (p : LinearProgram) (z v : Vector) (k : ℕ) → IsVariable p.matrix k →
       ((i : ℕ) → IsVariable p.matrix i → is_no_later (step_length p z v k) (step_length p z v i) ≡ true) →
       ((j : ℕ) → 1 ≤ j → j < k → is_no_later (step_length p z v j) (step_length p z v k) ≡ false) → blocking_variable p z v ≡ Some k
-  pub blocking_variable_nothing : (p : LinearProgram) (z v : Vector) → ((k : ℕ) → IsVariable p.matrix k → step_length p z v k ≡ None) → blocking_variable p z v ≡ None
-  pub blocking_variable_none : (p : LinearProgram) (z v : Vector) → blocking_variable p z v ≡ None → (k : ℕ) → IsVariable p.matrix k → step_length p z v k ≡ None
+  pub blocking_variable_nothing : (p : LinearProgram) (z v : Vector) → ((k : ℕ) → IsVariable p.matrix k → step_length p z v k ≡ None) → blocking_variable p z
+      v ≡ None
+  pub blocking_variable_none : (p : LinearProgram) (z v : Vector) → blocking_variable p z v ≡ None → (k : ℕ) → IsVariable p.matrix k → step_length p z v k
+      ≡ None
   pub blocking_variable_some : (p : LinearProgram) (z v : Vector) (k : ℕ) → blocking_variable p z v ≡ Some k →
       IsVariable p.matrix k × ((i : ℕ) → IsVariable p.matrix i → is_no_later (step_length p z v k) (step_length p z v i) ≡ true)

@@ -3,12 +3,16 @@ use Rattle.std.proofs.Common.{◌≡◌, ℕ, List, None, Some, arith}
 use Rattle.exact_values.specs.Rational.{ℚ}
 use Rattle.lp_definitions.specs.LinearProgram.{Matrix, LinearProgram, Vector}
 use Rattle.lp_definitions.specs.Basis.{Basics, Tableau}
-use Rattle.lp_definitions.specs.RatesEvidence.{ExchangeFormula, f1, f2, f3, f4, f5, EntryFormula, f11_product, f11_sum, CarriedFormula, f12_product, f12_sum, f12_quotient}
+use Rattle.lp_definitions.specs.RatesEvidence.{ExchangeFormula, f1, f2, f3, f4, f5, EntryFormula, f11_product, f11_sum, CarriedFormula, f12_product, f12_sum}
+use Rattle.lp_definitions.specs.RatesEvidence.{f12_quotient}
 use Rattle.lp_definitions.specs.declared.Evidence.{Evidence}
 use Rattle.lp_definitions.specs.declared.Status.{Status}
-use Rattle.simplex_definitions.specs.Formulas.{PointFormula, f6, f7, f10_product, f10_sum, SlackFormula, f6_slack, MoveFormula, f8, f9, RatioFormula, f14, RangeFormula, f15_limit, f15_nonbasic, f15_basic, ObjectiveFormula, f16, f17_product, f17_sum, SlopeFormula, f18_product, f18_sum, f18_difference, f18_quotient, ShiftFormula, f13_product, f13_limit}
+use Rattle.simplex_definitions.specs.Formulas.{PointFormula, f6, f7, f10_product, f10_sum, SlackFormula, f6_slack, MoveFormula, f8, f9, RatioFormula, f14}
+use Rattle.simplex_definitions.specs.Formulas.{RangeFormula, f15_limit, f15_nonbasic, f15_basic, ObjectiveFormula, f16, f17_product, f17_sum, SlopeFormula}
+use Rattle.simplex_definitions.specs.Formulas.{f18_product, f18_sum, f18_difference, f18_quotient, ShiftFormula, f13_product, f13_limit}
 use Rattle.simplex_definitions.specs.Statements.{SolvingStatement}
-use Rattle.simplex_definitions.specs.Evidence.{Formula, by_exchange, by_entry, by_carried, by_point, by_slack, by_move, by_ratio, by_range, by_objective, by_slope}
+use Rattle.simplex_definitions.specs.Evidence.{Formula, by_exchange, by_entry, by_carried, by_point, by_slack, by_move, by_ratio, by_range, by_objective}
+use Rattle.simplex_definitions.specs.Evidence.{by_slope}
 use Rattle.listing_definitions.specs.Ending.{Place}
 use Rattle.question_definitions.specs.Answers.{Basis, Sheet, ParametricRun}
 use Rattle.answer_definitions.specs.Evidence.{OverflowsOnParametricRun, at_basis, of_limit}

@@ -13,7 +13,8 @@ use Rattle.listing_definitions.specs.declared.VerbFault.{VerbFault}
 use Rattle.listing_definitions.specs.declared.VerbFault.TheVariants.{NoSetup, NoParmax, ParmaxBelow}
 use Rattle.listing_definitions.specs.Report.{Solved}
 use Rattle.listing_definitions.specs.Ending as endings
-use Rattle.question_definitions.specs.Answers.{Basis, Sheet, Changing, parametric_solver, ParametricRun, OfParametricRun, ParametricRunEnd, Opening, Chained, ParametricRunLimit}
+use Rattle.question_definitions.specs.Answers.{Basis, Sheet, Changing, parametric_solver, ParametricRun, OfParametricRun, ParametricRunEnd, Opening, Chained}
+use Rattle.question_definitions.specs.Answers.{ParametricRunLimit}
 use Rattle.fitting_answers.specs.Fitting.{EvidenceFits, ParametricRunEndFits}
 use Rattle.fitting_answers.specs.Real.{linear_programming_of_128_bits}
 use Rattle.answer_definitions.specs.ParametricRuns.{IsParametricRun}
@@ -36,7 +37,8 @@ use Rattle.setup_verbs.specs.Standing.{IsPresent, IsReady, ShowsSetup, Represent
 use Rattle.setup_verbs.specs.Statements.{LeadsTo, Executes}
 use Rattle.run_machine.specs.Findings.{ReportsFinding, act_of}
 use Rattle.parametric_request.specs.Asking.{verb_of, name_moved, change_of, change_fault, IsAsked, no_last, below, IsAskFault, no_change, no_value}
-use Rattle.solving_verbs.specs.ParametricVerbs.{ParametricRunReaches, ParametricRunOverflows, opened, chained, at_limit, overflows, ParametricRuns, unselected, too_large, not_asked, run_through, cells_left}
+use Rattle.solving_verbs.specs.ParametricVerbs.{ParametricRunReaches, ParametricRunOverflows, opened, chained, at_limit, overflows, ParametricRuns, unselected}
+use Rattle.solving_verbs.specs.ParametricVerbs.{too_large, not_asked, run_through, cells_left}
 use Rattle.setup_verbs.proofs.Selected.{same_matrix}
 use Rattle.run_machine.proofs.Giving.{quietly}
 use Rattle.setup_verbs.proofs.Giving.{gives_fault, gives_found, gives_unselected, gives_selected}
@@ -86,7 +88,13 @@ module _ (verb : ParametricVerb) (card : ℕ) (state : State) (present : Present
   asked_gives : (lp : LinearProgram) (parametric_run : ParametricRun) → IsAsked verb present.problem state.cells parametric_run → (outcome : StatementOutcome) →
       Gives linear_programming_of_128_bits card (run_move lp parametric_run) outcome → Gives linear_programming_of_128_bits card (tested_move lp) outcome
   asked_gives lp parametric_run a outcome g =
-      let same : parametric_run ≡ record { changing = parametric_run.changing; from = state.cells.xparam; to = parametric_run.to; limit = steps_allowed state.cells } =
+      let same : parametric_run ≡ record {
+        changing = parametric_run.changing;
+        from = state.cells.xparam;
+        to = parametric_run.to;
+        limit =
+            steps_allowed state.cells;
+      } =
       λ i. record { changing = parametric_run.changing; from = a.is_first i; to = parametric_run.to; limit = a.is_limit i } in
       gives_found card (change_fault verb) (option_and_then (change_of verb present.problem) (name_moved verb state.cells))
       (with_change lp) parametric_run.changing outcome a.changes
@@ -274,7 +282,8 @@ module _ (verb : ParametricVerb) (card : ℕ) (print_old print_new : SinkState) 
       (reported_executes (verb_of verb) card cards old (ParametricRuns ready.problem old.cells verb setup new) left_by
       (λ found. act_of (cells_left found old.cells) card found)
       (no_cards_by ready.problem old.cells verb setup new)
-      (λ gain found h position executed state s. found_comes verb card cards old setup new is_setup ready.problem ready.on_file demands position executed state s gain found h) print_old print_new finding t))
+      (λ gain found h position executed state s. found_comes verb card cards old setup new is_setup ready.problem ready.on_file demands position executed
+      state s gain found h) print_old print_new finding t))
 
   pub parametric_run_cut : (any : Machine) (h : Halt) → ReportsFinding (ParametricRuns ready.problem old.cells verb setup new) print_old print_new (Err h) →
       Executes linear_programming_of_128_bits (verb_of verb) card print_old print_new cards old any (Err h)
@@ -282,4 +291,5 @@ module _ (verb : ParametricVerb) (card : ℕ) (print_old print_new : SinkState) 
       cut_executes (verb_of verb) card cards old (ParametricRuns ready.problem old.cells verb setup new) left_by
       (λ found. act_of (cells_left found old.cells) card found)
       (no_cards_by ready.problem old.cells verb setup new)
-      (λ gain found h position executed state s. found_comes verb card cards old setup new is_setup ready.problem ready.on_file demands position executed state s gain found h) print_old print_new any h t
+      (λ gain found h position executed state s. found_comes verb card cards old setup new is_setup ready.problem ready.on_file demands position executed
+      state s gain found h) print_old print_new any h t

@@ -63,7 +63,8 @@ use Rattle.parametric_request.specs.declared.request.ParametricRequest.{Parametr
 use Rattle.parametric_request.specs.declared.request.RequestStop.{RequestStop}
 use Rattle.parametric_request.specs.declared.request.RequestStop.TheVariants as stops
 use Rattle.parametric_request.specs.Asking.{IsNotAsked, IsAsked, IsChangeOf, IsOf, ServesChange, Serves, parametric_run_of}
-use Rattle.solving_verbs.specs.ParametricVerbs.{refusal_of, parametric_run_view, value_left, IsRunOverflow, ParametricRunFinds, opened, chained, overflows, ParametricRuns, unselected, too_large, not_asked, run_through}
+use Rattle.solving_verbs.specs.ParametricVerbs.{refusal_of, parametric_run_view, value_left, IsRunOverflow, ParametricRunFinds, opened, chained, overflows}
+use Rattle.solving_verbs.specs.ParametricVerbs.{ParametricRuns, unselected, too_large, not_asked, run_through}
 use Rattle.setup_verbs.proofs.Reporting.{tells_more, tells_quietly, overflow_tells}
 use Rattle.solving_verbs.proofs.LimitFormula.{placed_apart, unplaced_limit}
 use Rattle.solving_verbs.proofs.ParametricLines.{last_same, chain_same}

@@ -16,7 +16,8 @@ use Rattle.question_definitions.specs.Answers.{Basis, Sheet, OfPath, PathEnd, Re
 use Rattle.answer_definitions.specs.Verdicts.{IsSolvedBy}
 use Rattle.answer_definitions.specs.Evidence.{OverflowsBy}
 use Rattle.run_definitions.specs.State.{Present, present_basis, path_of, State, choice_of, gone_through}
-use Rattle.run_definitions.specs.Moves.{Gain, punched_by, StatementOutcome, stops, StatementMove, MayStop, Asks, Gives, or_fault, InSelection, InAnswer, SelectionOverflows}
+use Rattle.run_definitions.specs.Moves.{Gain, punched_by, StatementOutcome, stops, StatementMove, MayStop, Asks, Gives, or_fault, InSelection, InAnswer}
+use Rattle.run_definitions.specs.Moves.{SelectionOverflows}
 use Rattle.run_definitions.specs.Verbs.{mark_of, or_selection_fault, after_path, verb_move}
 use Rattle.run_machine.specs.declared.act.Act.{Act}
 use Rattle.run_machine.specs.declared.act.Halt.{Halt}
@@ -214,7 +215,8 @@ module _ (verb : SolvingVerb) (card : ℕ) (print_old print_new : SinkState) (ca
       (reported_executes (verb_of verb) card cards old (Finds verb ready.problem old.cells setup new)
       (λ found. record old { setup = Some new; mark = mark_left found }) (act_of old.cells card)
       (no_cards_by verb ready.problem old.cells setup new)
-      (λ gain found h position executed state s. found_comes verb card cards old setup new is_setup ready.problem ready.on_file demands position executed state s gain found h) print_old print_new finding t))
+      (λ gain found h position executed state s. found_comes verb card cards old setup new is_setup ready.problem ready.on_file demands position executed
+      state s gain found h) print_old print_new finding t))
 
   pub solving_cut : (any : Machine) (h : Halt) → ReportsFinding (Finds verb ready.problem old.cells setup new) print_old print_new (Err h) →
       Executes linear_programming_of_128_bits (verb_of verb) card print_old print_new cards old any (Err h)
@@ -222,4 +224,5 @@ module _ (verb : SolvingVerb) (card : ℕ) (print_old print_new : SinkState) (ca
       cut_executes (verb_of verb) card cards old (Finds verb ready.problem old.cells setup new)
       (λ found. record old { setup = Some new; mark = mark_left found }) (act_of old.cells card)
       (no_cards_by verb ready.problem old.cells setup new)
-      (λ gain found h position executed state s. found_comes verb card cards old setup new is_setup ready.problem ready.on_file demands position executed state s gain found h) print_old print_new any h t
+      (λ gain found h position executed state s. found_comes verb card cards old setup new is_setup ready.problem ready.on_file demands position executed
+      state s gain found h) print_old print_new any h t

@@ -26,7 +26,8 @@ use Rattle.control_definitions.specs.Cells.{Cells}
 use Rattle.fitting_answers.specs.Fitting.{VerdictFits, CheckFits, IntervalsFit, EndFits, EvidenceFits}
 use Rattle.basis_values.specs.Calls.{IsAtBasis, LieIn}
 use Rattle.bounded_primal.specs.declared.moves.PrimalStop.{PrimalStop}
-use Rattle.question_definitions.specs.Answers.{Basis, Sheet, changing_name, parametric_solver, ParametricRun, OfParametricRun, ParametricRunEnd, Opening, Chained, ParametricRunLimit}
+use Rattle.question_definitions.specs.Answers.{Basis, Sheet, changing_name, parametric_solver, ParametricRun, OfParametricRun, ParametricRunEnd, Opening}
+use Rattle.question_definitions.specs.Answers.{Chained, ParametricRunLimit}
 use Rattle.answer_definitions.specs.ParametricRuns.{IsParametricRun}
 use Rattle.answer_definitions.specs.Evidence.{OverflowsAt}
 use Rattle.listing_tables.specs.Sheets.{IsSheet}

@@ -16,7 +16,8 @@ ghost use Rattle.setup_verbs.specs.Standing.{IsReady, IsSound};
 ghost use Rattle.setup_verbs.specs.Statements.{Executes};
 ghost use Rattle.run_machine.specs.Findings.{ReportsFinding};
 ghost use Rattle.parametric_request.specs.Asking.{verb_of};
-ghost use Rattle.solving_verbs.specs.ParametricVerbs.{refusal_of, parametric_run_view, BeginsRun, StopsParametricRun, ParametricRunFinds, ReportsAnswer, ParametricRuns, IsRunOverflow, value_left, cells_left};
+ghost use Rattle.solving_verbs.specs.ParametricVerbs.{refusal_of, parametric_run_view, BeginsRun, StopsParametricRun, ParametricRunFinds, ReportsAnswer};
+ghost use Rattle.solving_verbs.specs.ParametricVerbs.{ParametricRuns, IsRunOverflow, value_left, cells_left};
 
 use crate::requested_run::{ParametricRun, run_of};
 use crate::solving::mark_of;

@@ -21,7 +21,8 @@ use Rattle.listing_definitions.specs.declared.VerbFault.{VerbFault}
 use Rattle.question_definitions.specs.Answers.{Basis, Sheet, Question, AnswerTo}
 use Rattle.question_definitions.specs.Solving.{Solving, IsRight}
 use Rattle.run_definitions.specs.State.{Present, present_basis, State}
-use Rattle.run_definitions.specs.Moves.{Gain, Nothing, Prints, Punches, StatementOutcome, Goes, Ends, Refusals, StatementMove, Does, MayStop, Asks, Gives, or_fault}
+use Rattle.run_definitions.specs.Moves.{Gain, Nothing, Prints, Punches, StatementOutcome, Goes, Ends, Refusals, StatementMove, Does, MayStop, Asks, Gives}
+use Rattle.run_definitions.specs.Moves.{or_fault}
 use Rattle.run_definitions.specs.Verbs.{or_deck_fault, or_selection_fault, selects}
 use Rattle.simplex_laws.specs.Laws.{IsNonsingularBasis}
 use Rattle.soundness_laws.specs.Truth.{Holds, HoldsAtEnd}

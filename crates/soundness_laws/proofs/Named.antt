@@ -9,10 +9,13 @@ use Rattle.card_definitions.specs.Cards.{Card, live, numbered_cards}
 use Rattle.problem_definitions.specs.Valid.{IsName}
 use Rattle.control_definitions.specs.declared.ControlFault.{ControlFault}
 use Rattle.control_definitions.specs.declared.NameCell.{NameCell}
-use Rattle.control_definitions.specs.Program.{Verb, Initialz, Title, MoveName, MoveNumber, MoveLimit, Mvadr, Goto, Convert, Setup, Primal, Dual, Revise, Ranging, Paraobj, Pararhs, Solution, Bcdout, Punch, Insert, Exit, Statement, Program, verb_by}
+use Rattle.control_definitions.specs.Program.{Verb, Initialz, Title, MoveName, MoveNumber, MoveLimit, Mvadr, Goto, Convert, Setup, Primal, Dual, Revise}
+use Rattle.control_definitions.specs.Program.{Ranging, Paraobj, Pararhs, Solution, Bcdout, Punch, Insert, Exit, Statement, Program, verb_by}
 use Rattle.control_definitions.specs.Statements.{statement_of, verb_word, Arguments, Without, With, Malformed, arguments_of}
-use Rattle.control_definitions.specs.Arguments.{if_passes, is_name, quotation, quoted_name, title_argument, number_argument, limit_argument, label_text, setup_arguments}
-use Rattle.control_definitions.specs.Verbs.{Cell, OfName, OfNumber, OfLimit, cell_words, demand_words, moved, VerbWord, Alone, TakesTitle, TakesCell, TakesDemand, TakesLabel, TakesOptions, EndsProgram, verb_words, verb_with, verb_of}
+use Rattle.control_definitions.specs.Arguments.{if_passes, is_name, quotation, quoted_name, title_argument, number_argument, limit_argument, label_text}
+use Rattle.control_definitions.specs.Arguments.{setup_arguments}
+use Rattle.control_definitions.specs.Verbs.{Cell, OfName, OfNumber, OfLimit, cell_words, demand_words, moved, VerbWord, Alone, TakesTitle, TakesCell}
+use Rattle.control_definitions.specs.Verbs.{TakesDemand, TakesLabel, TakesOptions, EndsProgram, verb_words, verb_with, verb_of}
 use Rattle.control_definitions.specs.Compiled.{positioned, statement_on, program_of, control_fault, cards_to_pend, compiled}
 use Rattle.control_definitions.proofs.Names.{passes_name}
 

@@ -6,7 +6,8 @@ use Rattle.simplex_definitions.specs.Chain.{FailedOpening, Chain}
 use Rattle.listing_definitions.specs.Report.{PathVerdict, Check, Checked, Unchecked, ParametricInterval, ChainEnd}
 use Rattle.question_definitions.specs.Answers.{Basis, Sheet, Changing, Row, Set, ParametricRun, ParametricRunEnd, Opening, Chained, ParametricRunLimit}
 use Rattle.answer_definitions.specs.Verdicts.{verdict_of, check_of, found}
-use Rattle.answer_definitions.specs.ParametricRuns.{row_of, shifts_of, family_of, IsFace, sheet_at, interval_of, end_of, FailsToOpen, IsChained, IsParametricRun}
+use Rattle.answer_definitions.specs.ParametricRuns.{row_of, shifts_of, family_of, IsFace, sheet_at, interval_of, end_of, FailsToOpen, IsChained}
+use Rattle.answer_definitions.specs.ParametricRuns.{IsParametricRun}
 use Rattle.parametric_laws.proofs.OneRun.{one_report, objective_faces, rhs_faces}
 use Rattle.parametric_laws.specs.Families.{HasOneFace}
 use Rattle.parametric_laws.proofs.NotBoth.{not_both}

@@ -6,13 +6,16 @@ use Rattle.control_definitions.specs.Program.{Program}
 use Rattle.listing_definitions.specs.declared.Mark.TheVariants.{Optimal, Infeasible, Unbounded}
 use Rattle.listing_definitions.specs.declared.Solver.TheVariants.{Primal as ByPrimal, Dual as ByDual, Paraobj as ByParaobj, Pararhs as ByPararhs}
 use Rattle.listing_definitions.specs.Report.{Report, Titled, Converted, Revised, SetUp, BcdOut, BasisOut, Inserted, Solved, Solution, Ranges, Parametric}
-use Rattle.listing_definitions.specs.Ending.{Ending, Ended, WordsRefused, ControlStop, VerbStop, SingularStop, PriceStop, DeckStop, CardStop, LimitStop, StatementLimit, OverflowStop, ReadFault, PrintFault, PunchFault, Memory}
+use Rattle.listing_definitions.specs.Ending.{Ending, Ended, WordsRefused, ControlStop, VerbStop, SingularStop, PriceStop, DeckStop, CardStop, LimitStop}
+use Rattle.listing_definitions.specs.Ending.{StatementLimit, OverflowStop, ReadFault, PrintFault, PunchFault, Memory}
 use Rattle.question_definitions.specs.Solving.{Solving}
 use Rattle.answer_definitions.specs.Real.{linear_programming}
 use Rattle.run_definitions.specs.State.{State}
 use Rattle.run_definitions.specs.Moves.{Gain, Nothing, Prints, Punches, printed_by, StatementOutcome, Goes, Ends}
 use Rattle.run_definitions.specs.Run.{counted, Step, Reaches, begun, stepped, IsRun, is_over, is_ended}
-use Rattle.run_definitions.specs.Answer.{Job, Failures, Answer, IsProgramOf, job_decks, IsJobRun, card_fault, control_fault, run, MayEnd, words_refused, read_fails, by_itself, memory_at_start, memory_in_run, memory_at_punch, punch_fails, IsCutShort, in_report, in_end, IsAnswer, whole, print_fails, print_wants_memory}
+use Rattle.run_definitions.specs.Answer.{Job, Failures, Answer, IsProgramOf, job_decks, IsJobRun, card_fault, control_fault, run, MayEnd, words_refused}
+use Rattle.run_definitions.specs.Answer.{read_fails, by_itself, memory_at_start, memory_in_run, memory_at_punch, punch_fails, IsCutShort, in_report, in_end}
+use Rattle.run_definitions.specs.Answer.{IsAnswer, whole, print_fails, print_wants_memory}
 use Rattle.soundness_laws.specs.Truth.{Holds, HoldsAtEnd}
 use Rattle.soundness_laws.specs.Headline.{HoldSoFar, HoldInRun, HoldInJob, HoldInEnd, HoldInCut, HoldInAnswer}
 use Rattle.soundness_laws.specs.Laws.{KnowsSolving, reports_of, ReportsTheTruth}
@@ -144,7 +147,8 @@ module _ (S : Solving) (solving : KnowsSolving S) where
   tells_truth = record {
     step = λ bytes program reports cards state outcome so_far step. step_holds bytes program so_far.is_program reports cards state outcome so_far.reaches step;
     stop =
-        λ bytes program reports cards state gain ending so_far step. end_of_step_holds bytes program so_far.is_program reports cards state gain ending so_far.reaches step;
+        λ bytes program reports cards state gain ending so_far step. end_of_step_holds bytes program so_far.is_program reports cards state gain ending
+        so_far.reaches step;
     job = job_holds;
   }
 

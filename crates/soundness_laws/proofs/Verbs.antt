@@ -18,7 +18,8 @@ use Rattle.control_definitions.specs.declared.NumberCell.{NumberCell}
 use Rattle.control_definitions.specs.declared.NumberCell.TheVariants.{Xparam, Xparmax}
 use Rattle.control_definitions.specs.declared.Demand.{Demand}
 use Rattle.control_definitions.specs.declared.Demand.TheVariants.{Xdonfs, Xdounb}
-use Rattle.control_definitions.specs.Program.{SetupOptions, Verb, Initialz, Title, MoveName, MoveNumber, MoveLimit, Mvadr, Goto, Convert, Setup, Primal, Dual, Revise, Ranging, Paraobj, Pararhs, Solution as SolutionVerb, Bcdout, Punch, Insert, Exit}
+use Rattle.control_definitions.specs.Program.{SetupOptions, Verb, Initialz, Title, MoveName, MoveNumber, MoveLimit, Mvadr, Goto, Convert, Setup, Primal, Dual}
+use Rattle.control_definitions.specs.Program.{Revise, Ranging, Paraobj, Pararhs, Solution as SolutionVerb, Bcdout, Punch, Insert, Exit}
 use Rattle.simplex_definitions.specs.Path.{PathEnding, EndsOptimal, EndsCrossed, EndsInfeasible, EndsUnbounded, EndsAt, last_of}
 use Rattle.simplex_definitions.specs.DualPath.{DualEndsAt}
 use Rattle.simplex_laws.proofs.DualTurns.{dual_end, never_unbounded}
@@ -28,20 +29,26 @@ use Rattle.listing_definitions.specs.declared.Mark.{Mark}
 use Rattle.listing_definitions.specs.declared.Mark.TheVariants.{Optimal, Infeasible, Unbounded}
 use Rattle.listing_definitions.specs.declared.Solver.TheVariants.{Primal as ByPrimal, Dual as ByDual}
 use Rattle.listing_definitions.specs.declared.VerbFault.{VerbFault}
-use Rattle.listing_definitions.specs.Report.{SolutionLines, RangeLines, PathVerdict, Check, Filed, Report, Converted, Revised, SetUp, BcdOut, Solved, Solution, Ranges}
-use Rattle.question_definitions.specs.Answers.{Basis, Sheet, Changing, Row, Set, changing_name, parametric_solver, ParametricRun, Question, AnswerTo, OfPath, OfSolution, OfRanges, OfParametricRun, OfPunch, OfInstall, PathEnd, Reached, PathLimit, PricesWrong, ParametricRunEnd, Opening, Chained, ParametricRunLimit, InstallEnd, Installed, DependsBy}
+use Rattle.listing_definitions.specs.Report.{SolutionLines, RangeLines, PathVerdict, Check, Filed, Report, Converted, Revised, SetUp, BcdOut, Solved, Solution}
+use Rattle.listing_definitions.specs.Report.{Ranges}
+use Rattle.question_definitions.specs.Answers.{Basis, Sheet, Changing, Row, Set, changing_name, parametric_solver, ParametricRun, Question, AnswerTo, OfPath}
+use Rattle.question_definitions.specs.Answers.{OfSolution, OfRanges, OfParametricRun, OfPunch, OfInstall, PathEnd, Reached, PathLimit, PricesWrong}
+use Rattle.question_definitions.specs.Answers.{ParametricRunEnd, Opening, Chained, ParametricRunLimit, InstallEnd, Installed, DependsBy}
 use Rattle.question_definitions.specs.Solving.{Solving, IsRight}
 use Rattle.answer_definitions.specs.Verdicts.{verdict_of}
 use Rattle.answer_definitions.specs.Sections.{IsSolutionOf, IsRanged}
 use Rattle.control_definitions.specs.Cells.{Cells, move_name, move_number, steps_allowed, set_demand}
 use Rattle.run_definitions.specs.State.{Present, present_basis, gone_through, State, problem_of, choice_of}
 use Rattle.run_definitions.specs.Moves.{Prints, Punches, next, Does}
-use Rattle.run_definitions.specs.Verbs.{size_of, files, not_less, change_row, change_set, asks, max_counted, mark_of, mark_after, demanded, by_verdict, after_path, after_parametric_run, after_install, if_optimal, shows_present, solves, shows, ranges, parametric_runs, converts, revises, sets_up, punches, punches_basis, inserts, verb_move}
+use Rattle.run_definitions.specs.Verbs.{size_of, files, not_less, change_row, change_set, asks, max_counted, mark_of, mark_after, demanded, by_verdict}
+use Rattle.run_definitions.specs.Verbs.{after_path, after_parametric_run, after_install, if_optimal, shows_present, solves, shows, ranges, parametric_runs}
+use Rattle.run_definitions.specs.Verbs.{converts, revises, sets_up, punches, punches_basis, inserts, verb_move}
 use Rattle.simplex_laws.specs.Laws.{IsNonsingularBasis}
 use Rattle.simplex_laws.proofs.Ends.{optimal_end}
 use Rattle.simplex_laws.proofs.Steps.{opening_is}
 use Rattle.simplex_laws.proofs.OnePath.{path_leads}
-use Rattle.soundness_laws.specs.Truth.{PresentProgram, IsTrueOf, IsNotUnbounded, GivesBasis, ShowsBest, ShowsRanges, IsOfProblem, named_by, ReportsOfRun, ShowsOpening, ShowsChain, Holds}
+use Rattle.soundness_laws.specs.Truth.{PresentProgram, IsTrueOf, IsNotUnbounded, GivesBasis, ShowsBest, ShowsRanges, IsOfProblem, named_by, ReportsOfRun}
+use Rattle.soundness_laws.specs.Truth.{ShowsOpening, ShowsChain, Holds}
 use Rattle.soundness_laws.specs.ParametricRuns.{gone_over, IsTrueParametricRun}
 use Rattle.soundness_laws.proofs.ParametricRuns.{run_through_leads, run_through_true}
 use Rattle.soundness_laws.specs.Laws.{KnowsSolving}
@@ -49,7 +56,8 @@ use Rattle.soundness_laws.proofs.ChangeRow.{changes_freely, row_named, set_named
 use Rattle.soundness_laws.proofs.Ends.{IsProvedBest, reported_is_best, end_is_true, path_is_true}
 use Rattle.selection_laws.proofs.Selected.{selected_is_lawful, selected_without_change}
 use Rattle.soundness_laws.proofs.Selected.{selected_has_names, selected_has_no_change}
-use Rattle.soundness_laws.proofs.Moves.{HasProblem, EndsOptimally, KnowsMark, Knows, Keeps, IsKept, unmarked, HasBases, KnowsBases, without_setup, with_basis, does, may_stop, answered, unless_fault, unless_deck_fault, unless_selection_fault, selecting}
+use Rattle.soundness_laws.proofs.Moves.{HasProblem, EndsOptimally, KnowsMark, Knows, Keeps, IsKept, unmarked, HasBases, KnowsBases, without_setup, with_basis}
+use Rattle.soundness_laws.proofs.Moves.{does, may_stop, answered, unless_fault, unless_deck_fault, unless_selection_fault, selecting}
 use Rattle.parametric_laws.proofs.Runs.{last_of-append}
 
 -- ---- PRIMAL and DUAL

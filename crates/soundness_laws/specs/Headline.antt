@@ -14,7 +14,8 @@ use Rattle.question_definitions.specs.Solving.{Solving}
 use Rattle.run_definitions.specs.State.{State}
 use Rattle.run_definitions.specs.Moves.{printed_by, gain_of}
 use Rattle.run_definitions.specs.Run.{Reaches, begun, stepped, IsRun, is_over, is_ended}
-use Rattle.run_definitions.specs.Answer.{Job, Failures, Answer, IsJobRun, run, MayEnd, by_itself, memory_in_run, memory_at_punch, punch_fails, IsCutShort, in_report, in_end, IsAnswer, whole, print_fails, print_wants_memory}
+use Rattle.run_definitions.specs.Answer.{Job, Failures, Answer, IsJobRun, run, MayEnd, by_itself, memory_in_run, memory_at_punch, punch_fails, IsCutShort}
+use Rattle.run_definitions.specs.Answer.{in_report, in_end, IsAnswer, whole, print_fails, print_wants_memory}
 use Rattle.soundness_laws.specs.Truth.{Holds, HoldsAtEnd}
 
 -- What a report says of the state in which it is made is a parameter here, and so is what an end says.

@@ -33,7 +33,8 @@ use Rattle.selection_definitions.specs.Selection.{selected}
 use Rattle.listing_definitions.specs.declared.Mark.TheVariants.{Optimal}
 use Rattle.listing_definitions.specs.declared.Solver.{Solver}
 use Rattle.listing_definitions.specs.declared.Solver.TheVariants.{Primal as ByPrimal, Dual as ByDual}
-use Rattle.listing_definitions.specs.Report.{Line, SolutionLines, RangeLines, PathVerdict, OptimalAt, CrossedAt, InfeasibleBy, UnboundedBy, Check, Chain, Report, BasisOut, Inserted, Solved, Solution, Ranges, Parametric}
+use Rattle.listing_definitions.specs.Report.{Line, SolutionLines, RangeLines, PathVerdict, OptimalAt, CrossedAt, InfeasibleBy, UnboundedBy, Check, Chain}
+use Rattle.listing_definitions.specs.Report.{Report, BasisOut, Inserted, Solved, Solution, Ranges, Parametric}
 use Rattle.listing_definitions.specs.Ending.{Ending, SingularStop, PriceStop}
 use Rattle.question_definitions.specs.Answers.{Basis, Sheet, Changing, Row, Set, changing_name, parametric_solver, ParametricRun}
 use Rattle.answer_definitions.specs.Lines.{pair_lines, ray_lines}

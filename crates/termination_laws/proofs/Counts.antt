@@ -1,5 +1,6 @@
 -- How many status lists there are: each has a number of its own, written to the base 3.
-use Rattle.std.proofs.Common.{◌≡◌, ◌≢◌, ℕ, zero, suc, ◌+◌, ◌*◌, ◌^◌, ◌-◌, ◌<◌, ◌≤◌, ◌⊎◌, inl, inr, true, false, List, [], ◌∷◌, length, get_or, refl, sym, ap, ap₂, subst, ◌∙◌, arith, cond}
+use Rattle.std.proofs.Common.{◌≡◌, ◌≢◌, ℕ, zero, suc, ◌+◌, ◌*◌, ◌^◌, ◌-◌, ◌<◌, ◌≤◌, ◌⊎◌, inl, inr, true, false, List, [], ◌∷◌, length, get_or, refl, sym, ap}
+use Rattle.std.proofs.Common.{ap₂, subst, ◌∙◌, arith, cond}
 use Rattle.std.specs.Prelude.{Option, None, IsSome, eqb}
 use native.Mathlib.Nat.{pow-suc}
 use Rattle.std.proofs.lemmas.Bool.Decides.{eqb_tells}

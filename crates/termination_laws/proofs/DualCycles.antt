@@ -15,7 +15,8 @@ use Rattle.exact_values.proofs.Order.{le_of_eq, le_of_lt, le_trans, le_antisymm,
 use Rattle.exact_values.proofs.Ring.{by_ring2, ◌⊕◌, ◌⊖◌, ◌⊗◌, ◌≐◌, number}
 use Rattle.exact_values.proofs.RingLaws.{zero-mul, mul-zero}
 use Rattle.lp_definitions.specs.LinearProgram.{LinearProgram, Vector, size, IsVariable, IsLinearProgram, lower_of, upper_of, for_min, with_change_row}
-use Rattle.lp_definitions.specs.Basis.{Basics, is_in, is_basic, basics_of, status_of, IsBasic, IsNonbasic, IsPointOf, AreRates, Tableau, IsTableau, objective_rate, price_at}
+use Rattle.lp_definitions.specs.Basis.{Basics, is_in, is_basic, basics_of, status_of, IsBasic, IsNonbasic, IsPointOf, AreRates, Tableau, IsTableau}
+use Rattle.lp_definitions.specs.Basis.{objective_rate, price_at}
 use Rattle.lp_definitions.specs.declared.Status.{Status}
 use Rattle.lp_definitions.specs.declared.Status.TheVariants.{Ll, Ul}
 use Rattle.lp_laws.specs.Rates.{exchanged_rate}

@@ -207,7 +207,8 @@ module _ (p : LinearProgram) where
       at_w = ex w g.is_there
 
       e : ComesIn t at_w.leaves_is w.move.to turned.others
-      e = comes_in t at_w.leaves_is w.move.to at_w.stands (after w.basis w.move) w.basis turned.others turned.walk (λ x i. at x (inr i)) (left w at_w) at_w.leaves
+      e = comes_in t at_w.leaves_is w.move.to at_w.stands (after w.basis w.move) w.basis turned.others turned.walk (λ x i. at x (inr i)) (left w at_w)
+          at_w.leaves
 
       e_in : In e.visit (v ∷ vs)
       e_in = turned.was_in e.visit (inr e.is_there)

@@ -23,7 +23,8 @@ use Rattle.simplex_laws.proofs.Steps.{step_leads}
 use Rattle.simplex_laws.proofs.Second.{feasible_step}
 use Rattle.termination_laws.proofs.Walks.{Visit, In, IsWalk, Turned, turn_to, IsVisitBy, visit_step}
 use Rattle.termination_laws.proofs.Fickle.{Exchanges, FicklePair, fickle_pair}
-use Rattle.termination_laws.proofs.Runs.{IsRun, run_of, move_is, entered, k_is, run_no_worse, no_length, stopped_leaves, entering_variable_enters, reached_apart}
+use Rattle.termination_laws.proofs.Runs.{IsRun, run_of, move_is, entered, k_is, run_no_worse, no_length, stopped_leaves, entering_variable_enters}
+use Rattle.termination_laws.proofs.Runs.{reached_apart}
 use Rattle.termination_laws.proofs.Numbers.{find_before}
 use Rattle.termination_laws.proofs.Returns.{IsReturning, no_return_cycle}
 use Rattle.termination_laws.proofs.SecondClash.{second_clash}

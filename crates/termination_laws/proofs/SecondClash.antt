@@ -6,7 +6,8 @@ use Rattle.exact_values.specs.Rational.{zero_ℚ, ◌*ℚ◌, ◌≤ℚ◌, ◌<
 use Rattle.exact_values.specs.Sums.{sum_to}
 use Rattle.exact_values.proofs.Order.{le_of_lt, lt_not_le, lt_or_le, apart_from_above, apart_from_below}
 use Rattle.exact_values.proofs.Sums.{sum_to-nonnegative}
-use Rattle.lp_definitions.specs.LinearProgram.{LinearProgram, Vector, size, IsVariable, IsLinearProgram, KeepsEquations, lower_of, upper_of, for_min, objective_value}
+use Rattle.lp_definitions.specs.LinearProgram.{LinearProgram, Vector, size, IsVariable, IsLinearProgram, KeepsEquations, lower_of, upper_of, for_min}
+use Rattle.lp_definitions.specs.LinearProgram.{objective_value}
 use Rattle.lp_definitions.specs.Basis.{is_in, is_basic, basics_of, status_of, StandsAt, IsNonbasic, Tableau, IsTableau, objective_rate}
 use Rattle.lp_definitions.specs.declared.Status.{Status}
 use Rattle.lp_laws.specs.Rates.{weight}

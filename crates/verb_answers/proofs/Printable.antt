@@ -19,7 +19,8 @@ use Rattle.lp_model.specs.declared.reports.ParaReport.TheVariants as reports
 use Rattle.simplex_definitions.specs.Moves.{goes_up, blocking_variable}
 use Rattle.simplex_definitions.specs.Path.{listed, ray_of, speeds}
 use Rattle.simplex_definitions.specs.DualRatio.{cheapest}
-use Rattle.simplex_definitions.specs.Chain.{Part, ChainEnd, AtMax, UnboundedPast, InfeasiblePast, FaceTurn, FaceMoves, FaceDone, FaceEnds, IsPart as IsInterval, IsChain, at_max, past_breakpoint, goes_on}
+use Rattle.simplex_definitions.specs.Chain.{Part, ChainEnd, AtMax, UnboundedPast, InfeasiblePast, FaceTurn, FaceMoves, FaceDone, FaceEnds, IsPart as IsInterval}
+use Rattle.simplex_definitions.specs.Chain.{IsChain, at_max, past_breakpoint, goes_on}
 use Rattle.simplex_definitions.specs.ObjectiveRun.{objective_family, change_rate, face_entering_variable, face_until, face_by, objective_face, IsObjectiveFace}
 use Rattle.simplex_definitions.specs.RhsRun.{rhs_family, leaves_below, leaving, face_exchange, face_at, rhs_face, IsRhsFace}
 use Rattle.problem_definitions.proofs.Each.{each-all}

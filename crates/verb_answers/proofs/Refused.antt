@@ -15,7 +15,8 @@ use Rattle.lp_model.specs.declared.Stop.{Stop}
 use Rattle.lp_model.proofs.Stops.{IfOverflow-map}
 use Rattle.simplex_definitions.specs.Formulas.{f6_slack}
 use Rattle.simplex_definitions.specs.Statements.{Primal, Solution, is_between, belongs, thetas_of}
-use Rattle.simplex_definitions.specs.Evidence.{Formula, by_exchange, by_entry, by_carried, by_point, by_slack, by_move, by_ratio, by_range, by_objective, by_slope, ShowsRefusal, GoesTo, names_waypoint}
+use Rattle.simplex_definitions.specs.Evidence.{Formula, by_exchange, by_entry, by_carried, by_point, by_slack, by_move, by_ratio, by_range, by_objective}
+use Rattle.simplex_definitions.specs.Evidence.{by_slope, ShowsRefusal, GoesTo, names_waypoint}
 use Rattle.basis_values.specs.Calls.{job_of, is_of_point, PointRefused}
 use Rattle.verb_answers.specs.Slack.{SomeSlackRefused}
 use Rattle.verb_answers.specs.Stops.{SolutionRefused}

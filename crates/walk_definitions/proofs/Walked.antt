@@ -107,11 +107,13 @@ proved = record {
 }
 
 solves : turn checker_of_128_bits solving (record { state = ready; pending = None; rest = verdict ++ (viewed ++ codes "END 0\n"); reports = 0 }) ≡ Walks solved
-unfolding turn solving ready problem verdict viewed solved verb_move is_open_stop selected selection_fault is_made fraction_in count_in digits fraction gcd whole
+unfolding turn solving ready problem verdict viewed solved verb_move is_open_stop selected selection_fault is_made fraction_in count_in digits fraction gcd
+    whole
 solves = refl
 
 shows : turn checker_of_128_bits solving solved ≡ Walks proved
-unfolding turn solving ready problem verdict viewed solved proved verb_move is_open_stop selected selection_fault is_made fraction_in count_in digits fraction gcd whole refuses shared_factor raised_numerator raised_sum sum_denominator ◌+ℚ◌ ◌*ℚ◌ neg_ℚ compare_ℚ
+unfolding turn solving ready problem verdict viewed solved proved verb_move is_open_stop selected selection_fault is_made fraction_in count_in digits fraction
+    gcd whole refuses shared_factor raised_numerator raised_sum sum_denominator ◌+ℚ◌ ◌*ℚ◌ neg_ℚ compare_ℚ
 shows = refl
 
 ends : turn checker_of_128_bits solving proved ≡ Finds (Attested 2)
@@ -126,11 +128,13 @@ doubted = record solved {
 }
 
 either_word : turn checker_of_any_length solving doubted ≡ Walks proved
-unfolding turn solving ready problem verdict viewed doubted solved proved verb_move is_open_stop selected selection_fault is_made fraction_in count_in digits fraction gcd whole refuses shared_factor raised_numerator raised_sum sum_denominator ◌+ℚ◌ ◌*ℚ◌ neg_ℚ compare_ℚ
+unfolding turn solving ready problem verdict viewed doubted solved proved verb_move is_open_stop selected selection_fault is_made fraction_in count_in digits
+    fraction gcd whole refuses shared_factor raised_numerator raised_sum sum_denominator ◌+ℚ◌ ◌*ℚ◌ neg_ℚ compare_ℚ
 either_word = refl
 
 one_word : turn checker_of_128_bits solving doubted ≡ Finds (Wrong verdict)
-unfolding turn solving ready problem verdict viewed doubted solved proved verb_move is_open_stop selected selection_fault is_made fraction_in count_in digits fraction gcd whole refuses shared_factor raised_numerator raised_sum sum_denominator ◌+ℚ◌ ◌*ℚ◌ neg_ℚ compare_ℚ
+unfolding turn solving ready problem verdict viewed doubted solved proved verb_move is_open_stop selected selection_fault is_made fraction_in count_in digits
+    fraction gcd whole refuses shared_factor raised_numerator raised_sum sum_denominator ◌+ℚ◌ ◌*ℚ◌ neg_ℚ compare_ℚ
 one_word = refl
 
 -- the end before SOLUTION leaves the verdict pending

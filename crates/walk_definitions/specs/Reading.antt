@@ -14,10 +14,12 @@ use Rattle.listing_definitions.specs.declared.Mark.{Mark}
 use Rattle.listing_definitions.specs.declared.Solver.{Solver}
 use Rattle.listing_definitions.specs.declared.Solver.TheVariants.{Primal, Dual, Paraobj, Pararhs}
 use Rattle.listing_definitions.specs.Numbers.{digits, rational_text}
-use Rattle.listing_definitions.specs.Report.{Number, limit_value, PathVerdict, OptimalAt, CrossedAt, InfeasibleBy, UnboundedBy, Check, SolutionLines, RangeLines, ParametricInterval, ChainEnd, EndsAt, UnboundedPast, InfeasiblePast}
+use Rattle.listing_definitions.specs.Report.{Number, limit_value, PathVerdict, OptimalAt, CrossedAt, InfeasibleBy, UnboundedBy, Check, SolutionLines}
+use Rattle.listing_definitions.specs.Report.{RangeLines, ParametricInterval, ChainEnd, EndsAt, UnboundedPast, InfeasiblePast}
 use Rattle.listing_definitions.specs.Report as reports
 use Rattle.listing_definitions.specs.Text.{solver_text, mark_text}
-use Rattle.question_definitions.specs.Answers.{Sheet, changing_name, parametric_solver, ParametricRun, Question, OfPath, OfSolution, OfRanges, OfParametricRun, OfPunch, OfInstall, AnswerTo, Reached, ParametricRunEnd, Opening, Chained}
+use Rattle.question_definitions.specs.Answers.{Sheet, changing_name, parametric_solver, ParametricRun, Question, OfPath, OfSolution, OfRanges, OfParametricRun}
+use Rattle.question_definitions.specs.Answers.{OfPunch, OfInstall, AnswerTo, Reached, ParametricRunEnd, Opening, Chained}
 use Rattle.answer_definitions.specs.Lines.{row_numbers, column_numbers}
 use Rattle.answer_definitions.specs.ParametricRuns.{sheet_at}
 use Rattle.walk_definitions.specs.Checkers.{Checker, checker_of_128_bits}

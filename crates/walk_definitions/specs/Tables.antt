@@ -5,7 +5,8 @@
 --     ray_in of sheet ks           a line for each variable that has one, in this order, with a number other than 0
 --     column_of place lines        the numbers at a place of the lines, from 0
 --     multipliers sheet lines      a number for each variable, and 0 where it has no line
-use Rattle.std.specs.Prelude.{ℕ, Bool, false, ◌&&◌, List, [], ◌∷◌, ◌++◌, Option, Some, None, map, find, option_map, option_and_then, slice_get, codes, bytes_eq, nat_eq, if◌then◌else◌}
+use Rattle.std.specs.Prelude.{ℕ, Bool, false, ◌&&◌, List, [], ◌∷◌, ◌++◌, Option, Some, None, map, find, option_map, option_and_then, slice_get, codes, bytes_eq}
+use Rattle.std.specs.Prelude.{nat_eq, if◌then◌else◌}
 use Rattle.exact_values.specs.Rational.{ℚ, zero_ℚ}
 use Rattle.exact_values.specs.Tests.{eq_ℚ}
 use Rattle.lp_definitions.specs.LinearProgram.{variables}

@@ -9,11 +9,13 @@ use Rattle.lp_definitions.specs.LinearProgram.{LinearProgram, Vector, value_at, 
 use Rattle.check_definitions.specs.declared.Verdict.{Verdict}
 use Rattle.check_definitions.specs.declared.Verdict.TheVariants.{Checked, Failed}
 use Rattle.check_definitions.specs.Steps.{Step, operation, comparison, verdict_by, verdict_of, in_turn, Product, sum_steps, sum_of}
-use Rattle.check_definitions.specs.Checks.{is_at, by_sign, equations, feasible_point, reduced_costs, ray_columns, multiplied, limit_product, ray_limits, free_direction, optimal_steps, crossed_steps, infeasible_steps, unbounded_steps}
+use Rattle.check_definitions.specs.Checks.{is_at, by_sign, equations, feasible_point, reduced_costs, ray_columns, multiplied, limit_product, ray_limits}
+use Rattle.check_definitions.specs.Checks.{free_direction, optimal_steps, crossed_steps, infeasible_steps, unbounded_steps}
 use Rattle.simplex_definitions.specs.Chain.{along}
 use Rattle.listing_definitions.specs.declared.Mark.{Mark}
 use Rattle.listing_definitions.specs.declared.Mark.TheVariants.{Optimal}
-use Rattle.listing_definitions.specs.Report.{PathVerdict, OptimalAt, CrossedAt, InfeasibleBy, UnboundedBy, Check, SolutionLines, ParametricInterval, ChainEnd, EndsAt, UnboundedPast, InfeasiblePast}
+use Rattle.listing_definitions.specs.Report.{PathVerdict, OptimalAt, CrossedAt, InfeasibleBy, UnboundedBy, Check, SolutionLines, ParametricInterval, ChainEnd}
+use Rattle.listing_definitions.specs.Report.{EndsAt, UnboundedPast, InfeasiblePast}
 use Rattle.question_definitions.specs.Answers.{Sheet, Changing, Row, Set}
 use Rattle.answer_definitions.specs.Lines.{row_numbers}
 use Rattle.answer_definitions.specs.ParametricRuns.{row_of, shifts_of, family_of}

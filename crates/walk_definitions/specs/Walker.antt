@@ -13,9 +13,11 @@ use Rattle.listing_definitions.specs.declared.Mark.TheVariants.{Optimal}
 use Rattle.listing_definitions.specs.Report.{Check, Inserted, PathVerdict, OptimalAt}
 use Rattle.listing_definitions.specs.Ending.{Ending, Ended, StatementLimit}
 use Rattle.listing_definitions.specs.Listing.{ending_text}
-use Rattle.question_definitions.specs.Answers.{Sheet, Question, OfPath, OfSolution, OfRanges, OfParametricRun, OfPunch, OfInstall, AnswerTo, Reached, PathLimit, PricesWrong, Installed}
+use Rattle.question_definitions.specs.Answers.{Sheet, Question, OfPath, OfSolution, OfRanges, OfParametricRun, OfPunch, OfInstall, AnswerTo, Reached, PathLimit}
+use Rattle.question_definitions.specs.Answers.{PricesWrong, Installed}
 use Rattle.run_definitions.specs.State.{State}
-use Rattle.run_definitions.specs.Moves.{Nothing, Prints, printed_by, gain_text, gain_of, StatementOutcome, Goes, Ends, InSelection, InAnswer, StatementMove, Does, MayStop, Asks}
+use Rattle.run_definitions.specs.Moves.{Nothing, Prints, printed_by, gain_text, gain_of, StatementOutcome, Goes, Ends, InSelection, InAnswer, StatementMove}
+use Rattle.run_definitions.specs.Moves.{Does, MayStop, Asks}
 use Rattle.run_definitions.specs.Verbs.{verb_move}
 use Rattle.run_definitions.specs.Run.{max_executed, counted}
 use Rattle.walk_definitions.specs.Checkers.{Checker}

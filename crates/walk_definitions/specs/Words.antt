@@ -6,7 +6,8 @@
 --     with_word of reads           a word that means something, and this is read after it
 --     fraction_in C, count_in      a number, as the listing writes it, which the checker reads
 --     form_in C                    the same, but for a number that is too long to be read for its value
-use Rattle.std.specs.Prelude.{ℕ, [], ◌∷◌, Bool, false, not, ◌||◌, ◌&&◌, ◌==◌, pos, List, Option, Some, None, take, drop, length, bytes_eq, nat_le, nat_lt, if◌then◌else◌, unwrap_or, option_and_then}
+use Rattle.std.specs.Prelude.{ℕ, [], ◌∷◌, Bool, false, not, ◌||◌, ◌&&◌, ◌==◌, pos, List, Option, Some, None, take, drop, length, bytes_eq, nat_le, nat_lt}
+use Rattle.std.specs.Prelude.{if◌then◌else◌, unwrap_or, option_and_then}
 use Rattle.std.specs.List.{before_first, after_first, list_all, list_any}
 use Rattle.exact_values.specs.Rational.{ℚ, whole, fraction, neg_ℚ}
 use Rattle.card_definitions.specs.Numbers.{is_digit, digits_value}

@@ -21,9 +21,29 @@ end_alone lines ending count e =
 
 pub attested : (C : Checker) → ReadingLaw C → JudgedLaws C → AttestedLaw C
 attested C reading truth bytes lines count (of_cards fault is e) =
-    let alone = end_alone lines (CardStop fault) count e in
-    (record { reports = []; cards = []; ending = CardStop fault; runs = card_fault fault is; is_listing = alone.0; each = tt; unstopped = λ stop. let same = stop.1 in cc same }, sym alone.1)
+    let alone = end_alone lines (CardStop fault) count e in (
+      record {
+        reports = [];
+        cards = [];
+        ending = CardStop fault;
+        runs = card_fault fault is;
+        is_listing = alone.0;
+        each = tt;
+        unstopped = λ stop. let same = stop.1 in cc same;
+      },
+      sym alone.1,
+    )
 attested C reading truth bytes lines count (of_control fault is stops e) =
-    let alone = end_alone lines (ControlStop fault) count e in
-    (record { reports = []; cards = []; ending = ControlStop fault; runs = control_fault fault is stops; is_listing = alone.0; each = tt; unstopped = λ stop. let same = stop.1 in cc same }, sym alone.1)
+    let alone = end_alone lines (ControlStop fault) count e in (
+      record {
+        reports = [];
+        cards = [];
+        ending = ControlStop fault;
+        runs = control_fault fault is stops;
+        is_listing = alone.0;
+        each = tt;
+        unstopped = λ stop. let same = stop.1 in cc same;
+      },
+      sym alone.1,
+    )
 attested C reading truth bytes lines count (of_walk program w is_program come e) = walk_proved C reading truth bytes lines program is_program w count come e

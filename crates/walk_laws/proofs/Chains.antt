@@ -1,5 +1,6 @@
 -- A parametric run that passes its tests is true at every value of the parameter.
-use Rattle.std.proofs.Common.{◌≡◌, ℕ, suc, ◌+◌, ◌<◌, ◌⊎◌, List, [], ◌∷◌, ◌++◌, map, Bool, true, false, Option, Some, None, refl, sym, arith, codes, subst, nat_eq, IfSome, option_map, All, Contains}
+use Rattle.std.proofs.Common.{◌≡◌, ℕ, suc, ◌+◌, ◌<◌, ◌⊎◌, List, [], ◌∷◌, ◌++◌, map, Bool, true, false, Option, Some, None, refl, sym, arith, codes, subst}
+use Rattle.std.proofs.Common.{nat_eq, IfSome, option_map, All, Contains}
 use Rattle.std.specs.Prelude.{if◌then◌else◌}
 use Rattle.std.proofs.lemmas.Bool.Decides.{nat_tests}
 use Rattle.std.proofs.lemmas.List.Elements.{All-nil, All-cons}
@@ -19,7 +20,8 @@ use Rattle.walk_definitions.specs.Checkers.{Checker}
 use Rattle.walk_definitions.specs.Words.{left_after, fraction_in}
 use Rattle.walk_definitions.specs.Tables.{part_slots, table_in}
 use Rattle.walk_definitions.specs.Tests.{interval_test, close_test}
-use Rattle.walk_definitions.specs.Reading.{Run, Judged, Right, Fails, Refuses, judged, judged_map, tested_by, verdict_in, interval_in, close_in, parametric_run_head, onward, part_in, run_in, opening_in, parametric_run_in}
+use Rattle.walk_definitions.specs.Reading.{Run, Judged, Right, Fails, Refuses, judged, judged_map, tested_by, verdict_in, interval_in, close_in}
+use Rattle.walk_definitions.specs.Reading.{parametric_run_head, onward, part_in, run_in, opening_in, parametric_run_in}
 use Rattle.soundness_laws.specs.ParametricRuns.{ChangesFreely}
 use Rattle.walk_laws.specs.Views.{part_of, past_of}
 use Rattle.walk_laws.proofs.Judging.{right_is_passed, right_is_made}

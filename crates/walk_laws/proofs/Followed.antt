@@ -19,12 +19,14 @@ use Rattle.listing_definitions.specs.Ending.{Ending}
 use Rattle.listing_definitions.specs.Listing.{ending_text, reports_text}
 use Rattle.question_definitions.specs.Answers.{Basis, Sheet, Question, AnswerTo}
 use Rattle.question_definitions.specs.Solving.{IsRight}
-use Rattle.run_definitions.specs.Moves.{Gain, Nothing, Prints, Punches, printed_by, gain_text, StatementOutcome, Goes, Ends, gain_of, stops, Refusals, InSelection, InAnswer, StatementMove, Does, MayStop, Asks, Gives, or_fault}
+use Rattle.run_definitions.specs.Moves.{Gain, Nothing, Prints, Punches, printed_by, gain_text, StatementOutcome, Goes, Ends, gain_of, stops, Refusals}
+use Rattle.run_definitions.specs.Moves.{InSelection, InAnswer, StatementMove, Does, MayStop, Asks, Gives, or_fault}
 use Rattle.run_definitions.specs.Verbs.{or_deck_fault, or_selection_fault, selects}
 use Rattle.walk_definitions.specs.Checkers.{Checker}
 use Rattle.walk_definitions.specs.Words.{left_after}
 use Rattle.walk_definitions.specs.Reading.{Right, judged}
-use Rattle.walk_definitions.specs.Walker.{Pending, Walker, Found, WalkTurn, Finds, Unchecked, open_outcome, opened, refuses_selection, unless_found, follows, passed, taken, noted, due, walk_move}
+use Rattle.walk_definitions.specs.Walker.{Pending, Walker, Found, WalkTurn, Finds, Unchecked, open_outcome, opened, refuses_selection, unless_found, follows}
+use Rattle.walk_definitions.specs.Walker.{passed, taken, noted, due, walk_move}
 use Rattle.walk_definitions.proofs.Texts.{is_text}
 use Rattle.walk_laws.specs.Read.{ReadingLaw, reported}
 use Rattle.walk_laws.specs.Proved.{attested, Says}

@@ -128,7 +128,8 @@ module _ (C : Checker) (between : BetweenLaws) (sheet : Sheet) (changing : Chang
         → IsTrueInterval family is_first max part
     part_is_true is_first max e =
         let each = each_checked (asked (lt_ℚ part.from part.to || (is_first && eq_ℚ part.from part.to)) ∷ asked (le_ℚ part.to max)
-        ∷ end_test C sheet changing part.from part.value part.value_rate part.price part.price_rate ∷ end_test C sheet changing part.to part.value part.value_rate part.price part.price_rate
+        ∷ end_test C sheet changing part.from part.value part.value_rate part.price part.price_rate ∷ end_test C sheet changing part.to part.value
+        part.value_rate part.price part.price_rate
         ∷ says C (keeping_steps sheet changing part.from part.to part.value part.value_rate part.price part.price_rate) ∷ []) e in
         let long = begins_before is_first part.from part.to (asked_holds _ each.0) in
         let kept =

@@ -12,7 +12,8 @@ use Rattle.listing_definitions.specs.Text.{at_text, value_text, number5, name8, 
 use Rattle.question_definitions.specs.Answers.{Sheet}
 use Rattle.answer_definitions.specs.Lines.{name_of}
 use Rattle.walk_definitions.specs.Words.{Parsed, left_after, with_text, with_word}
-use Rattle.walk_definitions.specs.Tables.{Slot, AnyCode, AnyNumber, Known, all_codes, value_in, slot_in, then_more, values_in, number_at, begins_table_line, line_head, line_of, line_in, table_in, multiplier_in, ray_in}
+use Rattle.walk_definitions.specs.Tables.{Slot, AnyCode, AnyNumber, Known, all_codes, value_in, slot_in, then_more, values_in, number_at, begins_table_line}
+use Rattle.walk_definitions.specs.Tables.{line_head, line_of, line_in, table_in, multiplier_in, ray_in}
 use Rattle.card_definitions.specs.Words.{named}
 use Rattle.walk_definitions.proofs.Texts.{is_text}
 use Rattle.walk_laws.proofs.Pieces.{Tells, Spells, after_text, after_word, done, unless, kept, by_text, behind, named_spells, meaning}

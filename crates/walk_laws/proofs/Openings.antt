@@ -8,7 +8,8 @@ use Rattle.check_definitions.specs.declared.Verdict.{Verdict}
 use Rattle.check_definitions.specs.Steps.{in_turn}
 use Rattle.listing_definitions.specs.declared.Solver.{Solver}
 use Rattle.listing_definitions.specs.Report.{PathVerdict, OptimalAt, CrossedAt, InfeasibleBy, UnboundedBy, Check}
-use Rattle.question_definitions.specs.Answers.{Basis, Sheet, Changing, Row, Set, parametric_solver, ParametricRun, ParametricRunEnd, OfParametricRun, Opening, Chained}
+use Rattle.question_definitions.specs.Answers.{Basis, Sheet, Changing, Row, Set, parametric_solver, ParametricRun, ParametricRunEnd, OfParametricRun, Opening}
+use Rattle.question_definitions.specs.Answers.{Chained}
 use Rattle.answer_definitions.specs.ParametricRuns.{row_of, shifts_of, family_of, sheet_at}
 use Rattle.walk_definitions.specs.Checkers.{Checker}
 use Rattle.walk_definitions.specs.Words.{left_after, fraction_in}

@@ -1,7 +1,8 @@
 -- What is read tells the text that it was read of, piece by piece.
 --     Tells before reads text      what stood before, and what is read, are this text of what was read
 --     Spells of text               a word that means something is the text of it
-use Rattle.std.proofs.Common.{◌≡◌, ℕ, zero, suc, Bool, true, false, List, [], ◌∷◌, ◌++◌, Option, Some, None, map, take, drop, length, cond, if◌then◌else◌, refl, sym, ap, ◌∙◌, append_assoc}
+use Rattle.std.proofs.Common.{◌≡◌, ℕ, zero, suc, Bool, true, false, List, [], ◌∷◌, ◌++◌, Option, Some, None, map, take, drop, length, cond, if◌then◌else◌, refl}
+use Rattle.std.proofs.Common.{sym, ap, ◌∙◌, append_assoc}
 use Rattle.std.specs.Prelude.{option_map, option_and_then, bytes_eq, nat_le, ◌&&◌}
 use Rattle.std.specs.List.{find}
 use Rattle.std.specs.Option.{option_or}

@@ -15,5 +15,6 @@ judged_is_true C between past = record {
   opening =
       λ parametric_run sheet rest after bases verdict check lawful may e. opening_is_true C sheet parametric_run rest after bases verdict check lawful may e;
   chain =
-      λ parametric_run sheet rest after bases intervals end lawful may e. chain_is_true C between past sheet parametric_run lawful may rest after bases intervals end e;
+      λ parametric_run sheet rest after bases intervals end lawful may e. chain_is_true C between past sheet parametric_run lawful may rest after bases
+      intervals end e;
 }

@@ -4,7 +4,8 @@ use Rattle.std.specs.Prelude.{Option, Some, None, Ok}
 use Rattle.lp_definitions.specs.LinearProgram.{LinearProgram}
 use Rattle.selection_definitions.specs.Selection.{selected}
 use Rattle.listing_definitions.specs.Report.{PathVerdict, Solved, Parametric}
-use Rattle.question_definitions.specs.Answers.{Sheet, Changing, Row, Set, changing_name, parametric_solver, ParametricRun, OfParametricRun, ParametricRunEnd, Opening, Chained, ParametricRunLimit}
+use Rattle.question_definitions.specs.Answers.{Sheet, Changing, Row, Set, changing_name, parametric_solver, ParametricRun, OfParametricRun, ParametricRunEnd}
+use Rattle.question_definitions.specs.Answers.{Opening, Chained, ParametricRunLimit}
 use Rattle.answer_definitions.specs.ParametricRuns.{sheet_at}
 use Rattle.run_definitions.specs.State.{Present, present_basis, path_of, gone_through, State, choice_of}
 use Rattle.run_definitions.specs.Moves.{StatementOutcome, InAnswer, StatementMove, Asks}
@@ -102,7 +103,12 @@ module _ (C : Checker) (reading : ReadingLaw C) (truth : JudgedLaws C) (Holds : 
               (record { from = parametric_run.from; change = changing_name parametric_run.changing; intervals = intervals; end = end }))
               (reported (ShowsProvedChain
               (record { from = parametric_run.from; change = changing_name parametric_run.changing; intervals = intervals; end = end }))
-              (record { is_from = refl; is_change = refl; is_true = truth.chain parametric_run sheet w.rest rest bases intervals end program.is_linear_program free e })),
+              (record {
+                is_from = refl;
+                is_change = refl;
+                is_true = truth.chain parametric_run sheet w.rest rest bases intervals end program.is_linear_program
+                    free e;
+              })),
         ))
     parametric_run_comes ParametricRunLimit rest e holds =
         absurd (never_limited C sheet parametric_run w.rest rest (left_after (parametric_run_head parametric_run) w.rest) e)

@@ -1,5 +1,6 @@
 -- What holds of all that a reader may read.
-use Rattle.std.proofs.Common.{◌≡◌, ℕ, ◌≤◌, List, ◌∷◌, Bool, true, false, Option, Some, None, refl, subst, arith, codes, drop, length, option_map, option_and_then, nat_le, IfSome}
+use Rattle.std.proofs.Common.{◌≡◌, ℕ, ◌≤◌, List, ◌∷◌, Bool, true, false, Option, Some, None, refl, subst, arith, codes, drop, length, option_map}
+use Rattle.std.proofs.Common.{option_and_then, nat_le, IfSome}
 use Rattle.std.specs.Prelude.{if◌then◌else◌, bytes_eq, ◌&&◌}
 use Rattle.std.specs.Option.{option_or}
 use Rattle.std.proofs.lemmas.Bool.Decides.{nat_tests}

@@ -10,12 +10,14 @@ use Rattle.check_definitions.specs.Steps.{in_turn}
 use Rattle.check_definitions.proofs.Passing.{both_checked, holds_if_checked}
 use Rattle.listing_definitions.specs.declared.Solver.{Solver}
 use Rattle.listing_definitions.specs.Report.{PathVerdict, OptimalAt, CrossedAt, InfeasibleBy, UnboundedBy, Check}
-use Rattle.question_definitions.specs.Answers.{Basis, Sheet, parametric_solver, ParametricRun, OfPath, OfParametricRun, PathEnd, Reached, ParametricRunEnd, Opening, Chained}
+use Rattle.question_definitions.specs.Answers.{Basis, Sheet, parametric_solver, ParametricRun, OfPath, OfParametricRun, PathEnd, Reached, ParametricRunEnd}
+use Rattle.question_definitions.specs.Answers.{Opening, Chained}
 use Rattle.answer_definitions.specs.ParametricRuns.{sheet_at}
 use Rattle.walk_definitions.specs.Checkers.{Checker}
 use Rattle.walk_definitions.specs.Words.{Parsed, left_after, fraction_in, form_in}
 use Rattle.walk_definitions.specs.Tests.{says, asked, claim_test, verdict_test, making_steps}
-use Rattle.walk_definitions.specs.Reading.{Judged, Right, Fails, Refuses, by_verdict, tested_or, tested_by, judged_map, Claim, verdict_in, Run, run_in, parametric_run_head, parametric_run_in, judged}
+use Rattle.walk_definitions.specs.Reading.{Judged, Right, Fails, Refuses, by_verdict, tested_or, tested_by, judged_map, Claim, verdict_in, Run, run_in}
+use Rattle.walk_definitions.specs.Reading.{parametric_run_head, parametric_run_in, judged}
 use Rattle.walk_laws.specs.Views.{IsTrueAtFirst}
 
 abbrev pub OnRight : {X : Type 0} → (X → Type 0) → Judged X → Type 0

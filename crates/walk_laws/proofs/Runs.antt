@@ -1,5 +1,6 @@
 -- What is judged right was read of its text.
-use Rattle.std.proofs.Common.{◌≡◌, ℕ, ◌+◌, Bool, true, false, List, [], ◌∷◌, ◌++◌, Option, Some, None, codes, if◌then◌else◌, refl, sym, ap, ap₂, ◌∙◌, append_assoc, append-nil}
+use Rattle.std.proofs.Common.{◌≡◌, ℕ, ◌+◌, Bool, true, false, List, [], ◌∷◌, ◌++◌, Option, Some, None, codes, if◌then◌else◌, refl, sym, ap, ap₂, ◌∙◌}
+use Rattle.std.proofs.Common.{append_assoc, append-nil}
 use Rattle.std.specs.Prelude.{nat_eq, ◌&&◌, is_some}
 use Rattle.std.specs.List.{flat_map, enumerate_from}
 use Rattle.exact_values.specs.Rational.{ℚ}
@@ -11,12 +12,14 @@ use Rattle.listing_definitions.specs.Numbers.{rational_text}
 use Rattle.listing_definitions.specs.Report.{ParametricInterval}
 use Rattle.listing_definitions.specs.Text.{solver_text, interval_text, chain_end_text, verdict_text, solution_text}
 use Rattle.listing_definitions.specs.Listing.{reports_text}
-use Rattle.question_definitions.specs.Answers.{Sheet, changing_name, parametric_solver, ParametricRun, OfPath, OfSolution, OfRanges, OfParametricRun, OfPunch, OfInstall, PathEnd, ParametricRunEnd, Reached, Opening, Chained}
+use Rattle.question_definitions.specs.Answers.{Sheet, changing_name, parametric_solver, ParametricRun, OfPath, OfSolution, OfRanges, OfParametricRun, OfPunch}
+use Rattle.question_definitions.specs.Answers.{OfInstall, PathEnd, ParametricRunEnd, Reached, Opening, Chained}
 use Rattle.answer_definitions.specs.ParametricRuns.{sheet_at}
 use Rattle.walk_definitions.specs.Checkers.{Checker}
 use Rattle.walk_definitions.specs.Words.{Parsed, left_after, fraction_in, form_in}
 use Rattle.walk_definitions.specs.Tests.{says, verdict_test, solution_test, making_steps, interval_test, close_test}
-use Rattle.walk_definitions.specs.Reading.{Judged, Right, Fails, Refuses, by_verdict, tested_or, unread, tested_by, judged_map, Claim, verdict_in, solution_in, interval_in, close_in, parametric_run_head, Run, onward, part_in, run_in, parametric_run_in}
+use Rattle.walk_definitions.specs.Reading.{Judged, Right, Fails, Refuses, by_verdict, tested_or, unread, tested_by, judged_map, Claim, verdict_in, solution_in}
+use Rattle.walk_definitions.specs.Reading.{interval_in, close_in, parametric_run_head, Run, onward, part_in, run_in, parametric_run_in}
 use Rattle.walk_definitions.proofs.Texts.{is_text}
 use Rattle.walk_laws.specs.Read.{reported, ReadingLaw}
 use Rattle.walk_laws.proofs.Pieces.{Tells, fraction_spells}

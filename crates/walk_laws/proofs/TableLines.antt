@@ -1,5 +1,6 @@
 -- The table lines that are read are those of their numbers.
-use Rattle.std.proofs.Common.{◌≡◌, ℕ, zero, suc, ◌+◌, ◌<◌, ◌≤◌, ◌≢◌, ◌⊎◌, List, [], ◌∷◌, filter, find, cond, Bool, true, false, not, Option, Some, None, refl, sym, ap, ap₂, ◌∙◌, arith, codes, nat_eq, option_map, IfSome, slice_index_or}
+use Rattle.std.proofs.Common.{◌≡◌, ℕ, zero, suc, ◌+◌, ◌<◌, ◌≤◌, ◌≢◌, ◌⊎◌, List, [], ◌∷◌, filter, find, cond, Bool, true, false, not, Option, Some, None, refl}
+use Rattle.std.proofs.Common.{sym, ap, ap₂, ◌∙◌, arith, codes, nat_eq, option_map, IfSome, slice_index_or}
 use Rattle.std.specs.Prelude.{if◌then◌else◌}
 use Rattle.std.proofs.lemmas.Bool.Decides.{nat_tests}
 use mathlib.Core.Logic.{inl, inr}
@@ -12,7 +13,8 @@ use Rattle.listing_definitions.specs.Report.{Value, Number, Line}
 use Rattle.question_definitions.specs.Answers.{Sheet}
 use Rattle.answer_definitions.specs.Lines.{lines_of, pair_lines, ray_lines}
 use Rattle.walk_definitions.specs.Words.{Parsed, left_after}
-use Rattle.walk_definitions.specs.Tables.{Slot, AnyNumber, value_in, slot_in, values_in, then_more, number_at, numbered, begins_table_line, pair_slots, line_head, line_of, line_in, table_in, multiplier_in, ray_in, multipliers, column_of}
+use Rattle.walk_definitions.specs.Tables.{Slot, AnyNumber, value_in, slot_in, values_in, then_more, number_at, numbered, begins_table_line, pair_slots}
+use Rattle.walk_definitions.specs.Tables.{line_head, line_of, line_in, table_in, multiplier_in, ray_in, multipliers, column_of}
 use Rattle.walk_laws.proofs.Readings.{after_text, after_word, if_none_else, gone_on, listed_more}
 
 -- ---- values

@@ -10,7 +10,8 @@ use Rattle.run_definitions.specs.State.{State}
 use Rattle.run_definitions.specs.Moves.{Gain, Nothing, Prints, Punches, StatementOutcome, Goes, Ends}
 use Rattle.walk_definitions.specs.Words.{left_after}
 use Rattle.walk_definitions.specs.Forms.{is_open_stop}
-use Rattle.walk_definitions.specs.Walker.{Pending, Walker, Found, Attested, Wrong, Open, Unchecked, WalkTurn, Walks, Finds, open_if, open_stop, pending_found, open_pending, open_outcome, ended, unless_found, closes}
+use Rattle.walk_definitions.specs.Walker.{Pending, Walker, Found, Attested, Wrong, Open, Unchecked, WalkTurn, Walks, Finds, open_if, open_stop, pending_found}
+use Rattle.walk_definitions.specs.Walker.{open_pending, open_outcome, ended, unless_found, closes}
 use Rattle.walk_definitions.proofs.Texts.{is_text}
 
 abbrev pub On : (Walker → Type 0) → (ℕ → Type 0) → WalkTurn → Type 0

@@ -16,7 +16,8 @@ use Rattle.determinism_laws.specs.Laws.{IsOverflow, HasEvidence}
 use Rattle.determinism_laws.proofs.Stops.{statement_evidence}
 use Rattle.walk_definitions.specs.Checkers.{Checker}
 use Rattle.walk_definitions.specs.Forms.{is_ranges, is_punched}
-use Rattle.walk_definitions.specs.Walker.{Walker, Found, Attested, Unchecked, WalkTurn, Finds, open_if, open_stop, open_pending, is_inserted_by, open_question, opened, refuses_selection, unless_found, closes, due, walk_move, walk_statement, turn}
+use Rattle.walk_definitions.specs.Walker.{Walker, Found, Attested, Unchecked, WalkTurn, Finds, open_if, open_stop, open_pending, is_inserted_by, open_question}
+use Rattle.walk_definitions.specs.Walker.{opened, refuses_selection, unless_found, closes, due, walk_move, walk_statement, turn}
 use Rattle.walk_laws.specs.Proved.{attested}
 use Rattle.walk_laws.proofs.Turns.{NeverAttests, never_either, never_if, never_pending, never_stop, never_outcome}
 

@@ -16,7 +16,8 @@ use Rattle.walk_definitions.specs.Words.{Parsed, fraction_in, count_in, max_coun
 use Rattle.walk_definitions.specs.Forms.{all_operations}
 use Rattle.walk_definitions.specs.Tables.{pair_slots, table_in, ray_in}
 use Rattle.walk_definitions.specs.Reading.{with_check, Claim, optimal_in, crossed_in, infeasible_in, unbounded_in, claim_in, verdict_in}
-use Rattle.walk_laws.proofs.Pieces.{Tells, Spells, after_text, after_word, either, done, unless, made, same_before, same_text, behind, named_spells, fraction_spells, count_spells}
+use Rattle.walk_laws.proofs.Pieces.{Tells, Spells, after_text, after_word, either, done, unless, made, same_before, same_text, behind, named_spells}
+use Rattle.walk_laws.proofs.Pieces.{fraction_spells, count_spells}
 use Rattle.walk_laws.proofs.Lines.{table_tells, ray_tells}
 
 -- ---- checks

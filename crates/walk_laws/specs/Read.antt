@@ -4,7 +4,8 @@
 use Rattle.std.specs.Prelude.{◌≡◌, ℕ, List, [], ◌∷◌, ◌++◌}
 use Rattle.listing_definitions.specs.Report.{Report, Solved, Solution, Ranges, Parametric}
 use Rattle.listing_definitions.specs.Listing.{reports_text}
-use Rattle.question_definitions.specs.Answers.{Sheet, changing_name, parametric_solver, Question, OfPath, OfSolution, OfRanges, OfParametricRun, OfPunch, OfInstall, AnswerTo, Reached, Opening, Chained}
+use Rattle.question_definitions.specs.Answers.{Sheet, changing_name, parametric_solver, Question, OfPath, OfSolution, OfRanges, OfParametricRun, OfPunch}
+use Rattle.question_definitions.specs.Answers.{OfInstall, AnswerTo, Reached, Opening, Chained}
 use Rattle.walk_definitions.specs.Checkers.{Checker}
 use Rattle.walk_definitions.specs.Reading.{Right, judged}
 

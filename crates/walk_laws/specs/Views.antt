@@ -8,7 +8,8 @@ use Rattle.exact_values.specs.Rational.{ℚ}
 use Rattle.lp_definitions.specs.LinearProgram.{value_at}
 use Rattle.lp_definitions.specs.Solutions.{IsCrossed, ProvesUnbounded, IsInfeasible, IsUnbounded}
 use Rattle.simplex_definitions.specs.Chain.{Part, ChainEnd as PastBreakpoint, AtMax, UnboundedPast as PastUnbounded, InfeasiblePast as PastInfeasible}
-use Rattle.listing_definitions.specs.Report.{Line, PathVerdict, OptimalAt, CrossedAt, InfeasibleBy, UnboundedBy, ParametricInterval, ChainEnd, EndsAt, UnboundedPast, InfeasiblePast}
+use Rattle.listing_definitions.specs.Report.{Line, PathVerdict, OptimalAt, CrossedAt, InfeasibleBy, UnboundedBy, ParametricInterval, ChainEnd, EndsAt}
+use Rattle.listing_definitions.specs.Report.{UnboundedPast, InfeasiblePast}
 use Rattle.question_definitions.specs.Answers.{Sheet}
 use Rattle.answer_definitions.specs.Lines.{pair_lines}
 use Rattle.soundness_laws.specs.Truth.{AreLinesOfRay}
@@ -16,7 +17,16 @@ use Rattle.walk_definitions.specs.Tables.{column_of, multipliers}
 
 abbrev pub part_of : ParametricInterval → Part
 part_of interval =
-    record { from = interval.from; to = interval.to; statuses = []; value = column_of 1 interval.lines; value_rate = column_of 2 interval.lines; price = column_of 3 interval.lines; price_rate = column_of 4 interval.lines }
+    record {
+      from = interval.from;
+      to = interval.to;
+      statuses = [];
+      value = column_of 1 interval.lines;
+      value_rate = column_of 2 interval.lines;
+      price =
+          column_of 3 interval.lines;
+      price_rate = column_of 4 interval.lines;
+    }
 
 abbrev pub past_of : Sheet → ChainEnd → PastBreakpoint
 past_of sheet (EndsAt t) = AtMax

@@ -10,7 +10,8 @@ use Rattle.lp_definitions.specs.LinearProgram.{value_at}
 use Rattle.whole_vectors.specs.Quotients.{AreProducts, AreQuotients}
 use Rattle.whole_vectors.specs.Words.{wholes}
 use Rattle.whole_vectors.specs.Ranks.{IsListedAt, AreRanked, AreWritten, AreKept, AreChangedTo, AreChanged, AreListed}
-use Rattle.whole_vectors.proofs.Ranked.{none_written, written_next, as_at_first, read_whole, wholes_replicate, zeros_are, all_written, put_covered, unranked, unlisted_kept}
+use Rattle.whole_vectors.proofs.Ranked.{none_written, written_next, as_at_first, read_whole, wholes_replicate, zeros_are, all_written, put_covered, unranked}
+use Rattle.whole_vectors.proofs.Ranked.{unlisted_kept}
 
 -- nothing is changed at first
 pub none_changed : (g : ℚ → ℚ) (ks : List ℕ) (xs : List ℚ) → AreChangedTo g ks 0 xs xs

@@ -1,5 +1,6 @@
 -- Numbers over one denominator: what they are after all have been multiplied or divided.
-use Rattle.std.proofs.Common.{◌≡◌, ◌≢◌, ℕ, zero, suc, ◌-◌, List, [], ◌∷◌, length, map, get_or, Bool, true, refl, sym, ◌∙◌, ap, ap₂, arith, ℤ, pos, negsuc, subst, Option, Result, Ok, Err, IfOk}
+use Rattle.std.proofs.Common.{◌≡◌, ◌≢◌, ℕ, zero, suc, ◌-◌, List, [], ◌∷◌, length, map, get_or, Bool, true, refl, sym, ◌∙◌, ap, ap₂, arith, ℤ, pos, negsuc}
+use Rattle.std.proofs.Common.{subst, Option, Result, Ok, Err, IfOk}
 use Rattle.std.specs.Cmp.{Equal-is}
 use Rattle.std.specs.Prelude.{IfSome, ◌≤ℤ◌, unsigned_abs}
 use Rattle.std.proofs.lemmas.Int.{ints}

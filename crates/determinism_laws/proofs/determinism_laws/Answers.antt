@@ -9,7 +9,13 @@ use Rattle.determinism_laws.proofs.determinism_laws.Goals as goal
 pub returns : goal.returns
 returns c = record {
   answers =
-      record { path = λ sheet s limit a b lawful at. path_once sheet s lawful at limit a b; dual_path = λ sheet s limit a b lawful at. dual_path_once sheet s lawful at limit a b; solution = reported_once; ranges = ranged_once };
+      record {
+        path = λ sheet s limit a b lawful at. path_once sheet s lawful at limit a b;
+        dual_path = λ sheet s limit a b lawful at. dual_path_once sheet s
+            lawful at limit a b;
+        solution = reported_once;
+        ranges = ranged_once;
+      };
   moves = outcomes linear_programming;
   answered = answers_once;
   runs = is_function linear_programming knows_linear_programming answers_once;

@@ -1,4 +1,5 @@
-use Rattle.exact_values.proofs.TestsLaws.{lt_from_test, test_from_lt, le_from_test, test_from_le, same_from_test, test_from_same, below_from_sign, sign_from_below, zero_from_sign, sign_from_zero, above_from_sign, sign_from_above}
+use Rattle.exact_values.proofs.TestsLaws.{lt_from_test, test_from_lt, le_from_test, test_from_le, same_from_test, test_from_same, below_from_sign}
+use Rattle.exact_values.proofs.TestsLaws.{sign_from_below, zero_from_sign, sign_from_zero, above_from_sign, sign_from_above}
 use Rattle.exact_values.proofs.test_laws.Goals as goal
 
 pub returns : goal.returns

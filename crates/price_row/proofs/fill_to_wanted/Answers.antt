@@ -9,7 +9,8 @@ pub returns-in_ok-rate-in-Some-clause-found : goal.returns-in_ok-rate-in-Some-cl
 returns-in_ok-rate-in-Some-clause-found c =
     let var : IsVariable c.args.file.now.matrix c.in-Some.k =
     subst (λ (o : Option ℕ). IfSome o (IsVariable c.args.file.now.matrix)) c.in-Some.is c.in_ok-found.ensures.variable in
-    first_found c.args.file.now c.args.sought.now.row c.args.sought.now.wanted.now c.args.sought.now.up c.args.out.now c.size-size.ensures.basics c.size-size.ensures.passed c.requires.wanted_places
+    first_found c.args.file.now c.args.sought.now.row c.args.sought.now.wanted.now c.args.sought.now.up c.args.out.now c.size-size.ensures.basics
+    c.size-size.ensures.passed c.requires.wanted_places
     c.in-Some.k c.in_ok-rate-in-Some.rate var c.requires.places c.in_ok-rate-in-Some.ensures.rate
     (λ rates row. subst (λ (o : Option ℕ). IsLeastWanted c.args.sought.now.wanted.now c.args.sought.now.up rates o) c.in-Some.is
     (c.in_ok-found.ensures.least rates row))

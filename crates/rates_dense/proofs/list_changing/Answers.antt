@@ -11,7 +11,8 @@ loop-slot-preserved-then-not-changes c =
     record {
       within = omega (arith, c.loop-slot.invariant.within);
       listed =
-          changing_skipped c.args.exchange.now.p c.args.exchange.now.q c.args.lines.now c.loop-slot.changing c.loop-slot.slot c.loop-slot.count c.loop-slot.invariant.listed
+          changing_skipped c.args.exchange.now.p c.args.exchange.now.q c.args.lines.now c.loop-slot.changing c.loop-slot.slot c.loop-slot.count
+          c.loop-slot.invariant.listed
           (λ d. subst (λ (line : Line). IsUnchanged c.args.exchange.now.p c.args.exchange.now.q line)
           (c.index-lines-slot.is ∙ get_or_default c.args.lines.now c.loop-slot.slot c.index-lines-slot.result d c.loop-slot-test.true) unchanged);
     }
@@ -20,7 +21,8 @@ pub loop-slot-preserved : goal.loop-slot-preserved
 loop-slot-preserved c = record {
   within = omega (arith, c.loop-slot.invariant.within);
   listed =
-      changing_listed c.args.exchange.now.p c.args.exchange.now.q c.args.lines.now c.loop-slot.changing c.loop-slot.slot c.loop-slot.count c.loop-slot.invariant.listed
+      changing_listed c.args.exchange.now.p c.args.exchange.now.q c.args.lines.now c.loop-slot.changing c.loop-slot.slot c.loop-slot.count
+      c.loop-slot.invariant.listed
       (omega (arith, c.loop-slot.invariant.within, c.loop-slot-test.true, c.loop-slot.auto.changing, c.requires.room))
       (λ d same. c.changes.ensures.moves c.if-not-changes.false (subst (λ (line : Line). IsUnchanged c.args.exchange.now.p c.args.exchange.now.q line)
       (sym (c.index-lines-slot.is ∙ get_or_default c.args.lines.now c.loop-slot.slot c.index-lines-slot.result d c.loop-slot-test.true)) same));
@@ -28,6 +30,7 @@ loop-slot-preserved c = record {
 
 pub returns-clause-listed : goal.returns-clause-listed
 returns-clause-listed c =
-    changing_to_end c.args.exchange.now.p c.args.exchange.now.q c.args.lines.now c.loop-slot.changing c.loop-slot.slot c.loop-slot.count c.loop-slot.invariant.listed
+    changing_to_end c.args.exchange.now.p c.args.exchange.now.q c.args.lines.now c.loop-slot.changing c.loop-slot.slot c.loop-slot.count
+    c.loop-slot.invariant.listed
     (omega (arith, c.loop-slot-test.false)) (omega (arith, c.loop-slot.auto.slot-end))
     (omega (arith, c.loop-slot.invariant.within, c.loop-slot.auto.slot-end, c.loop-slot.auto.changing, c.requires.room))

@@ -29,7 +29,8 @@ loop-line-preserved-then-is_zero c f have =
     ) in
     let here : c.index-rate.result.now ≡ value_at c.line-item.result.rates.items c.args.j =
     value_at_place c.line-item.result.rates.items c.args.j c.index-rate.result.now c.requires.low high c.index-rate.ensures in
-    taken_zero c.args.lines.now c.args.j c.args.out.now c.loop-line.out f c.loop-line.line-index c.line-item.result within c.line-item.is c.requires.basics c.requires.zeros have
+    taken_zero c.args.lines.now c.args.j c.args.out.now c.loop-line.out f c.loop-line.line-index c.line-item.result within c.line-item.is c.requires.basics
+    c.requires.zeros have
     (sym here ∙ c.is_zero.ensures.0 c.if-is_zero.true) (c.loop-line.invariant f have)
 
 pub loop-line-preserved : goal.loop-line-preserved
@@ -44,7 +45,8 @@ loop-line-preserved c f have =
           (length c.args.out.now) c.loop-line.line-index c.line-item.result within c.line-item.is c.requires.places,
       c.requires.high,
     ) in
-    taken_line c.args.lines.now c.args.j c.args.out.now c.loop-line.out f c.loop-line.line-index c.line-item.result c.index-rate.result.now within c.line-item.is numbers have
+    taken_line c.args.lines.now c.args.j c.args.out.now c.loop-line.out f c.loop-line.line-index c.line-item.result c.index-rate.result.now within
+    c.line-item.is numbers have
     (value_at_place c.line-item.result.rates.items c.args.j c.index-rate.result.now c.requires.low high c.index-rate.ensures) (c.loop-line.invariant f have)
 
 pub returns : goal.returns

@@ -1,5 +1,6 @@
 use Rattle.simplex_laws.proofs.DualTurns.{keeps_right, dual_end, never_unbounded, not_both_prices, one_wrong}
-use Rattle.simplex_laws.proofs.OneDualPath.{dual_leads, dual_path_leads, path_right, right_or_wrong, signs, from_signs, one_step, one_end, step_or_end, one_path, ends_or_goes_on, not_both}
+use Rattle.simplex_laws.proofs.OneDualPath.{dual_leads, dual_path_leads, path_right, right_or_wrong, signs, from_signs, one_step, one_end, step_or_end}
+use Rattle.simplex_laws.proofs.OneDualPath.{one_path, ends_or_goes_on, not_both}
 use Rattle.simplex_laws.proofs.dual_laws.Goals as goal
 
 pub returns : goal.returns

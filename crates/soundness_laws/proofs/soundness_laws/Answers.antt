@@ -8,7 +8,12 @@ use Rattle.soundness_laws.proofs.soundness_laws.Goals as goal
 pub returns : goal.returns
 returns c = record {
   parametric_runs =
-      record { leads = run_through_leads; one_end = λ sheet s parametric_run end other lawful free at. one_parametric_run_end sheet s parametric_run lawful free at end other; is_true = run_through_true };
+      record {
+        leads = run_through_leads;
+        one_end = λ sheet s parametric_run end other lawful free at. one_parametric_run_end sheet s parametric_run lawful
+            free at end other;
+        is_true = run_through_true;
+      };
   truth = tells_truth _ knows_linear_programming;
   problems = files_problems _;
   unlimited = ends_unlimited;

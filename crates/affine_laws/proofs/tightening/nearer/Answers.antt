@@ -21,4 +21,5 @@ returns-then-is_within-clause-nearer c =
 pub returns-clause-nearer : goal.returns-clause-nearer
 returns-clause-nearer c =
     let is : c.args.kept ≡ Some c.in-Some.present = cc in
-    made_end c.args.high c.args.bound.now c.requires.slope c.requires.side c.args.kept c.in-Some.present is c.in_ok-made-2.made c.in_ok-made-2.ensures.value c.is_within.result c.if-is_within.false c.is_within.ensures.1
+    made_end c.args.high c.args.bound.now c.requires.slope c.requires.side c.args.kept c.in-Some.present is c.in_ok-made-2.made c.in_ok-made-2.ensures.value
+    c.is_within.result c.if-is_within.false c.is_within.ensures.1

@@ -46,7 +46,8 @@ returns-in_err-exchange-clause-stops g c =
     (g.E.Rates.state c.column.new.self).waypoints c.column.ensures.kept.same_matrix c.column.ensures.kept.same_basics c.column.ensures.kept.waypoints
     c.column.new.out c.in_ok-column.ensures.direction c.in-Some.p c.in-Some.ensures
     (g.E.Rates.state c.exchange.new.self).basics
-    (g.E.Rates.state c.exchange.new.self).waypoints c.in_err-exchange.field-0.0 c.in_err-exchange.ensures.err c.exchange.ensures.waypoints c.in_err-exchange.ensures.overflow)
+    (g.E.Rates.state c.exchange.new.self).waypoints c.in_err-exchange.field-0.0 c.in_err-exchange.ensures.err c.exchange.ensures.waypoints
+    c.in_err-exchange.ensures.overflow)
 
 pub returns-clause-under_way : goal.returns-clause-under_way
 returns-clause-under_way g c =

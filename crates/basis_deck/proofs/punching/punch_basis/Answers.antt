@@ -43,4 +43,11 @@ returns-clause-writes g c =
 
 pub returns-clause-counted : goal.returns-clause-counted
 returns-clause-counted g c =
-    omega (arith, deck_length c.args.problem.now c.args.lp.now c.args.basis.now, c.in_ok-exchanges.ensures.counted, c.in_ok-limits.ensures.counted, c.saturating_add.ensures, c.saturating_add-2.ensures)
+    omega (
+      arith,
+      deck_length c.args.problem.now c.args.lp.now c.args.basis.now,
+      c.in_ok-exchanges.ensures.counted,
+      c.in_ok-limits.ensures.counted,
+      c.saturating_add.ensures,
+      c.saturating_add-2.ensures,
+    )

@@ -42,7 +42,8 @@ returns-in-Err-clause-overflow g c =
     change_stops c.args.lp.now c.args.basis.now c.requires.rates.is_basis c.requires.rates.nonsingular (value_at c.args.prices.now)
     (value_at c.row.new.out) c.args.added c.requires.objective
     (rw (c.requires.rates.same_matrix, c.requires.rates.same_basics) at c.in_ok-row.ensures.rates)
-    (change_row_basic c.args.lp.now c.args.basis.now c.args.added c.requires.rates.is_basis c.requires.lawful c.requires.added) c.in-Err.evidence c.requires.added
+    (change_row_basic c.args.lp.now c.args.basis.now c.args.added c.requires.rates.is_basis c.requires.lawful c.requires.added) c.in-Err.evidence
+    c.requires.added
     (g.R.Rates.state c.args.rates.now).waypoints (g.R.Rates.state c.row.new.self).waypoints
     (subst (λ (n : ℕ). SomeChangedRefused c.args.added.theta (value_at c.row.new.out)
     (value_at c.args.prices.now) n c.in-Err.evidence) places c.in-Err.ensures.refused)

@@ -24,5 +24,6 @@ returns-in_err-price-clause-refused c =
           (value_at c.args.prices.now (c.loop-k.k + 1)) c.args.theta x c.in_err-price.field-0.0) change_is
           (subst (λ (x : ℚ). IsTermRefusal
           (price_formula (c.loop-k.k + 1) c.args.theta) x c.args.theta c.index-change-k.result c.in_err-price.field-0.0) rate_is
-          (subst (λ (f : Formula). IsTermRefusal f c.index-prices-k.result c.args.theta c.index-change-k.result c.in_err-price.field-0.0) c.formula.ensures c.in_err-price.ensures.refused));
+          (subst (λ (f : Formula). IsTermRefusal f c.index-prices-k.result c.args.theta c.index-change-k.result c.in_err-price.field-0.0) c.formula.ensures
+          c.in_err-price.ensures.refused));
     })

@@ -33,7 +33,8 @@ returns-in-None-clause-rates g c = kept_by c.requires.rates c.row.ensures.kept.s
 
 pub returns-in-Some-clause-rates : goal.returns-in-Some-clause-rates
 returns-in-Some-clause-rates g c =
-    kept_then (kept_by c.requires.rates c.row.ensures.kept.same_matrix c.row.ensures.kept.same_basics c.row.ensures.kept.waypoints) c.add_change_row.ensures.rates
+    kept_then (kept_by c.requires.rates c.row.ensures.kept.same_matrix c.row.ensures.kept.same_basics c.row.ensures.kept.waypoints)
+    c.add_change_row.ensures.rates
 
 pub returns-in-Some-clause-overflow : goal.returns-in-Some-clause-overflow
 returns-in-Some-clause-overflow g c =

@@ -29,7 +29,8 @@ returns-in_err-change-clause-refused c =
     (c.reduced-rate.ensures ∙ value_read c.args.direction.now c.args.k c.index-direction-k.result (omega arith) c.index-direction-k.is)
     (subst (λ (x : ℚ). IsAhead c.args.lp.now (λ _. signed c.args.up x) c.args.k (Some c.in-Some.ahead)) (sym c.reduced-rate.ensures) c.in-Some.ensures)
     (c.reduced-value.ensures ∙ value_read c.args.point.now c.args.k c.index-point-k.result (omega arith) c.index-point-k.is)
-    c.formula-2.result c.in_err-change.field-0.0 c.in_ok-distance.distance c.in_ok-distance.ensures.value c.formula-2.ensures c.in_err-change.ensures.refused c.in_err-change.ensures.divides)
+    c.formula-2.result c.in_err-change.field-0.0 c.in_ok-distance.distance c.in_ok-distance.ensures.value c.formula-2.ensures c.in_err-change.ensures.refused
+    c.in_err-change.ensures.divides)
 
 pub returns-clause-length : goal.returns-clause-length
 returns-clause-length c =

@@ -12,7 +12,8 @@ use Rattle.lp_laws.proofs.Places.{value_read}
 pub returns-then-k-first : goal.returns-then-k-first
 returns-then-k-first c =
     before_yields c.args.lp.now (value_at c.args.point.now) (value_at c.args.direction.now) c.args.up c.args.k c.args.first.now c.counted-speed.result
-    (c.counted-speed.ensures ∙ ap (signed c.args.up) (c.reduced.ensures ∙ value_read c.args.direction.now c.args.k c.index-direction-k.result (omega arith) c.index-direction-k.is))
+    (c.counted-speed.ensures ∙ ap (signed c.args.up) (c.reduced.ensures ∙ value_read c.args.direction.now c.args.k c.index-direction-k.result (omega arith)
+    c.index-direction-k.is))
     c.in-Some.ahead c.reduced-value.result c.in-Some-plus_product.place c.is_less-rises.result
     (subst (λ (x : ℚ). IsAhead c.args.lp.now (λ _. x) c.args.k (Some c.in-Some.ahead))
     (sym (c.counted-speed.ensures ∙ ap (signed c.args.up) c.reduced.ensures)) c.in-Some.ensures)
@@ -23,7 +24,8 @@ returns-then-k-first c =
 pub returns-else-k-first : goal.returns-else-k-first
 returns-else-k-first c =
     within_yields c.args.lp.now (value_at c.args.point.now) (value_at c.args.direction.now) c.args.up c.args.k c.args.first.now c.counted-speed.result
-    (c.counted-speed.ensures ∙ ap (signed c.args.up) (c.reduced.ensures ∙ value_read c.args.direction.now c.args.k c.index-direction-k.result (omega arith) c.index-direction-k.is))
+    (c.counted-speed.ensures ∙ ap (signed c.args.up) (c.reduced.ensures ∙ value_read c.args.direction.now c.args.k c.index-direction-k.result (omega arith)
+    c.index-direction-k.is))
     c.in-Some.ahead c.reduced-value.result c.in-Some-plus_product.place c.is_less-rises.result
     (subst (λ (x : ℚ). IsAhead c.args.lp.now (λ _. x) c.args.k (Some c.in-Some.ahead))
     (sym (c.counted-speed.ensures ∙ ap (signed c.args.up) c.reduced.ensures)) c.in-Some.ensures)

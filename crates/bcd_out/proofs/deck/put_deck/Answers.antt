@@ -13,7 +13,8 @@ returns-in_err-put_name g c =
     (deck_text_of c.args.problem.now
     (c.bytes.ensures.bytes ∙ c.name-name.ensures.name) c.rows-rows.ensures.rows c.columns-columns.ensures.columns refl refl refl)
     (writes_more
-    (from_rows c.rows-rows.result.now c.columns-columns.result.now c.args.problem.now.rhs c.args.problem.now.ranges c.args.problem.now.bounds) c.in_err-put_name.ensures))
+    (from_rows c.rows-rows.result.now c.columns-columns.result.now c.args.problem.now.rhs c.args.problem.now.ranges c.args.problem.now.bounds)
+    c.in_err-put_name.ensures))
 
 pub returns-in_err-put_rows : goal.returns-in_err-put_rows
 returns-in_err-put_rows g c =
@@ -24,7 +25,8 @@ returns-in_err-put_rows g c =
     (c.bytes.ensures.bytes ∙ c.name-name.ensures.name) c.rows-rows.ensures.rows c.columns-columns.ensures.columns refl refl refl)
     (writes_then c.in_ok-put_name.ensures
     (writes_more
-    (from_columns c.rows-rows.result.now c.columns-columns.result.now c.args.problem.now.rhs c.args.problem.now.ranges c.args.problem.now.bounds) c.in_err-put_rows.ensures)))
+    (from_columns c.rows-rows.result.now c.columns-columns.result.now c.args.problem.now.rhs c.args.problem.now.ranges c.args.problem.now.bounds)
+    c.in_err-put_rows.ensures)))
 
 pub returns-in_err-put_columns : goal.returns-in_err-put_columns
 returns-in_err-put_columns g c =
@@ -36,7 +38,8 @@ returns-in_err-put_columns g c =
     (writes_then c.in_ok-put_name.ensures
     (writes_then c.in_ok-put_rows.ensures
     (writes_more
-    (from_rhs c.rows-rows.result.now c.columns-columns.result.now c.args.problem.now.rhs c.args.problem.now.ranges c.args.problem.now.bounds) c.in_err-put_columns.ensures))))
+    (from_rhs c.rows-rows.result.now c.columns-columns.result.now c.args.problem.now.rhs c.args.problem.now.ranges c.args.problem.now.bounds)
+    c.in_err-put_columns.ensures))))
 
 pub returns-in_err-put_value_section : goal.returns-in_err-put_value_section
 returns-in_err-put_value_section g c =
@@ -49,7 +52,8 @@ returns-in_err-put_value_section g c =
     (writes_then c.in_ok-put_rows.ensures
     (writes_then c.in_ok-put_columns.ensures
     (writes_more
-    (from_ranges c.rows-rows.result.now c.columns-columns.result.now c.args.problem.now.ranges c.args.problem.now.bounds) c.in_err-put_value_section.ensures)))))
+    (from_ranges c.rows-rows.result.now c.columns-columns.result.now c.args.problem.now.ranges c.args.problem.now.bounds)
+    c.in_err-put_value_section.ensures)))))
 
 pub returns-in_err-put_value_section-2 : goal.returns-in_err-put_value_section-2
 returns-in_err-put_value_section-2 g c =
@@ -73,10 +77,16 @@ returns-in_err-put_bound_section g c =
     (writes_same
     (deck_text_of c.args.problem.now
     (c.bytes.ensures.bytes
-    ∙ c.name-name.ensures.name) c.rows-rows.ensures.rows c.columns-columns.ensures.columns c.rhs.ensures.rhs c.ranges-2.ensures.ranges c.bounds.ensures.bounds) (writes_then c.in_ok-put_name.ensures (writes_then c.in_ok-put_rows.ensures (writes_then c.in_ok-put_columns.ensures (writes_then c.in_ok-put_value_section.ensures (writes_then c.in_ok-put_value_section-2.ensures (writes_more (line (codes "ENDATA")) c.in_err-put_bound_section.ensures)))))))
+    ∙ c.name-name.ensures.name) c.rows-rows.ensures.rows c.columns-columns.ensures.columns c.rhs.ensures.rhs c.ranges-2.ensures.ranges
+    c.bounds.ensures.bounds) (writes_then c.in_ok-put_name.ensures (writes_then c.in_ok-put_rows.ensures (writes_then c.in_ok-put_columns.ensures
+    (writes_then c.in_ok-put_value_section.ensures (writes_then c.in_ok-put_value_section-2.ensures (writes_more (line (codes "ENDATA"))
+    c.in_err-put_bound_section.ensures)))))))
 
 pub returns : goal.returns
 returns g c =
     writes_same (deck_text_of c.args.problem.now
     (c.bytes.ensures.bytes
-    ∙ c.name-name.ensures.name) c.rows-rows.ensures.rows c.columns-columns.ensures.columns c.rhs.ensures.rhs c.ranges-2.ensures.ranges c.bounds.ensures.bounds) (writes_then c.in_ok-put_name.ensures (writes_then c.in_ok-put_rows.ensures (writes_then c.in_ok-put_columns.ensures (writes_then c.in_ok-put_value_section.ensures (writes_then c.in_ok-put_value_section-2.ensures (writes_then c.in_ok-put_bound_section.ensures (c.put_all.ensures)))))))
+    ∙ c.name-name.ensures.name) c.rows-rows.ensures.rows c.columns-columns.ensures.columns c.rhs.ensures.rhs c.ranges-2.ensures.ranges
+    c.bounds.ensures.bounds) (writes_then c.in_ok-put_name.ensures (writes_then c.in_ok-put_rows.ensures (writes_then c.in_ok-put_columns.ensures
+    (writes_then c.in_ok-put_value_section.ensures (writes_then c.in_ok-put_value_section-2.ensures (writes_then c.in_ok-put_bound_section.ensures
+    (c.put_all.ensures)))))))

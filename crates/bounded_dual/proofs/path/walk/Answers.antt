@@ -50,7 +50,8 @@ returns-in-Ends-clause-ends g c =
     let ends = rw c.in-Ends.is at c.in_ok-outcome.ensures.turn in
     let counted : c.loop-outcome.steps ≡ counted_steps c.loop-outcome.steps = omega (arith, c.loop-outcome.invariant.within) in
     ends_there dual_turn c.args.lp.now c.args.basis.now (g.R.Rates.state c.args.rates.now).waypoints c.loop-outcome.basis
-    (g.R.Rates.state c.loop-outcome.rates).waypoints c.loop-outcome.steps c.loop-outcome.invariant.reached c.args.limit c.loop-outcome.steps c.in-Ends.outcome c.loop-outcome.invariant.within counted ends
+    (g.R.Rates.state c.loop-outcome.rates).waypoints c.loop-outcome.steps c.loop-outcome.invariant.reached c.args.limit c.loop-outcome.steps c.in-Ends.outcome
+    c.loop-outcome.invariant.within counted ends
 
 pub step_over-requires-clause-step : goal.step_over-requires-clause-step
 step_over-requires-clause-step g c =
@@ -66,7 +67,8 @@ returns-in_err-kept-in-Moves-clause-stops g c =
     (g.R.Rates.state c.loop-outcome.rates).waypoints c.loop-outcome.steps c.loop-outcome.invariant.reached (value_at c.next_turn.new.direction)
     (value_at c.next_turn.new.row) c.in-Moves.q c.in-Moves.by (c.args.limit - c.loop-outcome.steps) moves c.requires.no_change c.requires.right
     (g.R.Rates.state c.next_turn.new.rates).waypoints
-    (g.R.Rates.state c.step_over.new.rates).waypoints c.in_err-kept-in-Moves.field-0.0 c.args.limit c.loop-outcome.invariant.within refl c.in_ok-outcome.ensures.rates.1 c.in_err-kept-in-Moves.ensures.overflow)
+    (g.R.Rates.state c.step_over.new.rates).waypoints c.in_err-kept-in-Moves.field-0.0 c.args.limit c.loop-outcome.invariant.within refl
+    c.in_ok-outcome.ensures.rates.1 c.in_err-kept-in-Moves.ensures.overflow)
 
 pub returns-in_err-fill_point-clause-waypoints : goal.returns-in_err-fill_point-clause-waypoints
 returns-in_err-fill_point-clause-waypoints g c =
@@ -115,7 +117,8 @@ returns-in_err-kept_prices-in-Moves-clause-stops g c =
     (g.R.Rates.state c.loop-outcome.rates).waypoints c.loop-outcome.steps c.loop-outcome.invariant.reached (value_at c.next_turn.new.direction)
     (value_at c.next_turn.new.row) c.in-Moves.q c.in-Moves.by (c.args.limit - c.loop-outcome.steps) moves c.step_over.new.basis
     (g.R.Rates.state c.next_turn.new.rates).waypoints
-    (g.R.Rates.state c.step_over.new.rates).waypoints c.in_ok-kept-in-Moves.ensures.basis c.in_ok-outcome.ensures.rates.1 c.in_ok-kept-in-Moves.ensures.waypoints in
+    (g.R.Rates.state c.step_over.new.rates).waypoints c.in_ok-kept-in-Moves.ensures.basis c.in_ok-outcome.ensures.rates.1
+    c.in_ok-kept-in-Moves.ensures.waypoints in
     rw (p.1, p.2)
     (point_stops_there c.args.lp.now c.args.basis.now (g.R.Rates.state c.args.rates.now).waypoints c.step_over.new.basis
     (g.R.Rates.state c.step_over.new.rates).waypoints (c.loop-outcome.steps + 1) next c.args.limit
@@ -130,7 +133,8 @@ returns-in_err-kept_prices-in-Moves-clause-waypoints g c =
     (g.R.Rates.state c.loop-outcome.rates).waypoints c.loop-outcome.steps c.loop-outcome.invariant.reached (value_at c.next_turn.new.direction)
     (value_at c.next_turn.new.row) c.in-Moves.q c.in-Moves.by (c.args.limit - c.loop-outcome.steps) moves c.step_over.new.basis
     (g.R.Rates.state c.next_turn.new.rates).waypoints
-    (g.R.Rates.state c.step_over.new.rates).waypoints c.in_ok-kept-in-Moves.ensures.basis c.in_ok-outcome.ensures.rates.1 c.in_ok-kept-in-Moves.ensures.waypoints in
+    (g.R.Rates.state c.step_over.new.rates).waypoints c.in_ok-kept-in-Moves.ensures.basis c.in_ok-outcome.ensures.rates.1
+    c.in_ok-kept-in-Moves.ensures.waypoints in
     follows_later dual_turn c.args.lp.now c.args.basis.now (g.R.Rates.state c.args.rates.now).waypoints c.step_over.new.basis
     (g.R.Rates.state c.step_over.new.rates).waypoints (c.loop-outcome.steps + 1) next
     (g.R.Rates.state c.kept_prices.new.rates).waypoints c.in_err-kept_prices-in-Moves.ensures.rates.1
@@ -143,7 +147,8 @@ loop-outcome-preserved g c =
     (g.R.Rates.state c.loop-outcome.rates).waypoints c.loop-outcome.steps c.loop-outcome.invariant.reached (value_at c.next_turn.new.direction)
     (value_at c.next_turn.new.row) c.in-Moves.q c.in-Moves.by (c.args.limit - c.loop-outcome.steps) moves c.step_over.new.basis
     (g.R.Rates.state c.next_turn.new.rates).waypoints
-    (g.R.Rates.state c.step_over.new.rates).waypoints c.in_ok-kept-in-Moves.ensures.basis c.in_ok-outcome.ensures.rates.1 c.in_ok-kept-in-Moves.ensures.waypoints in
+    (g.R.Rates.state c.step_over.new.rates).waypoints c.in_ok-kept-in-Moves.ensures.basis c.in_ok-outcome.ensures.rates.1
+    c.in_ok-kept-in-Moves.ensures.waypoints in
     record {
       places = c.in_ok-outcome.ensures.direction_places;
       point_places = omega (arith, c.loop-outcome.invariant.point_places);

@@ -14,4 +14,5 @@ returns-in_err-point-clause-turn g c d xs =
 pub returns-clause-turn : goal.returns-clause-turn
 returns-clause-turn g c d xs =
     optimal_ends c.args.at.now.lp.now c.args.at.now.basis.now
-    (value_at c.args.at.now.point.now) c.requires.point c.requires.uncrossed c.requires.inside c.in_ok-point.point.items c.args.prices.now c.args.at.now.steps c.in_ok-point.ensures.point c.in_ok-point.ensures.places c.requires.prices c.requires.price_places c.in_ok-best.field-0 c.in_ok-best.ensures
+    (value_at c.args.at.now.point.now) c.requires.point c.requires.uncrossed c.requires.inside c.in_ok-point.point.items c.args.prices.now c.args.at.now.steps
+    c.in_ok-point.ensures.point c.in_ok-point.ensures.places c.requires.prices c.requires.price_places c.in_ok-best.field-0 c.in_ok-best.ensures

@@ -6,7 +6,8 @@ use Rattle.lp_definitions.specs.declared.Status.TheVariants.{Ll, Ul}
 use Rattle.basis_values.proofs.Kept.{kept_then}
 use Rattle.bounded_primal.proofs.TurnCalls.{outside_basic}
 use Rattle.bounded_dual.proofs.DualEvidence.{point_stops}
-use Rattle.bounded_dual.proofs.Returning.{ratio_evidence, infeasible_ends, return_nonbasic, return_pivot, return_limit, return_at_limit, return_stops, return_moves}
+use Rattle.bounded_dual.proofs.Returning.{ratio_evidence, infeasible_ends, return_nonbasic, return_pivot, return_limit, return_at_limit, return_stops}
+use Rattle.bounded_dual.proofs.Returning.{return_moves}
 use Rattle.bounded_dual.proofs.turns.restore_feasibility.Goals as goal
 
 pub lies_below-below-requires-clause-variable : goal.lies_below-below-requires-clause-variable
@@ -29,7 +30,8 @@ returns-in-Err-clause-turn g c =
     (g.R.Rates.state c.args.rates.now).matrix
     (g.R.Rates.state c.args.rates.now).basics c.requires.rates c.requires.point c.requires.uncrossed c.args.r c.requires.outside
     (value_at c.args.prices.now)
-    (value_at c.read_row.new.out) c.requires.prices c.in_ok-read_row.ensures.row c.lies_below-below.result c.lies_below-below.ensures c.args.at.now.left (g.R.Rates.state c.args.rates.now).waypoints (g.R.Rates.state c.read_row.new.rates).waypoints c.in-Err.evidence c.in-Err.ensures.refused
+    (value_at c.read_row.new.out) c.requires.prices c.in_ok-read_row.ensures.row c.lies_below-below.result c.lies_below-below.ensures c.args.at.now.left
+    (g.R.Rates.state c.args.rates.now).waypoints (g.R.Rates.state c.read_row.new.rates).waypoints c.in-Err.evidence c.in-Err.ensures.refused
 
 pub returns-in_default-clause-turn : goal.returns-in_default-clause-turn
 returns-in_default-clause-turn g c =
@@ -46,7 +48,9 @@ returns-then-at-eq0-clause-turn g c =
     (g.R.Rates.state c.args.rates.now).matrix
     (g.R.Rates.state c.args.rates.now).basics c.requires.rates c.requires.point c.requires.uncrossed c.args.r c.requires.outside
     (value_at c.args.prices.now)
-    (value_at c.read_row.new.out) c.requires.prices c.in_ok-read_row.ensures.row c.lies_below-below.result c.lies_below-below.ensures c.in-Some.q (sym c.in-Ok.ensures.cheapest ∙ c.in-Some.is) (if c.lies_below-below.result then Ll else Ul) refl c.args.at.now.left (g.R.Rates.state c.args.rates.now).waypoints (g.R.Rates.state c.read_row.new.rates).waypoints c.if-at-eq0.true
+    (value_at c.read_row.new.out) c.requires.prices c.in_ok-read_row.ensures.row c.lies_below-below.result c.lies_below-below.ensures c.in-Some.q
+    (sym c.in-Ok.ensures.cheapest ∙ c.in-Some.is) (if c.lies_below-below.result then Ll else Ul) refl c.args.at.now.left
+    (g.R.Rates.state c.args.rates.now).waypoints (g.R.Rates.state c.read_row.new.rates).waypoints c.if-at-eq0.true
 
 pub return_along-requires-clause-nonbasic : goal.return_along-requires-clause-nonbasic
 return_along-requires-clause-nonbasic g c =
@@ -54,7 +58,8 @@ return_along-requires-clause-nonbasic g c =
     (g.R.Rates.state c.args.rates.now).matrix
     (g.R.Rates.state c.args.rates.now).basics c.requires.rates c.requires.point c.requires.uncrossed c.args.r c.requires.outside
     (value_at c.args.prices.now)
-    (value_at c.read_row.new.out) c.requires.prices c.in_ok-read_row.ensures.row c.lies_below-below.result c.lies_below-below.ensures c.in-Some.q (sym c.in-Ok.ensures.cheapest ∙ c.in-Some.is) c.limit_broken.result c.limit_broken.ensures
+    (value_at c.read_row.new.out) c.requires.prices c.in_ok-read_row.ensures.row c.lies_below-below.result c.lies_below-below.ensures c.in-Some.q
+    (sym c.in-Ok.ensures.cheapest ∙ c.in-Some.is) c.limit_broken.result c.limit_broken.ensures
 
 pub return_along-requires-clause-basic : goal.return_along-requires-clause-basic
 return_along-requires-clause-basic g c =
@@ -66,7 +71,8 @@ return_along-requires-clause-limit g c =
     (g.R.Rates.state c.args.rates.now).matrix
     (g.R.Rates.state c.args.rates.now).basics c.requires.rates c.requires.point c.requires.uncrossed c.args.r c.requires.outside
     (value_at c.args.prices.now)
-    (value_at c.read_row.new.out) c.requires.prices c.in_ok-read_row.ensures.row c.lies_below-below.result c.lies_below-below.ensures c.in-Some.q (sym c.in-Ok.ensures.cheapest ∙ c.in-Some.is) c.limit_broken.result c.limit_broken.ensures
+    (value_at c.read_row.new.out) c.requires.prices c.in_ok-read_row.ensures.row c.lies_below-below.result c.lies_below-below.ensures c.in-Some.q
+    (sym c.in-Ok.ensures.cheapest ∙ c.in-Some.is) c.limit_broken.result c.limit_broken.ensures
 
 pub return_along-requires-clause-pivot : goal.return_along-requires-clause-pivot
 return_along-requires-clause-pivot g c =
@@ -74,7 +80,8 @@ return_along-requires-clause-pivot g c =
     (g.R.Rates.state c.args.rates.now).matrix
     (g.R.Rates.state c.args.rates.now).basics c.requires.rates c.requires.point c.requires.uncrossed c.args.r c.requires.outside
     (value_at c.args.prices.now)
-    (value_at c.read_row.new.out) c.requires.prices c.in_ok-read_row.ensures.row c.lies_below-below.result c.lies_below-below.ensures c.in-Some.q (sym c.in-Ok.ensures.cheapest ∙ c.in-Some.is) c.limit_broken.result c.limit_broken.ensures
+    (value_at c.read_row.new.out) c.requires.prices c.in_ok-read_row.ensures.row c.lies_below-below.result c.lies_below-below.ensures c.in-Some.q
+    (sym c.in-Ok.ensures.cheapest ∙ c.in-Some.is) c.limit_broken.result c.limit_broken.ensures
 
 pub returns-in_err-by-clause-turn : goal.returns-in_err-by-clause-turn
 returns-in_err-by-clause-turn g c =
@@ -84,7 +91,10 @@ returns-in_err-by-clause-turn g c =
     (g.R.Rates.state c.args.rates.now).matrix
     (g.R.Rates.state c.args.rates.now).basics c.requires.rates c.requires.point c.requires.uncrossed c.args.r c.requires.outside
     (value_at c.args.prices.now)
-    (value_at c.read_row.new.out) c.requires.prices c.in_ok-read_row.ensures.row c.lies_below-below.result c.lies_below-below.ensures c.in-Some.q (sym c.in-Ok.ensures.cheapest ∙ c.in-Some.is) c.limit_broken.result c.limit_broken.ensures c.args.at.now.left (g.R.Rates.state c.args.rates.now).waypoints (g.R.Rates.state c.read_row.new.rates).waypoints (g.R.Rates.state c.return_along.new.rates).waypoints c.in_err-by.field-0.0 c.in_ok-read_row.ensures.rates.1 c.in_err-by.ensures.overflow)
+    (value_at c.read_row.new.out) c.requires.prices c.in_ok-read_row.ensures.row c.lies_below-below.result c.lies_below-below.ensures c.in-Some.q
+    (sym c.in-Ok.ensures.cheapest ∙ c.in-Some.is) c.limit_broken.result c.limit_broken.ensures c.args.at.now.left
+    (g.R.Rates.state c.args.rates.now).waypoints (g.R.Rates.state c.read_row.new.rates).waypoints (g.R.Rates.state c.return_along.new.rates).waypoints
+    c.in_err-by.field-0.0 c.in_ok-read_row.ensures.rates.1 c.in_err-by.ensures.overflow)
 
 pub returns-clause-turn : goal.returns-clause-turn
 returns-clause-turn g c =
@@ -92,7 +102,9 @@ returns-clause-turn g c =
     (g.R.Rates.state c.args.rates.now).matrix
     (g.R.Rates.state c.args.rates.now).basics c.requires.rates c.requires.point c.requires.uncrossed c.args.r c.requires.outside
     (value_at c.args.prices.now)
-    (value_at c.read_row.new.out) c.requires.prices c.in_ok-read_row.ensures.row c.lies_below-below.result c.lies_below-below.ensures c.in-Some.q (sym c.in-Ok.ensures.cheapest ∙ c.in-Some.is) c.limit_broken.result c.limit_broken.ensures (value_at c.return_along.new.direction) c.in_ok-by.ensures.direction c.in_ok-by.by c.in_ok-by.ensures.blocking_variable c.args.at.now.left (omega (arith, c.if-at-eq0.false))
+    (value_at c.read_row.new.out) c.requires.prices c.in_ok-read_row.ensures.row c.lies_below-below.result c.lies_below-below.ensures c.in-Some.q
+    (sym c.in-Ok.ensures.cheapest ∙ c.in-Some.is) c.limit_broken.result c.limit_broken.ensures (value_at c.return_along.new.direction)
+    c.in_ok-by.ensures.direction c.in_ok-by.by c.in_ok-by.ensures.blocking_variable c.args.at.now.left (omega (arith, c.if-at-eq0.false))
 
 pub returns-in_err-by-clause-rates : goal.returns-in_err-by-clause-rates
 returns-in_err-by-clause-rates g c = kept_then c.in_ok-read_row.ensures.rates c.in_err-by.ensures.rates

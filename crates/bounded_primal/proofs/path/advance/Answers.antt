@@ -27,7 +27,8 @@ returns-in_err-kept-in-Moves-clause-turn g c =
     rw (p.1, p.2) (
       step_stops c.args.lp.now c.args.basis.now (value_at c.next_turn.new.direction) c.in-Moves.q c.in-Moves.by c.args.standing.now.left moves
           (g.R.Rates.state c.args.rates.now).waypoints (g.R.Rates.state c.next_turn.new.rates).waypoints
-          (g.R.Rates.state c.step_over.new.rates).waypoints c.in_err-kept-in-Moves.field-0.0 c.in_ok-outcome.ensures.rates.1 c.in_err-kept-in-Moves.ensures.overflow,
+          (g.R.Rates.state c.step_over.new.rates).waypoints c.in_err-kept-in-Moves.field-0.0 c.in_ok-outcome.ensures.rates.1
+          c.in_err-kept-in-Moves.ensures.overflow,
       c.in_err-kept-in-Moves.ensures.unchanged,
     )
 
@@ -43,7 +44,8 @@ outside_after-broken-requires-clause-stays g c none =
     stays_inside c.args.lp.now (g.R.Rates.state c.args.rates.now).matrix
     (g.R.Rates.state c.args.rates.now).basics c.args.basis.now c.requires.rates
     (value_at c.args.workspace.now.point.items) c.requires.stands.point c.requires.uncrossed (sym c.requires.stands.broken ∙ none)
-    c.requires.lawful (value_at c.next_turn.new.direction) c.in-Moves.q c.in-Moves.by c.args.standing.now.left moves c.step_over.new.basis c.in_ok-kept-in-Moves.ensures.basis
+    c.requires.lawful (value_at c.next_turn.new.direction) c.in-Moves.q c.in-Moves.by c.args.standing.now.left moves c.step_over.new.basis
+    c.in_ok-kept-in-Moves.ensures.basis
     (value_at c.step_over.new.point) c.in_ok-kept-in-Moves.ensures.point
 
 pub renew_wants-requires-clause-first : goal.renew_wants-requires-clause-first

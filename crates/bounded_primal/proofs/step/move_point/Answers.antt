@@ -5,7 +5,8 @@ use Rattle.lp_laws.proofs.Places.{value_read}
 use Rattle.bounded_primal.specs.KeptPoints.{has_limit, all_kept, all_needed}
 use Rattle.bounded_primal.specs.Steps.{MovedRefused}
 use Rattle.bounded_primal.proofs.Agreement.{needed_kept}
-use Rattle.bounded_primal.proofs.LookedAt.{IsDoneUpTo, IsDoneBefore, IsMovedUpTo, listed_cover, begun, one_more, next_at, end_at, moved_over, moved_by, moved_but, or_left, or_right}
+use Rattle.bounded_primal.proofs.LookedAt.{IsDoneUpTo, IsDoneBefore, IsMovedUpTo, listed_cover, begun, one_more, next_at, end_at, moved_over, moved_by}
+use Rattle.bounded_primal.proofs.LookedAt.{moved_but, or_left, or_right}
 use Rattle.bounded_primal.proofs.Still.{no_step}
 use Rattle.bounded_primal.proofs.step.move_point.Goals as goal
 

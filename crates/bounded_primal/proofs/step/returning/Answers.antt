@@ -12,7 +12,8 @@ returns-in_err-distance-clause-refused c =
     let is_err : c.from_residual.result ≡ Err c.in_err-distance.field-0.0 = search rules in
     let limit_is : c.unwrap_or-limit.result ≡ unwrap_or (limit_numbered c.args.lp.now c.args.p (number_of_limit c.args.to)) zero_ℚ = search rules in
     rw is_err (distance_refused c.args.lp.now (value_at c.args.point.now)
-    (value_at c.args.direction.now) c.args.q c.args.p c.args.to c.in_err-distance.field-0.0 c.number_of-number.result c.unwrap_or-limit.result c.reduced-value.result
+    (value_at c.args.direction.now) c.args.q c.args.p c.args.to c.in_err-distance.field-0.0 c.number_of-number.result c.unwrap_or-limit.result
+    c.reduced-value.result
     c.requires.limit c.number_of-number.ensures limit_is
     (c.reduced-value.ensures
     ∙ value_read c.args.point.now c.args.p c.index-point-p.result (omega (arith, c.requires.variable.0, c.requires.variable.1)) c.index-point-p.is)
@@ -23,7 +24,8 @@ returns-in_err-step-clause-refused c =
     let is_err : c.from_residual-in_err-step.result ≡ Err c.in_err-step.field-0.0 = search rules in
     let limit_is : c.unwrap_or-limit.result ≡ unwrap_or (limit_numbered c.args.lp.now c.args.p (number_of_limit c.args.to)) zero_ℚ = search rules in
     rw is_err (change_refused c.args.lp.now (value_at c.args.point.now)
-    (value_at c.args.direction.now) c.args.q c.args.p c.args.to c.in_err-step.field-0.0 c.number_of-number.result c.unwrap_or-limit.result c.reduced-value.result
+    (value_at c.args.direction.now) c.args.q c.args.p c.args.to c.in_err-step.field-0.0 c.number_of-number.result c.unwrap_or-limit.result
+    c.reduced-value.result
     c.requires.limit c.number_of-number.ensures limit_is
     (c.reduced-value.ensures
     ∙ value_read c.args.point.now c.args.p c.index-point-p.result (omega (arith, c.requires.variable.0, c.requires.variable.1)) c.index-point-p.is)

@@ -26,7 +26,8 @@ pub is_no_nearer-requires-clause-variable : goal.is_no_nearer-requires-clause-va
 is_no_nearer-requires-clause-variable c =
     let next =
     before c.args.lp.now
-    (value_at c.args.point.now) c.values-values.result.now c.args.up c.loop-k.nearest c.nonzero-moving.result.now c.loop-k.k-index c.loop-k-test.true c.loop-k.invariant in
+    (value_at c.args.point.now) c.values-values.result.now c.args.up c.loop-k.nearest c.nonzero-moving.result.now c.loop-k.k-index c.loop-k-test.true
+    c.loop-k.invariant in
     (omega (arith, next.is_next), omega (arith, next.within, ap length c.values-values.ensures, c.requires.direction_places))
 
 pub loop-k-preserved-then-is_no_nearer : goal.loop-k-preserved-then-is_no_nearer
@@ -34,7 +35,8 @@ loop-k-preserved-then-is_no_nearer c =
     let k = get_or c.nonzero-moving.result.now c.loop-k.k-index 0 in
     let next =
     before c.args.lp.now
-    (value_at c.args.point.now) c.values-values.result.now c.args.up c.loop-k.nearest c.nonzero-moving.result.now c.loop-k.k-index c.loop-k-test.true c.loop-k.invariant in
+    (value_at c.args.point.now) c.values-values.result.now c.args.up c.loop-k.nearest c.nonzero-moving.result.now c.loop-k.k-index c.loop-k-test.true
+    c.loop-k.invariant in
     one_more c.values-values.result.now _ k _ next.within next.left
     (nearest_by c.args.lp.now (value_at c.args.point.now)
     (value_at c.values-values.result.now) c.args.up next.before k c.loop-k.nearest c.loop-k.nearest
@@ -45,7 +47,8 @@ pub length_to-requires-clause-variable : goal.length_to-requires-clause-variable
 length_to-requires-clause-variable c =
     let next =
     before c.args.lp.now
-    (value_at c.args.point.now) c.values-values.result.now c.args.up c.loop-k.nearest c.nonzero-moving.result.now c.loop-k.k-index c.loop-k-test.true c.loop-k.invariant in
+    (value_at c.args.point.now) c.values-values.result.now c.args.up c.loop-k.nearest c.nonzero-moving.result.now c.loop-k.k-index c.loop-k-test.true
+    c.loop-k.invariant in
     (omega (arith, next.is_next), omega (arith, next.within, ap length c.values-values.ensures, c.requires.direction_places))
 
 pub returns-in_err-length-clause-refused : goal.returns-in_err-length-clause-refused
@@ -53,7 +56,8 @@ returns-in_err-length-clause-refused c =
     let is_err : c.from_residual.result ≡ Err c.in_err-length.field-0.0 = search rules in
     let next =
     before c.args.lp.now
-    (value_at c.args.point.now) c.values-values.result.now c.args.up c.loop-k.nearest c.nonzero-moving.result.now c.loop-k.k-index c.loop-k-test.true c.loop-k.invariant in
+    (value_at c.args.point.now) c.values-values.result.now c.args.up c.loop-k.nearest c.nonzero-moving.result.now c.loop-k.k-index c.loop-k-test.true
+    c.loop-k.invariant in
     rw is_err (
       get_or c.nonzero-moving.result.now c.loop-k.k-index 0,
       (
@@ -69,22 +73,26 @@ returns-then-is_at_once-clause-nearest c =
     let k = get_or c.nonzero-moving.result.now c.loop-k.k-index 0 in
     let next =
     before c.args.lp.now
-    (value_at c.args.point.now) c.values-values.result.now c.args.up c.loop-k.nearest c.nonzero-moving.result.now c.loop-k.k-index c.loop-k-test.true c.loop-k.invariant in
+    (value_at c.args.point.now) c.values-values.result.now c.args.up c.loop-k.nearest c.nonzero-moving.result.now c.loop-k.k-index c.loop-k-test.true
+    c.loop-k.invariant in
     rw (← c.values-values.ensures)
     (nearest_at_once c.args.lp.now (value_at c.args.point.now) (motion (value_at c.values-values.result.now) c.args.up) c.requires.within k
     (omega (arith, next.within, ap length c.values-values.ensures, c.requires.direction_places)) c.nearer-nearest.result (c.if-is_at_once.ensures.0 refl)
     (nearest_by c.args.lp.now (value_at c.args.point.now)
-    (value_at c.values-values.result.now) c.args.up next.before k c.loop-k.nearest c.nearer-nearest.result c.in_ok-length.length next.is_next next.done c.in_ok-length.ensures.length c.nearer-nearest.ensures))
+    (value_at c.values-values.result.now) c.args.up next.before k c.loop-k.nearest c.nearer-nearest.result c.in_ok-length.length next.is_next next.done
+    c.in_ok-length.ensures.length c.nearer-nearest.ensures))
 
 pub loop-k-preserved : goal.loop-k-preserved
 loop-k-preserved c =
     let k = get_or c.nonzero-moving.result.now c.loop-k.k-index 0 in
     let next =
     before c.args.lp.now
-    (value_at c.args.point.now) c.values-values.result.now c.args.up c.loop-k.nearest c.nonzero-moving.result.now c.loop-k.k-index c.loop-k-test.true c.loop-k.invariant in
+    (value_at c.args.point.now) c.values-values.result.now c.args.up c.loop-k.nearest c.nonzero-moving.result.now c.loop-k.k-index c.loop-k-test.true
+    c.loop-k.invariant in
     one_more c.values-values.result.now _ k _ next.within next.left
     (nearest_by c.args.lp.now (value_at c.args.point.now)
-    (value_at c.values-values.result.now) c.args.up next.before k c.loop-k.nearest c.nearer-nearest.result c.in_ok-length.length next.is_next next.done c.in_ok-length.ensures.length c.nearer-nearest.ensures)
+    (value_at c.values-values.result.now) c.args.up next.before k c.loop-k.nearest c.nearer-nearest.result c.in_ok-length.length next.is_next next.done
+    c.in_ok-length.ensures.length c.nearer-nearest.ensures)
 
 pub returns-clause-nearest : goal.returns-clause-nearest
 returns-clause-nearest c =

@@ -10,7 +10,8 @@ pub returns-in-Ok-None-clause-found : goal.returns-in-Ok-None-clause-found
 returns-in-Ok-None-clause-found g c =
     let same : c.lp.inside.objective ≡ c.args.at.now.lp.now.objective = search rules in
     let first = rw (c.requires.rates.same_matrix, c.requires.rates.same_basics) at c.in-Ok-None.ensures.found in
-    none_improves c.args.at.now.lp.now c.args.at.now.basis.now c.requires.rates.is_basis c.args.wanted.now c.requires.wants c.requires.unchanged c.is_minimized.result c.is_minimized.ensures (value_at c.first_wanted.new.out) c.in-Ok-None.field-0 c.in-Ok-None.field-0-is
+    none_improves c.args.at.now.lp.now c.args.at.now.basis.now c.requires.rates.is_basis c.args.wanted.now c.requires.wants c.requires.unchanged
+    c.is_minimized.result c.is_minimized.ensures (value_at c.first_wanted.new.out) c.in-Ok-None.field-0 c.in-Ok-None.field-0-is
     (subst (λ (o : ℕ). IsFirstWanted c.args.at.now.lp.now.matrix (basics_of c.args.at.now.basis.now) o c.args.wanted.now c.is_minimized.result
     (value_at c.first_wanted.new.out) c.in-Ok-None.field-0) same first)
 
@@ -18,7 +19,9 @@ pub returns-in-Ok-Some-clause-found : goal.returns-in-Ok-Some-clause-found
 returns-in-Ok-Some-clause-found g c =
     let same : c.lp.inside.objective ≡ c.args.at.now.lp.now.objective = search rules in
     let first = rw (c.requires.rates.same_matrix, c.requires.rates.same_basics) at c.in-Ok-Some.ensures.found in
-    one_improves c.args.at.now.lp.now c.args.at.now.basis.now c.requires.rates.is_basis c.args.wanted.now c.requires.wants c.requires.unchanged c.is_minimized.result c.is_minimized.ensures (value_at c.first_wanted.new.out) c.in-Ok-Some.field-0 c.in-Ok-Some.q c.entering_variable_at.result c.in-Ok-Some.field-0-is c.entering_variable_at.ensures
+    one_improves c.args.at.now.lp.now c.args.at.now.basis.now c.requires.rates.is_basis c.args.wanted.now c.requires.wants c.requires.unchanged
+    c.is_minimized.result c.is_minimized.ensures (value_at c.first_wanted.new.out) c.in-Ok-Some.field-0 c.in-Ok-Some.q c.entering_variable_at.result
+    c.in-Ok-Some.field-0-is c.entering_variable_at.ensures
     (subst (λ (o : ℕ). IsFirstWanted c.args.at.now.lp.now.matrix (basics_of c.args.at.now.basis.now) o c.args.wanted.now c.is_minimized.result
     (value_at c.first_wanted.new.out) c.in-Ok-Some.field-0) same first)
 

@@ -25,7 +25,9 @@ returns-in_err-blocking_variable_of-clause-turn g c =
     let p = err_from_is_err_and c.from_residual.result c.from_residual.ensures.1 in
     rw (p.1, p.2)
     (run_stops c.args.at.now.lp.now c.args.at.now.basis.now (value_at c.args.at.now.point.now) (g.R.Rates.state c.args.rates.now).matrix
-    (g.R.Rates.state c.args.rates.now).basics c.requires.rates c.requires.point c.requires.uncrossed c.requires.inside c.args.moved c.requires.moves c.args.at.now.left (g.R.Rates.state c.args.rates.now).waypoints (g.R.Rates.state c.blocking_variable_of.new.rates).waypoints c.in_err-blocking_variable_of.field-0.0 c.in_err-blocking_variable_of.ensures.overflow)
+    (g.R.Rates.state c.args.rates.now).basics c.requires.rates c.requires.point c.requires.uncrossed c.requires.inside c.args.moved c.requires.moves
+    c.args.at.now.left (g.R.Rates.state c.args.rates.now).waypoints (g.R.Rates.state c.blocking_variable_of.new.rates).waypoints
+    c.in_err-blocking_variable_of.field-0.0 c.in_err-blocking_variable_of.ensures.overflow)
 
 pub returns-else-at-eq0-clause-turn : goal.returns-else-at-eq0-clause-turn
 returns-else-at-eq0-clause-turn g c =
@@ -38,8 +40,10 @@ pub returns-then-at-eq0-clause-turn : goal.returns-then-at-eq0-clause-turn
 returns-then-at-eq0-clause-turn g c =
     run_at_limit c.args.at.now.lp.now c.args.at.now.basis.now (value_at c.args.at.now.point.now) (g.R.Rates.state c.args.rates.now).matrix
     (g.R.Rates.state c.args.rates.now).basics c.requires.rates c.requires.point c.requires.uncrossed c.requires.inside c.args.moved c.requires.moves
-    (value_at c.blocking_variable_of.new.direction) c.in_ok-blocking_variable_of.ensures.direction c.args.at.now.left (g.R.Rates.state c.args.rates.now).waypoints
-    (g.R.Rates.state c.blocking_variable_of.new.rates).waypoints c.in-Some.by (sym c.in-Some.is ∙ c.in_ok-blocking_variable_of.ensures.blocking_variable) c.if-at-eq0.true
+    (value_at c.blocking_variable_of.new.direction) c.in_ok-blocking_variable_of.ensures.direction c.args.at.now.left
+    (g.R.Rates.state c.args.rates.now).waypoints
+    (g.R.Rates.state c.blocking_variable_of.new.rates).waypoints c.in-Some.by (sym c.in-Some.is ∙ c.in_ok-blocking_variable_of.ensures.blocking_variable)
+    c.if-at-eq0.true
 
 pub returns-in_err-point-in-None-clause-turn : goal.returns-in_err-point-in-None-clause-turn
 returns-in_err-point-in-None-clause-turn g c =
@@ -47,13 +51,16 @@ returns-in_err-point-in-None-clause-turn g c =
     rw (p.1, p.2)
     (point_stops_later c.args.at.now.lp.now c.args.at.now.basis.now c.args.at.now.left (g.R.Rates.state c.args.rates.now).waypoints
     (g.R.Rates.state c.blocking_variable_of.new.rates).waypoints
-    (g.R.Rates.state c.whole_point.new.rates).waypoints c.in_err-point-in-None.field-0.0 c.blocking_variable_of.ensures.rates.1 c.in_err-point-in-None.ensures.overflow)
+    (g.R.Rates.state c.whole_point.new.rates).waypoints c.in_err-point-in-None.field-0.0 c.blocking_variable_of.ensures.rates.1
+    c.in_err-point-in-None.ensures.overflow)
 
 pub returns-in_ok-unbounded_ending-in-None-clause-turn : goal.returns-in_ok-unbounded_ending-in-None-clause-turn
 returns-in_ok-unbounded_ending-in-None-clause-turn g c =
     run_ends c.args.at.now.lp.now c.args.at.now.basis.now (value_at c.args.at.now.point.now) (g.R.Rates.state c.args.rates.now).matrix
     (g.R.Rates.state c.args.rates.now).basics c.requires.rates c.requires.point c.requires.uncrossed c.requires.inside c.args.moved c.requires.moves
-    (value_at c.blocking_variable_of.new.direction) c.in_ok-blocking_variable_of.ensures.direction c.in_ok-point-in-None.point.items c.args.at.now.steps c.in_ok-unbounded_ending-in-None.field-0 (sym c.in-None.is ∙ c.in_ok-blocking_variable_of.ensures.blocking_variable) c.in_ok-point-in-None.ensures.places c.in_ok-point-in-None.ensures.point (rw c.values.ensures at c.in_ok-unbounded_ending-in-None.ensures)
+    (value_at c.blocking_variable_of.new.direction) c.in_ok-blocking_variable_of.ensures.direction c.in_ok-point-in-None.point.items c.args.at.now.steps
+    c.in_ok-unbounded_ending-in-None.field-0 (sym c.in-None.is ∙ c.in_ok-blocking_variable_of.ensures.blocking_variable)
+    c.in_ok-point-in-None.ensures.places c.in_ok-point-in-None.ensures.point (rw c.values.ensures at c.in_ok-unbounded_ending-in-None.ensures)
 
 pub returns-in_err-point-in-None-clause-rates : goal.returns-in_err-point-in-None-clause-rates
 returns-in_err-point-in-None-clause-rates g c = kept_then c.blocking_variable_of.ensures.rates c.whole_point.ensures.rates

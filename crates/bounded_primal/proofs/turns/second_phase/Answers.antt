@@ -31,14 +31,17 @@ returns-in_err-point-in-None-clause-turn g c =
     rw (p.1, p.2)
     (point_stops_later c.args.at.now.lp.now c.args.at.now.basis.now c.args.at.now.left (g.R.Rates.state c.args.rates.now).waypoints
     (g.R.Rates.state c.entering_variable_of.new.rates).waypoints
-    (g.R.Rates.state c.whole_point.new.rates).waypoints c.in_err-point-in-None.field-0.0 c.entering_variable_of.ensures.rates.1 c.in_err-point-in-None.ensures.overflow)
+    (g.R.Rates.state c.whole_point.new.rates).waypoints c.in_err-point-in-None.field-0.0 c.entering_variable_of.ensures.rates.1
+    c.in_err-point-in-None.ensures.overflow)
 
 pub returns-in_ok-best-in-None-clause-turn : goal.returns-in_ok-best-in-None-clause-turn
 returns-in_ok-best-in-None-clause-turn g c =
     let none = rw c.in-None.is at c.in_ok-entering_variable_of.ensures.found in
     second_ends c.args.at.now.lp.now c.args.at.now.basis.now (value_at c.args.at.now.point.now) (g.R.Rates.state c.args.rates.now).matrix
     (g.R.Rates.state c.args.rates.now).basics c.requires.rates c.requires.point c.requires.uncrossed c.requires.inside
-    (value_at c.entering_variable_of.new.prices) none.0 c.in_ok-point-in-None.point.items c.entering_variable_of.new.prices c.args.at.now.steps none.1 c.in_ok-point-in-None.ensures.places c.in_ok-point-in-None.ensures.point (omega arith) (λ k is. refl) c.in_ok-best-in-None.field-0 c.in_ok-best-in-None.ensures
+    (value_at c.entering_variable_of.new.prices) none.0 c.in_ok-point-in-None.point.items c.entering_variable_of.new.prices c.args.at.now.steps none.1
+    c.in_ok-point-in-None.ensures.places c.in_ok-point-in-None.ensures.point (omega arith) (λ k is. refl) c.in_ok-best-in-None.field-0
+    c.in_ok-best-in-None.ensures
 
 pub returns-in_err-point-in-None-clause-rates : goal.returns-in_err-point-in-None-clause-rates
 returns-in_err-point-in-None-clause-rates g c = kept_then c.entering_variable_of.ensures.rates c.whole_point.ensures.rates

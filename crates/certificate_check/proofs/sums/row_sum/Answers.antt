@@ -17,7 +17,8 @@ pub add_entry-requires-clause-column : goal.add_entry-requires-clause-column
 add_entry-requires-clause-column c =
     let here =
     next_listed c.args.lp.now
-    (value_at c.args.values.now) c.args.row c.loop-column.sum c.args.listed.now c.loop-column.column-index c.args.last c.loop-column-test.true c.loop-column.invariant in
+    (value_at c.args.values.now) c.args.row c.loop-column.sum c.args.listed.now c.loop-column.column-index c.args.last c.loop-column-test.true
+    c.loop-column.invariant in
     let within = next_within c.args.lp.now (value_at c.args.values.now) c.args.row c.loop-column.sum _ _ c.args.last here in
     (within.0, omega (arith, within.1, c.requires.last))
 
@@ -35,7 +36,8 @@ pub returns-in_err-sum : goal.returns-in_err-sum
 returns-in_err-sum c =
     let here =
     next_listed c.args.lp.now
-    (value_at c.args.values.now) c.args.row c.loop-column.sum c.args.listed.now c.loop-column.column-index c.args.last c.loop-column-test.true c.loop-column.invariant in
+    (value_at c.args.values.now) c.args.row c.loop-column.sum c.args.listed.now c.loop-column.column-index c.args.last c.loop-column-test.true
+    c.loop-column.invariant in
     let p = err_from_is_err_and c.from_residual.result c.from_residual.ensures.1 in
     rw (p.1, p.2)
     (listed_refused c.args.lp.now (value_at c.args.values.now) c.args.row c.loop-column.sum _ _ c.args.last c.requires.last here _ c.in_err-sum.ensures)
@@ -44,7 +46,8 @@ pub loop-column-preserved : goal.loop-column-preserved
 loop-column-preserved c =
     let here =
     next_listed c.args.lp.now
-    (value_at c.args.values.now) c.args.row c.loop-column.sum c.args.listed.now c.loop-column.column-index c.args.last c.loop-column-test.true c.loop-column.invariant in
+    (value_at c.args.values.now) c.args.row c.loop-column.sum c.args.listed.now c.loop-column.column-index c.args.last c.loop-column-test.true
+    c.loop-column.invariant in
     let fits : TermsFit c.in_ok-sum.sum = search rules in
     listed_step c.args.lp.now
     (value_at c.args.values.now) c.args.row c.loop-column.sum _ _ c.args.last c.requires.last here c.in_ok-sum.sum fits c.in_ok-sum.ensures

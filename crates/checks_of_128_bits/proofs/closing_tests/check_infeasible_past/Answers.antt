@@ -28,7 +28,8 @@ returns-in_err-judge c =
     past_is sheet changing shift t w q result c.in_ok-program.ensures.1
     (then_by making making (in_turn (combined ∷ met ∷ low ∷ falling ∷ fallen ∷ [])) result refl c.in_ok-program.ensures.0
     (exit_by c.check_combination.result combined
-    (in_turn (met ∷ low ∷ falling ∷ fallen ∷ [])) result c.in_err-judge.field-0.0 c.check_combination.ensures.exact c.in_err-judge.ensures c.from_residual-in_err-judge.ensures.1))
+    (in_turn (met ∷ low ∷ falling ∷ fallen ∷ [])) result c.in_err-judge.field-0.0 c.check_combination.ensures.exact c.in_err-judge.ensures
+    c.from_residual-in_err-judge.ensures.1))
 
 pub returns-in_err-sum : goal.returns-in_err-sum
 returns-in_err-sum c =

@@ -46,12 +46,15 @@ returns-in_err-judge c =
     optimal_check (family_of sheet changing theta) (along theta columns.value.items columns.value_rate.items)
     (along theta columns.price.items columns.price_rate.items) in
     let point_made =
-    along_given sheet theta c.deref.result.now c.deref-2.result.now columns.value.items columns.value_rate.items c.in_ok-point.point.items c.deref.ensures.value c.deref-2.ensures.value c.in_ok-point.ensures.0 c.in_ok-point.ensures.1 in
+    along_given sheet theta c.deref.result.now c.deref-2.result.now columns.value.items columns.value_rate.items c.in_ok-point.point.items
+    c.deref.ensures.value c.deref-2.ensures.value c.in_ok-point.ensures.0 c.in_ok-point.ensures.1 in
     let prices_made =
-    along_given sheet theta c.deref-3.result.now c.deref-4.result.now columns.price.items columns.price_rate.items c.in_ok-prices.prices.items c.deref-3.ensures.value c.deref-4.ensures.value c.in_ok-prices.ensures.0 c.in_ok-prices.ensures.1 in
+    along_given sheet theta c.deref-3.result.now c.deref-4.result.now columns.price.items columns.price_rate.items c.in_ok-prices.prices.items
+    c.deref-3.ensures.value c.deref-4.ensures.value c.in_ok-prices.ensures.0 c.in_ok-prices.ensures.1 in
     let is : c.check_optimal.result ≡ best =
     c.check_optimal.ensures.exact
-    ∙ best_given sheet changing theta columns c.requires.counted c.in_ok-program.program c.deref-5.result.now c.deref-6.result.now c.in_ok-point.point.items c.in_ok-prices.prices.items c.in_ok-program.ensures.1 c.deref-5.ensures.value c.deref-6.ensures.value
+    ∙ best_given sheet changing theta columns c.requires.counted c.in_ok-program.program c.deref-5.result.now c.deref-6.result.now c.in_ok-point.point.items
+    c.in_ok-prices.prices.items c.in_ok-program.ensures.1 c.deref-5.ensures.value c.deref-6.ensures.value
     point_made.1 prices_made.1 in
     let stop = c.in_err-judge.field-0.0 in
     made_handed (IsEnd sheet changing theta columns) (end_verdict sheet changing theta columns) c.from_residual-in_err-judge.result stop
@@ -74,12 +77,15 @@ returns c =
     optimal_check (family_of sheet changing theta) (along theta columns.value.items columns.value_rate.items)
     (along theta columns.price.items columns.price_rate.items) in
     let point_made =
-    along_given sheet theta c.deref.result.now c.deref-2.result.now columns.value.items columns.value_rate.items c.in_ok-point.point.items c.deref.ensures.value c.deref-2.ensures.value c.in_ok-point.ensures.0 c.in_ok-point.ensures.1 in
+    along_given sheet theta c.deref.result.now c.deref-2.result.now columns.value.items columns.value_rate.items c.in_ok-point.point.items
+    c.deref.ensures.value c.deref-2.ensures.value c.in_ok-point.ensures.0 c.in_ok-point.ensures.1 in
     let prices_made =
-    along_given sheet theta c.deref-3.result.now c.deref-4.result.now columns.price.items columns.price_rate.items c.in_ok-prices.prices.items c.deref-3.ensures.value c.deref-4.ensures.value c.in_ok-prices.ensures.0 c.in_ok-prices.ensures.1 in
+    along_given sheet theta c.deref-3.result.now c.deref-4.result.now columns.price.items columns.price_rate.items c.in_ok-prices.prices.items
+    c.deref-3.ensures.value c.deref-4.ensures.value c.in_ok-prices.ensures.0 c.in_ok-prices.ensures.1 in
     let is : c.check_optimal.result ≡ best =
     c.check_optimal.ensures.exact
-    ∙ best_given sheet changing theta columns c.requires.counted c.in_ok-program.program c.deref-5.result.now c.deref-6.result.now c.in_ok-point.point.items c.in_ok-prices.prices.items c.in_ok-program.ensures.1 c.deref-5.ensures.value c.deref-6.ensures.value
+    ∙ best_given sheet changing theta columns c.requires.counted c.in_ok-program.program c.deref-5.result.now c.deref-6.result.now c.in_ok-point.point.items
+    c.in_ok-prices.prices.items c.in_ok-program.ensures.1 c.deref-5.ensures.value c.deref-6.ensures.value
     point_made.1 prices_made.1 in (
       both_pass making (in_turn (values ∷ prices ∷ best ∷ [])) c.in_ok-program.ensures.0
           (both_pass values (in_turn (prices ∷ best ∷ [])) point_made.0

@@ -15,7 +15,8 @@ pub check_kept-requires : goal.check_kept-requires
 check_kept-requires c =
     let sheet = sheet_view c.args.sheet in
     let changing = changing_of c.args.request.now.name c.args.request.now.change in
-    are_ends sheet changing c.args.interval.now.from c.args.interval.now.to c.args.interval.now.columns c.requires.counted c.in_ok-start.start c.in_ok-end.end c.in_ok-start.ensures.1 c.in_ok-end.ensures.1
+    are_ends sheet changing c.args.interval.now.from c.args.interval.now.to c.args.interval.now.columns c.requires.counted c.in_ok-start.start c.in_ok-end.end
+    c.in_ok-start.ensures.1 c.in_ok-end.ensures.1
 
 pub returns : goal.returns
 returns c =

@@ -30,7 +30,8 @@ returns-in_err-judge-2 c =
     let result = c.from_residual-in_err-judge-2.result in
     then_by c.check_equations.result (verdict_of (equations sheet.lp 1 z))
     (in_turn (verdict_of
-    (reduced_costs sheet.lp y) ∷ slacks ∷ best_test checker_of_128_bits sheet c.args.mark z y ∷ [])) result c.check_equations.ensures.exact c.in_ok-judge.ensures
+    (reduced_costs sheet.lp y) ∷ slacks ∷ best_test checker_of_128_bits sheet c.args.mark z y ∷ [])) result c.check_equations.ensures.exact
+    c.in_ok-judge.ensures
     (exit_by c.check_prices.result (verdict_of (reduced_costs sheet.lp y))
     (in_turn (slacks ∷ best_test checker_of_128_bits sheet c.args.mark z y ∷ [])) result c.in_err-judge-2.field-0.0
     c.check_prices.ensures.exact c.in_err-judge-2.ensures c.from_residual-in_err-judge-2.ensures.1)
@@ -44,11 +45,13 @@ returns-in_err-check_slacks c =
     let result = c.from_residual-in_err-check_slacks.result in
     then_by c.check_equations.result (verdict_of (equations sheet.lp 1 z))
     (in_turn (verdict_of
-    (reduced_costs sheet.lp y) ∷ slacks ∷ best_test checker_of_128_bits sheet c.args.mark z y ∷ [])) result c.check_equations.ensures.exact c.in_ok-judge.ensures
+    (reduced_costs sheet.lp y) ∷ slacks ∷ best_test checker_of_128_bits sheet c.args.mark z y ∷ [])) result c.check_equations.ensures.exact
+    c.in_ok-judge.ensures
     (then_by c.check_prices.result (verdict_of (reduced_costs sheet.lp y))
     (in_turn (slacks ∷ best_test checker_of_128_bits sheet c.args.mark z y ∷ [])) result c.check_prices.ensures.exact c.in_ok-judge-2.ensures
     (exit_by slacks slacks
-    (in_turn (best_test checker_of_128_bits sheet c.args.mark z y ∷ [])) result c.in_err-check_slacks.field-0.0 refl c.in_err-check_slacks.ensures c.from_residual-in_err-check_slacks.ensures.1))
+    (in_turn (best_test checker_of_128_bits sheet c.args.mark z y ∷ [])) result c.in_err-check_slacks.field-0.0 refl c.in_err-check_slacks.ensures
+    c.from_residual-in_err-check_slacks.ensures.1))
 
 pub returns : goal.returns
 returns c =
@@ -59,7 +62,8 @@ returns c =
     let result = c.judge-3.result in
     then_by c.check_equations.result (verdict_of (equations sheet.lp 1 z))
     (in_turn (verdict_of
-    (reduced_costs sheet.lp y) ∷ slacks ∷ best_test checker_of_128_bits sheet c.args.mark z y ∷ [])) result c.check_equations.ensures.exact c.in_ok-judge.ensures
+    (reduced_costs sheet.lp y) ∷ slacks ∷ best_test checker_of_128_bits sheet c.args.mark z y ∷ [])) result c.check_equations.ensures.exact
+    c.in_ok-judge.ensures
     (then_by c.check_prices.result (verdict_of (reduced_costs sheet.lp y))
     (in_turn (slacks ∷ best_test checker_of_128_bits sheet c.args.mark z y ∷ [])) result c.check_prices.ensures.exact c.in_ok-judge-2.ensures
     (then_by slacks slacks (in_turn (best_test checker_of_128_bits sheet c.args.mark z y ∷ [])) result refl c.in_ok-check_slacks.ensures

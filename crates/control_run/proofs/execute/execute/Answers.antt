@@ -66,7 +66,8 @@ pub returns-in-Convert-clause-acts : goal.returns-in-Convert-clause-acts
 returns-in-Convert-clause-acts g c =
     rw c.in-Convert.is
     (punches_nothing (g.U.Sink.taken c.args.punch.now) IsPresent (Gives linear_programming_of_128_bits) program.Convert c.args.statement.now.card
-    (g.P.Sink.taken c.args.print.now) (g.P.Sink.taken c.make_problem.new.print) c.args.cards.now c.args.machine.now c.make_problem.new.self c.make_problem.result
+    (g.P.Sink.taken c.args.print.now) (g.P.Sink.taken c.make_problem.new.print) c.args.cards.now c.args.machine.now c.make_problem.new.self
+    c.make_problem.result
     (settled.executes IsPresent linear_programming_of_128_bits program.Convert c.args.statement.now.card (g.P.Sink.taken c.args.print.now)
     (g.P.Sink.taken c.make_problem.new.print) c.args.cards.now c.args.machine.now c.make_problem.new.self c.make_problem.result (c.make_problem.ensures.acts)))
 
@@ -74,9 +75,11 @@ pub returns-in-Revise-clause-acts : goal.returns-in-Revise-clause-acts
 returns-in-Revise-clause-acts g c =
     rw c.in-Revise.is
     (punches_nothing (g.U.Sink.taken c.args.punch.now) IsPresent (Gives linear_programming_of_128_bits) program.Revise c.args.statement.now.card
-    (g.P.Sink.taken c.args.print.now) (g.P.Sink.taken c.make_problem-in-Revise.new.print) c.args.cards.now c.args.machine.now c.make_problem-in-Revise.new.self c.make_problem-in-Revise.result
+    (g.P.Sink.taken c.args.print.now) (g.P.Sink.taken c.make_problem-in-Revise.new.print) c.args.cards.now c.args.machine.now
+    c.make_problem-in-Revise.new.self c.make_problem-in-Revise.result
     (settled.executes IsPresent linear_programming_of_128_bits program.Revise c.args.statement.now.card (g.P.Sink.taken c.args.print.now)
-    (g.P.Sink.taken c.make_problem-in-Revise.new.print) c.args.cards.now c.args.machine.now c.make_problem-in-Revise.new.self c.make_problem-in-Revise.result (c.make_problem-in-Revise.ensures.acts)))
+    (g.P.Sink.taken c.make_problem-in-Revise.new.print) c.args.cards.now c.args.machine.now c.make_problem-in-Revise.new.self c.make_problem-in-Revise.result
+    (c.make_problem-in-Revise.ensures.acts)))
 
 pub returns-in-Setup-clause-acts : goal.returns-in-Setup-clause-acts
 returns-in-Setup-clause-acts g c =
@@ -129,7 +132,8 @@ returns-in-Pararhs-clause-acts g c =
     rw c.in-Pararhs.is
     (punches_nothing (g.U.Sink.taken c.args.punch.now) IsPresent (Gives linear_programming_of_128_bits) program.Pararhs c.args.statement.now.card
     (g.P.Sink.taken c.args.print.now)
-    (g.P.Sink.taken c.show_parametric_run-in-Pararhs.new.print) c.args.cards.now c.args.machine.now c.show_parametric_run-in-Pararhs.new.machine c.show_parametric_run-in-Pararhs.result
+    (g.P.Sink.taken c.show_parametric_run-in-Pararhs.new.print) c.args.cards.now c.args.machine.now c.show_parametric_run-in-Pararhs.new.machine
+    c.show_parametric_run-in-Pararhs.result
     (c.show_parametric_run-in-Pararhs.ensures.acts c.args.cards.now))
 
 pub returns-in-Bcdout-clause-acts : goal.returns-in-Bcdout-clause-acts

@@ -8,4 +8,5 @@ returns-in-Ok g c =
 
 pub returns-in-Err : goal.returns-in-Err
 returns-in-Err g c =
-    ended_by_halt linear_programming_of_128_bits c.args.program.now c.args.cards.now _ c.in-Err.halt c.in-Err.ensures c.finish_halted.ensures.finishes c.finish_halted.ensures.own
+    ended_by_halt linear_programming_of_128_bits c.args.program.now c.args.cards.now _ c.in-Err.halt c.in-Err.ensures c.finish_halted.ensures.finishes
+    c.finish_halted.ensures.own

@@ -16,11 +16,13 @@ returns-then-executed-ge-MAX_EXECUTED g c =
 
 pub loop-position-preserved : goal.loop-position-preserved
 loop-position-preserved g c =
-    underway_goes linear_programming_of_128_bits c.args.input.program.now c.args.input.cards.now c.in-Ok-Goes.field-0 c.in-Ok-Goes.field-0-is c.loop-position.invariant (omega arith) c.step.ensures.sound c.in-Ok-Goes.ensures.steps
+    underway_goes linear_programming_of_128_bits c.args.input.program.now c.args.input.cards.now c.in-Ok-Goes.field-0 c.in-Ok-Goes.field-0-is
+    c.loop-position.invariant (omega arith) c.step.ensures.sound c.in-Ok-Goes.ensures.steps
 
 pub returns-in-Ok-Ends : goal.returns-in-Ok-Ends
 returns-in-Ok-Ends g c =
-    underway_ends linear_programming_of_128_bits c.args.input.program.now c.args.input.cards.now c.step.new.machine c.in-Ok-Ends.field-0 c.in-Ok-Ends.end c.in-Ok-Ends.field-0-is c.loop-position.invariant (omega arith) c.in-Ok-Ends.ensures.steps
+    underway_ends linear_programming_of_128_bits c.args.input.program.now c.args.input.cards.now c.step.new.machine c.in-Ok-Ends.field-0 c.in-Ok-Ends.end
+    c.in-Ok-Ends.field-0-is c.loop-position.invariant (omega arith) c.in-Ok-Ends.ensures.steps
 
 pub returns-in-Err : goal.returns-in-Err
 returns-in-Err g c =

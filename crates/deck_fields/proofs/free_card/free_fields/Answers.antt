@@ -4,7 +4,8 @@ use Rattle.deck_fields.proofs.free_card.free_fields.Goals as goal
 
 pub returns-then-has_long_name-clause-fault : goal.returns-then-has_long_name-clause-fault
 returns-then-has_long_name-clause-fault c =
-    long_name c.args.section c.args.deletes c.args.card.bytes.now c.word_text-first.result.now c.free_words-found.result.count c.in-Some-fields_on.list.now c.read_words-fields.result
+    long_name c.args.section c.args.deletes c.args.card.bytes.now c.word_text-first.result.now c.free_words-found.result.count c.in-Some-fields_on.list.now
+    c.read_words-fields.result
     (c.word_text-first.ensures c.args.card.bytes.now c.free_words-found.ensures) c.free_words-found.ensures.count
     (sym c.first_word_fault.ensures ∙ c.in_default.is)
     (sym c.fields_on.ensures.fields ∙ ap (option_map (λ f. f.now)) c.in-Some-fields_on.is)
@@ -13,7 +14,8 @@ returns-then-has_long_name-clause-fault c =
 
 pub returns-then-has_long_number-clause-fault : goal.returns-then-has_long_number-clause-fault
 returns-then-has_long_number-clause-fault c =
-    long_number c.args.section c.args.deletes c.args.card.bytes.now c.word_text-first.result.now c.free_words-found.result.count c.in-Some-fields_on.list.now c.read_words-fields.result
+    long_number c.args.section c.args.deletes c.args.card.bytes.now c.word_text-first.result.now c.free_words-found.result.count c.in-Some-fields_on.list.now
+    c.read_words-fields.result
     (c.word_text-first.ensures c.args.card.bytes.now c.free_words-found.ensures) c.free_words-found.ensures.count
     (sym c.first_word_fault.ensures ∙ c.in_default.is)
     (sym c.fields_on.ensures.fields ∙ ap (option_map (λ f. f.now)) c.in-Some-fields_on.is)
@@ -22,7 +24,8 @@ returns-then-has_long_number-clause-fault c =
 
 pub returns-clause-reading : goal.returns-clause-reading
 returns-clause-reading c =
-    reading c.args.section c.args.deletes c.args.card.bytes.now c.word_text-first.result.now c.free_words-found.result.count c.in-Some-fields_on.list.now c.read_words-fields.result
+    reading c.args.section c.args.deletes c.args.card.bytes.now c.word_text-first.result.now c.free_words-found.result.count c.in-Some-fields_on.list.now
+    c.read_words-fields.result
     (c.word_text-first.ensures c.args.card.bytes.now c.free_words-found.ensures) c.free_words-found.ensures.count
     (sym c.first_word_fault.ensures ∙ c.in_default.is)
     (sym c.fields_on.ensures.fields ∙ ap (option_map (λ f. f.now)) c.in-Some-fields_on.is)
@@ -30,7 +33,8 @@ returns-clause-reading c =
 
 pub returns-clause-no_fault : goal.returns-clause-no_fault
 returns-clause-no_fault c =
-    formed c.args.section c.args.deletes c.args.card.bytes.now c.word_text-first.result.now c.free_words-found.result.count c.in-Some-fields_on.list.now c.read_words-fields.result
+    formed c.args.section c.args.deletes c.args.card.bytes.now c.word_text-first.result.now c.free_words-found.result.count c.in-Some-fields_on.list.now
+    c.read_words-fields.result
     (c.word_text-first.ensures c.args.card.bytes.now c.free_words-found.ensures) c.free_words-found.ensures.count
     (sym c.first_word_fault.ensures ∙ c.in_default.is)
     (sym c.fields_on.ensures.fields ∙ ap (option_map (λ f. f.now)) c.in-Some-fields_on.is)

@@ -30,10 +30,12 @@ loop-number-preserved g c =
           (cards_more c.args.first c.loop-number.number cards c.card.result.bytes.now c.requires.from_one c.loop-number.auto.number c.card.ensures)))
           (c.in_ok-read_card.ensures.made c.args.draft.now (live seen) c.loop-number.invariant.made);
       no_fault =
-          next_fine (g.D.Draft.test c.args.draft.now) c.args.first c.loop-number.number cards c.card.result.bytes.now c.requires.from_one c.loop-number.auto.number c.card.ensures c.loop-number.invariant.no_fault
+          next_fine (g.D.Draft.test c.args.draft.now) c.args.first c.loop-number.number cards c.card.result.bytes.now c.requires.from_one
+          c.loop-number.auto.number c.card.ensures c.loop-number.invariant.no_fault
           (c.in_ok-read_card.ensures.no_fault c.args.draft.now (live seen) c.loop-number.invariant.made);
       printable =
-          next_printable c.args.first c.loop-number.number cards c.card.result.bytes.now c.requires.from_one c.loop-number.auto.number c.card.ensures c.loop-number.invariant.printable c.card.result.printable;
+          next_printable c.args.first c.loop-number.number cards c.card.result.bytes.now c.requires.from_one c.loop-number.auto.number c.card.ensures
+          c.loop-number.invariant.printable c.card.result.printable;
     }
 
 pub returns-in_err-read_card-clause-stop : goal.returns-in_err-read_card-clause-stop
@@ -42,7 +44,8 @@ returns-in_err-read_card-clause-stop g c =
     let seen = cards_up_to c.args.first c.loop-number.number c.args.cards.now in
     let p = err_from_is_err_and c.from_residual.result c.from_residual.ensures.1 in
     rw (p.1, p.2)
-    (stop_at (g.D.Draft.test c.args.draft.now) c.args.first c.loop-number.number c.args.cards.now c.card.result.bytes.now c.requires.from_one c.loop-number.auto.number c.card.ensures
+    (stop_at (g.D.Draft.test c.args.draft.now) c.args.first c.loop-number.number c.args.cards.now c.card.result.bytes.now c.requires.from_one
+    c.loop-number.auto.number c.card.ensures
     c.loop-number.invariant.no_fault c.args.last _ below
     (c.in_err-read_card.ensures.stop c.args.draft.now (live seen) c.loop-number.invariant.made))
 
@@ -50,7 +53,16 @@ pub returns-then-not-is_ended-clause-stop : goal.returns-then-not-is_ended-claus
 returns-then-not-is_ended-clause-stop g c =
     let ordered : c.args.first ≤ c.min-end.result + 1 = omega (arith, c.min-end.ensures, c.requires.ordered, c.requires.within, c.count.ensures.count) in
     let all : c.loop-number.number ≡ c.args.last + 1 =
-    omega (arith, c.min-end.ensures, c.requires.ordered, c.requires.within, c.count.ensures.count, c.loop-number-test.false, c.loop-number.auto.number-end ordered) in
+    omega (
+      arith,
+      c.min-end.ensures,
+      c.requires.ordered,
+      c.requires.within,
+      c.count.ensures.count,
+      c.loop-number-test.false,
+      c.loop-number.auto.number-end
+          ordered,
+    ) in
     let end = ap (λ number. live (cards_up_to c.args.first number c.args.cards.now)) all in
     unended (g.D.Draft.test c.args.draft.now) c.args.first c.args.last c.args.cards.now c.requires.from_one c.requires.ordered c.requires.within
     (ap (first_faulty (g.D.Draft.test c.args.draft.now) []) (sym end) ∙ c.loop-number.invariant.no_fault)

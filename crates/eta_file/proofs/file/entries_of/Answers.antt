@@ -19,8 +19,10 @@ loop-k-preserved c =
           let pushed : w.push.new.self.items ≡ c.loop-k.entries.items ++ (one ∷ []) = search rules in
           rw w.entries-is
           (pushed ∙ entry_then
-          (value_at d) c.args.listed.now c.loop-k.k-index c.loop-k-test.true c.loop-k.entries.items c.loop-k.invariant c.index-direction-k.result c.is_zero.result rate tested w.if-not-is_zero.true)
+          (value_at d) c.args.listed.now c.loop-k.k-index c.loop-k-test.true c.loop-k.entries.items c.loop-k.invariant c.index-direction-k.result
+          c.is_zero.result rate tested w.if-not-is_zero.true)
       | else-not-is_zero w ↦
           rw w.entries-is
-          (entry_else (value_at d) c.args.listed.now c.loop-k.k-index c.loop-k-test.true c.loop-k.entries.items c.loop-k.invariant c.index-direction-k.result c.is_zero.result rate tested w.if-not-is_zero.false)
+          (entry_else (value_at d) c.args.listed.now c.loop-k.k-index c.loop-k-test.true c.loop-k.entries.items c.loop-k.invariant c.index-direction-k.result
+          c.is_zero.result rate tested w.if-not-is_zero.false)
     ]

@@ -17,6 +17,7 @@ loop-entry-preserved c =
       places = c.add_product.ensures.places ∙ c.loop-entry.invariant.places;
       rows = λ k low.
           ap (λ xs. value_at xs k) c.in_ok-add_product.ensures.number
-          ∙ added_more c.args.column.now c.loop-entry.entry-index c.entry-item.result c.loop-entry-test.true c.entry-item.is c.requires.distinct c.loop-entry.sums row.0 high
+          ∙ added_more c.args.column.now c.loop-entry.entry-index c.entry-item.result c.loop-entry-test.true c.entry-item.is c.requires.distinct
+          c.loop-entry.sums row.0 high
           _ _ _ k low refl (c.loop-entry.invariant.rows k low);
     }

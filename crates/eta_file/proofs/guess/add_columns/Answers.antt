@@ -11,7 +11,8 @@ use Rattle.eta_file.proofs.guess.add_columns.Goals as goal
 pub add_listed-requires-clause-listed : goal.add_listed-requires-clause-listed
 add_listed-requires-clause-listed c =
     subst (All (IsVariable c.args.file.now.matrix)) (sym c.requires.basics)
-    (subst (λ n. All (λ k. (1 ≤ k) × (k ≤ n)) (listed_of c.args.file.now.basics)) c.size-size.ensures.nonsingular.counted (listed_within c.args.file.now.basics))
+    (subst (λ n. All (λ k. (1 ≤ k) × (k ≤ n)) (listed_of c.args.file.now.basics)) c.size-size.ensures.nonsingular.counted
+    (listed_within c.args.file.now.basics))
 
 pub returns-clause-sums : goal.returns-clause-sums
 returns-clause-sums c i row =

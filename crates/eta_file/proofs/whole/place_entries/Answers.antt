@@ -23,7 +23,8 @@ loop-entry-preserved c =
       | then-entry-p+in_ok-as_whole+in_ok-number+in_ok-put w ↦
           let number : ℚ = whole (to_z w128 (of_z w128 w.in_ok-number.number)) in
           let is_number : number ≡ one_ℚ *ℚ c.entry-item.result.rate =
-          ap whole (to_z-of_z w128 w.in_ok-number.number (search rules)) ∙ w.in_ok-number.ensures.value ∙ w.in_ok-as_whole.ensures ∙ sym (one-mul c.entry-item.result.rate) in
+          ap whole (to_z-of_z w128 w.in_ok-number.number (search rules)) ∙ w.in_ok-number.ensures.value ∙ w.in_ok-as_whole.ensures
+          ∙ sym (one-mul c.entry-item.result.rate) in
           rw w.out-is (record {
             places = w.put.ensures.places ∙ c.loop-entry.invariant.places;
             each = λ k low high other.

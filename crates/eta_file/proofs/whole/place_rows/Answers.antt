@@ -24,6 +24,7 @@ loop-entry-preserved c =
       places = c.put.ensures.places ∙ c.loop-entry.invariant.places;
       rows = λ k low.
           ap (λ xs. value_at xs k) c.in_ok-put.ensures.number
-          ∙ filled_scaled c.args.column.now c.loop-entry.entry-index c.entry-item.result c.loop-entry-test.true c.entry-item.is c.requires.distinct c.loop-entry.out row.0 high c.args.scale number k low is_number
+          ∙ filled_scaled c.args.column.now c.loop-entry.entry-index c.entry-item.result c.loop-entry-test.true c.entry-item.is c.requires.distinct
+          c.loop-entry.out row.0 high c.args.scale number k low is_number
           (c.loop-entry.invariant.rows k low);
     }

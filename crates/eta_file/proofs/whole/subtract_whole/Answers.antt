@@ -29,7 +29,8 @@ loop-entry-preserved c =
             places = w.add_product.ensures.places ∙ c.loop-entry.invariant.places;
             each = λ k low high other.
                 ap (λ xs. value_at xs k) w.in_ok-add_product.ensures.number
-                ∙ subtracted_whole c.args.entries.now c.loop-entry.entry-index c.entry-item.result c.loop-entry-test.true c.entry-item.is c.loop-entry.out inside
+                ∙ subtracted_whole c.args.entries.now c.loop-entry.entry-index c.entry-item.result c.loop-entry-test.true c.entry-item.is c.loop-entry.out
+                inside
                 c.args.out.now c.args.multiple number minus _ k low refl is_minus (ap (λ r. number +ℚ minus *ℚ r) w.in_ok-as_whole.ensures)
                 (c.loop-entry.invariant.each k low high other);
           })

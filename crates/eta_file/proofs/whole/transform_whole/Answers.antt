@@ -47,7 +47,8 @@ returns-clause-transformed c =
     ∙ ap (λ xs. value_at xs eta.p) c.numbers-2.ensures.numbers) in
     some_map c.product.result (λ v. v ≡ e *ℚ by) (λ v. Represent (IsTransformed eta (quotients c.args.denominator c.args.out.now)) v c.exchange_whole.new.out)
     (λ v is_v.
-    transformed_whole eta w is_whole c.requires.places.apart c.args.denominator e by c.in_ok-ratio.ratio c.terms-multiple.result.0 c.args.out.now c.reduce_from.new.self c.multiply.new.self c.exchange_whole.new.out
+    transformed_whole eta w is_whole c.requires.places.apart c.args.denominator e by c.in_ok-ratio.ratio c.terms-multiple.result.0 c.args.out.now
+    c.reduce_from.new.self c.multiply.new.self c.exchange_whole.new.out
     c.in_ok-denominator.ensures.same ratio c.terms-multiple.ensures.product c.terms-multiple.ensures.apart
     c.in_ok-multiply.ensures.products (c.multiply.ensures.places ∙ c.reduce_from.ensures.places) c.in_ok-exchange_whole.ensures.exchanged v is_v)
     c.product.ensures

@@ -6,14 +6,16 @@ use Rattle.job_devices.proofs.reading.read_up_to.Goals as goal
 pub returns-then-count-eq0-clause-bytes : goal.returns-then-count-eq0-clause-bytes
 returns-then-count-eq0-clause-bytes g c =
     let read =
-    Consumes-nothing _ _ _ c.loop-piece.bytes.items c.read.new.buf c.in_ok-count.count c.if-count-eq0.true c.loop-piece.invariant.bytes c.in_ok-count.ensures.bytes.0 in
+    Consumes-nothing _ _ _ c.loop-piece.bytes.items c.read.new.buf c.in_ok-count.count c.if-count-eq0.true c.loop-piece.invariant.bytes
+    c.in_ok-count.ensures.bytes.0 in
     let room : 0 < length c.read.new.buf = grind (arith, common_steps, length-take) in
     (kept_at_end c.args.most _ _ _ read (c.in_ok-count.ensures.bytes.1 c.if-count-eq0.true room) c.loop-piece.invariant.short).0
 
 pub returns-then-count-eq0-clause-whole : goal.returns-then-count-eq0-clause-whole
 returns-then-count-eq0-clause-whole g c =
     let read =
-    Consumes-nothing _ _ _ c.loop-piece.bytes.items c.read.new.buf c.in_ok-count.count c.if-count-eq0.true c.loop-piece.invariant.bytes c.in_ok-count.ensures.bytes.0 in
+    Consumes-nothing _ _ _ c.loop-piece.bytes.items c.read.new.buf c.in_ok-count.count c.if-count-eq0.true c.loop-piece.invariant.bytes
+    c.in_ok-count.ensures.bytes.0 in
     let room : 0 < length c.read.new.buf = grind (arith, common_steps, length-take) in
     (kept_at_end c.args.most _ _ _ read (c.in_ok-count.ensures.bytes.1 c.if-count-eq0.true room) c.loop-piece.invariant.short).1
 

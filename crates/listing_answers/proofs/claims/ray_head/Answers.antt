@@ -10,4 +10,5 @@ returns-in_err-count_after c =
 
 pub returns : goal.returns
 returns c =
-    ray_head_read c.in_ok-count_after.field-0 c.args.cursor.now c.count_after.new.cursor c.check_after.new.cursor c.check_after.result c.in_ok-count_after.ensures c.check_after.ensures
+    ray_head_read c.in_ok-count_after.field-0 c.args.cursor.now c.count_after.new.cursor c.check_after.new.cursor c.check_after.result
+    c.in_ok-count_after.ensures c.check_after.ensures

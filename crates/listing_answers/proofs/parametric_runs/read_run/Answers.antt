@@ -56,7 +56,8 @@ returns-in_err-last-2 g c limit =
     let begins = c.begins_interval.ensures in
     let stands : left_after (codes "INTERVAL ") rest ≡ Some begins.0 = begins.1 ∙ ap (λ b. taken b begins.0) c.if-not-begins_interval.false in
     run_stops C sheet parametric_run whole (get_or bytes i 0) (drop (i + 1) bytes)
-    (i + 1) last rest so_far begins.0 stands c.in_err-last-2.field-0.0 c.read_part.new.cursor c.from_residual-in_err-last-2.result c.in_err-last-2.ensures c.from_residual-in_err-last-2.ensures.1
+    (i + 1) last rest so_far begins.0 stands c.in_err-last-2.field-0.0 c.read_part.new.cursor c.from_residual-in_err-last-2.result c.in_err-last-2.ensures
+    c.from_residual-in_err-last-2.ensures.1
 
 pub loop-index-preserved : goal.loop-index-preserved
 loop-index-preserved g c limit =

@@ -27,7 +27,8 @@ returns-in-Err g c =
     let of = number_in g.T.Checks.checker c.args.by in
     slots_fail of c.args.slots.now c.args.cursor.now c.loop-slot.slot-index c.slot-item.result c.loop-slot.cursor c.take_slot.new.cursor c.loop-slot.numbers
     c.take_slot.new.numbers c.loop-slot-test.true c.loop-slot.invariant c.in-Err.stop
-    (subst (λ (slot : Slot). IfRead (Err c.in-Err.stop) (IsSlotTaken of slot c.loop-slot.cursor c.take_slot.new.cursor c.loop-slot.numbers c.take_slot.new.numbers))
+    (subst (λ (slot : Slot). IfRead (Err c.in-Err.stop)
+    (IsSlotTaken of slot c.loop-slot.cursor c.take_slot.new.cursor c.loop-slot.numbers c.take_slot.new.numbers))
     c.slot-item.is c.in-Err.ensures)
 
 pub returns : goal.returns

@@ -17,7 +17,8 @@ returns-then-executed-ge-MAX_EXECUTED g c =
 
 pub loop-position-preserved : goal.loop-position-preserved
 loop-position-preserved g c =
-    underway_more g.T.Checks.checker c.args.program.now c.args.cards.now c.args.listing.now c.loop-position.invariant c.step.new.last c.step.new.machine c.step.new.place c.in-Ok-Goes.to (omega arith) c.step.ensures.sound c.step.ensures.few
+    underway_more g.T.Checks.checker c.args.program.now c.args.cards.now c.args.listing.now c.loop-position.invariant c.step.new.last c.step.new.machine
+    c.step.new.place c.in-Ok-Goes.to (omega arith) c.step.ensures.sound c.step.ensures.few
     (rw c.in-Ok-Goes.field-0-is at c.in-Ok-Goes.ensures.steps)
 
 pub returns-in-Ok-Finds : goal.returns-in-Ok-Finds

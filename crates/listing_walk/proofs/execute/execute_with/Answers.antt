@@ -24,5 +24,6 @@ execute-requires-in-None-clause-no_run g c = subst IsNoRun (sym (sym c.use_of.en
 pub returns-in-Sets-clause-walks : goal.returns-in-Sets-clause-walks
 returns-in-Sets-clause-walks g c =
     walks_set g.T.Checks.checker
-    (viewed c.args.statement.now.verb) c.args.statement.now.card c.args.cards.now c.args.machine.now c.execute.new.machine c.args.place.now c.execute.new.place c.args.last.now (sym c.use_of.ensures ∙ c.in-Sets.is)
+    (viewed c.args.statement.now.verb) c.args.statement.now.card c.args.cards.now c.args.machine.now c.execute.new.machine c.args.place.now
+    c.execute.new.place c.args.last.now (sym c.use_of.ensures ∙ c.in-Sets.is)
     c.execute.result c.execute.ensures.walks

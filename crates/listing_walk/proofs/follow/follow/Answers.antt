@@ -43,13 +43,15 @@ pub returns-then-not-pass-clause-passes : goal.returns-then-not-pass-clause-pass
 returns-then-not-pass-clause-passes c =
     passes_wrong_by c.args.machine.now c.args.place.now c.args.act.now c.args.text.now c.if-ends.looks c.if-ends-2.clears
     (looks_is (goal.at.returns-then-not-pass-clause-passes c).After-open_here)
-    (clears_is (goal.at.returns-then-not-pass-clause-passes c).After-open_here) c.in_default.ensures c.pass.new.self c.left-rest.result c.left-rest.ensures c.pass.result c.if-not-pass.true c.pass.ensures.taken c.pass.new.self
+    (clears_is (goal.at.returns-then-not-pass-clause-passes c).After-open_here) c.in_default.ensures c.pass.new.self c.left-rest.result c.left-rest.ensures
+    c.pass.result c.if-not-pass.true c.pass.ensures.taken c.pass.new.self
 
 pub returns-clause-passes : goal.returns-clause-passes
 returns-clause-passes c =
     passes_on_by c.args.machine.now c.args.place.now c.args.act.now c.args.text.now c.if-ends.looks c.if-ends-2.clears
     (looks_is (goal.at.returns-clause-passes c).After-open_here)
-    (clears_is (goal.at.returns-clause-passes c).After-open_here) c.in_default.ensures c.pass.new.self c.finish.new.place c.pass.result c.if-not-pass.false c.pass.ensures.taken c.pass.ensures.pending c.pass.ensures.reports
+    (clears_is (goal.at.returns-clause-passes c).After-open_here) c.in_default.ensures c.pass.new.self c.finish.new.place c.pass.result c.if-not-pass.false
+    c.pass.ensures.taken c.pass.ensures.pending c.pass.ensures.reports
     c.finish.result c.finish.ensures.finishes
 
 pub returns-in-Some-clause-held : goal.returns-in-Some-clause-held
@@ -63,12 +65,14 @@ returns-then-not-pass-clause-held c = λ last.
     passes_wrong_by (holding last c.args.machine.now) c.args.place.now c.args.act.now c.args.text.now c.if-ends.looks c.if-ends-2.clears
     (looks_is (goal.at.returns-then-not-pass-clause-held c).After-open_here)
     (clears_held
-    (goal.at.returns-then-not-pass-clause-held c).After-open_here last) c.in_default.ensures c.pass.new.self c.left-rest.result c.left-rest.ensures c.pass.result c.if-not-pass.true c.pass.ensures.taken c.pass.new.self
+    (goal.at.returns-then-not-pass-clause-held c).After-open_here last) c.in_default.ensures c.pass.new.self c.left-rest.result c.left-rest.ensures
+    c.pass.result c.if-not-pass.true c.pass.ensures.taken c.pass.new.self
 
 pub returns-clause-held : goal.returns-clause-held
 returns-clause-held c = λ last.
     passes_on_by (holding last c.args.machine.now) c.args.place.now c.args.act.now c.args.text.now c.if-ends.looks c.if-ends-2.clears
     (looks_is (goal.at.returns-clause-held c).After-open_here)
     (clears_held
-    (goal.at.returns-clause-held c).After-open_here last) c.in_default.ensures c.pass.new.self c.finish.new.place c.pass.result c.if-not-pass.false c.pass.ensures.taken c.pass.ensures.pending c.pass.ensures.reports
+    (goal.at.returns-clause-held c).After-open_here last) c.in_default.ensures c.pass.new.self c.finish.new.place c.pass.result c.if-not-pass.false
+    c.pass.ensures.taken c.pass.ensures.pending c.pass.ensures.reports
     c.finish.result c.finish.ensures.finishes

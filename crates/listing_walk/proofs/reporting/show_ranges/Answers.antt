@@ -10,11 +10,13 @@ returns-in_default-clause-walks c =
 
 pub returns-in_default-mark-clause-walks : goal.returns-in_default-mark-clause-walks
 returns-in_default-mark-clause-walks c = λ C cards.
-    ranges_not_solved C c.args.card cards c.args.machine.now c.args.place.now c.fault-in_default-mark.new.place c.in-Some._chosen c.in-Some.is c.in_default-mark.is c.fault-in_default-mark.result c.fault-in_default-mark.ensures.passes
+    ranges_not_solved C c.args.card cards c.args.machine.now c.args.place.now c.fault-in_default-mark.new.place c.in-Some._chosen c.in-Some.is
+    c.in_default-mark.is c.fault-in_default-mark.result c.fault-in_default-mark.ensures.passes
 
 pub returns-then-not-is_optimal-clause-walks : goal.returns-then-not-is_optimal-clause-walks
 returns-then-not-is_optimal-clause-walks c = λ C cards.
-    ranges_not_optimal C c.args.card cards c.args.machine.now c.args.place.now c.fault-then-not-is_optimal.new.place c.in-Some._chosen c.in-Some.is c.in-Some-mark.mark c.in-Some-mark.is (sym c.is_optimal.ensures ∙ c.if-not-is_optimal.true)
+    ranges_not_optimal C c.args.card cards c.args.machine.now c.args.place.now c.fault-then-not-is_optimal.new.place c.in-Some._chosen c.in-Some.is
+    c.in-Some-mark.mark c.in-Some-mark.is (sym c.is_optimal.ensures ∙ c.if-not-is_optimal.true)
     c.fault-then-not-is_optimal.result c.fault-then-not-is_optimal.ensures.passes
 
 pub returns-clause-walks : goal.returns-clause-walks

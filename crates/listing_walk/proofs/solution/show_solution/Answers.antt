@@ -12,11 +12,13 @@ problem_on_file-problem-requires g c =
 
 pub returns-in_default-clause-walks : goal.returns-in_default-clause-walks
 returns-in_default-clause-walks g c =
-    λ cards. solution_no_setup g.T.Checks.checker c.args.card cards c.args.machine.now c.args.place.now c.fault.new.place c.in_default.is c.fault.result c.fault.ensures.passes
+    λ cards. solution_no_setup g.T.Checks.checker c.args.card cards c.args.machine.now c.args.place.now c.fault.new.place c.in_default.is c.fault.result
+    c.fault.ensures.passes
 
 pub returns-in_default-mark-clause-walks : goal.returns-in_default-mark-clause-walks
 returns-in_default-mark-clause-walks g c = λ cards.
-    solution_not_solved g.T.Checks.checker c.args.card cards c.args.machine.now c.args.place.now c.fault-in_default-mark.new.place c.in-Some.chosen c.in-Some.is c.in_default-mark.is c.fault-in_default-mark.result c.fault-in_default-mark.ensures.passes
+    solution_not_solved g.T.Checks.checker c.args.card cards c.args.machine.now c.args.place.now c.fault-in_default-mark.new.place c.in-Some.chosen
+    c.in-Some.is c.in_default-mark.is c.fault-in_default-mark.result c.fault-in_default-mark.ensures.passes
 
 pub answer_solution-requires-clause-sheet : goal.answer_solution-requires-clause-sheet
 answer_solution-requires-clause-sheet g c =
@@ -36,10 +38,12 @@ answer_solution-requires-clause-no_change g c =
 
 pub returns-in-Ok-clause-walks : goal.returns-in-Ok-clause-walks
 returns-in-Ok-clause-walks g c = λ cards.
-    solution_view g.T.Checks.checker c.args.card cards c.args.machine.now c.args.place.now c.answer_solution.new.place c.in-Some.chosen c.in-Some.is c.in-Some-mark.mark c.in-Some-mark.is c.problem_on_file-problem.result.now c.problem_on_file-problem.ensures c.requires.solved
+    solution_view g.T.Checks.checker c.args.card cards c.args.machine.now c.args.place.now c.answer_solution.new.place c.in-Some.chosen c.in-Some.is
+    c.in-Some-mark.mark c.in-Some-mark.is c.problem_on_file-problem.result.now c.problem_on_file-problem.ensures c.requires.solved
     c.in-Ok.ensures.answered
 
 pub returns-in-Err-clause-walks : goal.returns-in-Err-clause-walks
 returns-in-Err-clause-walks g c = λ cards.
-    solution_stopped g.T.Checks.checker c.args.card cards c.args.machine.now c.args.place.now c.answer_solution.new.place c.in-Some.chosen c.in-Some.is c.in-Some-mark.mark c.in-Some-mark.is c.problem_on_file-problem.result.now c.problem_on_file-problem.ensures c.requires.solved
+    solution_stopped g.T.Checks.checker c.args.card cards c.args.machine.now c.args.place.now c.answer_solution.new.place c.in-Some.chosen c.in-Some.is
+    c.in-Some-mark.mark c.in-Some-mark.is c.problem_on_file-problem.result.now c.problem_on_file-problem.ensures c.requires.solved
     c.in-Err.stopped c.in-Err.ensures.answered c.stop_walk.result c.stop_walk.ensures

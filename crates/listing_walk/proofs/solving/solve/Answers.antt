@@ -16,17 +16,21 @@ problem_on_file-problem-requires g c =
 
 pub returns-in_default-clause-walks : goal.returns-in_default-clause-walks
 returns-in_default-clause-walks g c =
-    λ cards. solving_no_setup g.T.Checks.checker c.args.verb c.args.card cards c.args.machine.now c.args.place.now c.fault.new.place c.in_default.is c.fault.result c.fault.ensures.passes
+    λ cards. solving_no_setup g.T.Checks.checker c.args.verb c.args.card cards c.args.machine.now c.args.place.now c.fault.new.place c.in_default.is
+    c.fault.result c.fault.ensures.passes
 
 pub returns-in-Err-clause-walks : goal.returns-in-Err-clause-walks
 returns-in-Err-clause-walks g c = λ cards.
-    solving_refused g.T.Checks.checker c.args.verb c.args.card cards c.args.machine.now c.args.place.now c.refuse.new.place c.in-Some.chosen c.in-Some.is c.problem_on_file-problem.result.now c.problem_on_file-problem.ensures c.in-Err.refusal
+    solving_refused g.T.Checks.checker c.args.verb c.args.card cards c.args.machine.now c.args.place.now c.refuse.new.place c.in-Some.chosen c.in-Some.is
+    c.problem_on_file-problem.result.now c.problem_on_file-problem.ensures c.in-Err.refusal
     c.in-Err.ensures.refused c.refuse.result c.refuse.ensures.refuses
 
 pub answer_path-requires-clause-sheet : goal.answer_path-requires-clause-sheet
 answer_path-requires-clause-sheet g c = record {
-  rows = as_many_rows c.problem_on_file-problem.result.now (choice_of c.args.machine.now.cells c.in-Some.chosen.options) c.in-Ok.lp c.in-Ok.ensures.made.is_selected;
-  columns = as_many_columns c.problem_on_file-problem.result.now (choice_of c.args.machine.now.cells c.in-Some.chosen.options) c.in-Ok.lp c.in-Ok.ensures.made.is_selected;
+  rows = as_many_rows c.problem_on_file-problem.result.now (choice_of c.args.machine.now.cells c.in-Some.chosen.options) c.in-Ok.lp
+      c.in-Ok.ensures.made.is_selected;
+  columns = as_many_columns c.problem_on_file-problem.result.now (choice_of c.args.machine.now.cells c.in-Some.chosen.options) c.in-Ok.lp
+      c.in-Ok.ensures.made.is_selected;
 }
 
 pub answer_path-requires-clause-no_change : goal.answer_path-requires-clause-no_change
@@ -35,12 +39,15 @@ answer_path-requires-clause-no_change g c =
 
 pub returns-in-Err-answer_path-clause-walks : goal.returns-in-Err-answer_path-clause-walks
 returns-in-Err-answer_path-clause-walks g c = λ cards.
-    solving_stopped_by g.T.Checks.checker c.args.verb c.args.card cards c.args.machine.now c.args.place.now c.answer_path.new.place c.in-Some.chosen c.in-Some.is c.problem_on_file-problem.result.now c.problem_on_file-problem.ensures c.in-Ok.lp c.in-Ok.ensures.made
-    c.solver_of.result c.solver_of.ensures c.args.machine.now c.in-Err-answer_path.stopped c.in-Err-answer_path.ensures.answered c.stop_walk.result c.stop_walk.ensures
+    solving_stopped_by g.T.Checks.checker c.args.verb c.args.card cards c.args.machine.now c.args.place.now c.answer_path.new.place c.in-Some.chosen
+    c.in-Some.is c.problem_on_file-problem.result.now c.problem_on_file-problem.ensures c.in-Ok.lp c.in-Ok.ensures.made
+    c.solver_of.result c.solver_of.ensures c.args.machine.now c.in-Err-answer_path.stopped c.in-Err-answer_path.ensures.answered c.stop_walk.result
+    c.stop_walk.ensures
 
 pub returns-clause-walks : goal.returns-clause-walks
 returns-clause-walks g c = λ cards.
-    solving_ended g.T.Checks.checker c.args.verb c.args.card cards c.args.machine.now c.args.place.now c.finish.new.place c.in-Some.chosen c.in-Some.is c.problem_on_file-problem.result.now c.problem_on_file-problem.ensures c.in-Ok.lp c.in-Ok.ensures.made
+    solving_ended g.T.Checks.checker c.args.verb c.args.card cards c.args.machine.now c.args.place.now c.finish.new.place c.in-Some.chosen c.in-Some.is
+    c.problem_on_file-problem.result.now c.problem_on_file-problem.ensures c.in-Ok.lp c.in-Ok.ensures.made
     c.requires.demands c.in-Ok-answer_path.mark c.answer_path.new.place
     (λ limit. rw c.solver_of.ensures at (c.in-Ok-answer_path.ensures.answered limit)) c.act_of-act.result
     (c.act_of-act.ensures
@@ -49,5 +56,6 @@ returns-clause-walks g c = λ cards.
 
 pub returns-clause-sound : goal.returns-clause-sound
 returns-clause-sound g c = λ cards sound.
-    solving_sound g.T.Checks.checker c.args.verb c.args.card cards c.args.machine.now c.args.place.now c.finish.new.place c.in-Some.chosen c.in-Some.is c.problem_on_file-problem.result.now c.problem_on_file-problem.ensures c.in-Ok.lp c.in-Ok.ensures.made
+    solving_sound g.T.Checks.checker c.args.verb c.args.card cards c.args.machine.now c.args.place.now c.finish.new.place c.in-Some.chosen c.in-Some.is
+    c.problem_on_file-problem.result.now c.problem_on_file-problem.ensures c.in-Ok.lp c.in-Ok.ensures.made
     c.in-Ok-answer_path.mark c.keep.new.machine (c.keep.ensures c.in-Some.chosen c.in-Some.is) sound

@@ -7,7 +7,8 @@ use Rattle.exact_values.specs.Rational.{ℚ, zero_ℚ}
 use Rattle.lp_model.specs.Sparse.{AreNonzeroFrom}
 use Rattle.lp_model.proofs.PutLists.{IsPutSoFar, no_place_put, place_zero, place_again, place_put, put_apart, all_places_put}
 use Rattle.lp_model.proofs.sparse.put_places.Goals as goal
-use Rattle.lp_model.proofs.sparse.put_places.Goals.{then-number-ne0+then-is_zero+in_ok-put_one, else-number-ne0, else-number-ne0-via-then-number-ne0+else-is_zero, else-number-ne0-via-else-number-ne0}
+use Rattle.lp_model.proofs.sparse.put_places.Goals.{then-number-ne0+then-is_zero+in_ok-put_one, else-number-ne0}
+use Rattle.lp_model.proofs.sparse.put_places.Goals.{else-number-ne0-via-then-number-ne0+else-is_zero, else-number-ne0-via-else-number-ne0}
 
 not_both : (b : Bool) → b ≡ false → IsTrue b → ⊥
 not_both b fails passes = grind (arith, fails, passes)

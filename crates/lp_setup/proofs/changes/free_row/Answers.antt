@@ -9,5 +9,6 @@ returns-then-has_free_row-clause-number c =
 
 pub returns-then-has_free_row-clause-free : goal.returns-then-has_free_row-clause-free
 returns-then-has_free_row-clause-free c =
-    free_in c.args.problem.now c.args.name.now c.rows-rows.result.now c.row_number.result c.rows-rows.ensures.is_problem c.rows-rows.ensures.rows c.row_number.ensures.number
+    free_in c.args.problem.now c.args.name.now c.rows-rows.result.now c.row_number.result c.rows-rows.ensures.is_problem c.rows-rows.ensures.rows
+    c.row_number.ensures.number
     (sym c.has_free_row.ensures ∙ c.if-has_free_row.true)

@@ -22,7 +22,8 @@ returns-in_err-values-2-clause-overflow c =
     let is_row : slice_get c.args.rows.now c.loop-place.place ≡ Some row =
     standing c.args.rows.now c.loop-place.place row c.loop-place-test.true c.index-rows-place.is in
     let over =
-    subst (λ values. IsRowValueOverflow values row.parts c.loop-place.place c.args.column c.in_err-values-2.field-0.0) c.deref.ensures.value c.in_err-values-2.ensures.overflow in
+    subst (λ values. IsRowValueOverflow values row.parts c.loop-place.place c.args.column c.in_err-values-2.field-0.0) c.deref.ensures.value
+    c.in_err-values-2.ensures.overflow in
     let p = err_from_is_err_and c.from_residual-in_err-values-2.result c.from_residual-in_err-values-2.ensures.1 in
     rw (p.1, p.2)
     (overflow_at c.args.rows.now c.args.entries.now c.loop-place.place c.loop-place.values.items c.loop-place.invariant.0 row is_row c.args.column _ over)
@@ -34,6 +35,8 @@ loop-place-preserved c =
     standing c.args.rows.now c.loop-place.place row c.loop-place-test.true c.index-rows-place.is in
     let has = subst (λ values. IsRowValue values row.parts c.loop-place.place c.in_ok-values-2.field-0) c.deref.ensures.value c.in_ok-values-2.ensures.value in
     let made = subst (λ values. IsRowValueMade values row.parts c.loop-place.place) c.deref.ensures.value c.in_ok-values-2.ensures.made in (
-      values_step c.args.rows.now c.args.entries.now c.loop-place.place c.loop-place.values.items c.loop-place.invariant.0 row is_row c.in_ok-values-2.field-0 has,
-      sums_step c.args.rows.now c.args.entries.now c.loop-place.place c.loop-place.values.items c.loop-place.invariant.0 row is_row made c.loop-place.invariant.1,
+      values_step c.args.rows.now c.args.entries.now c.loop-place.place c.loop-place.values.items c.loop-place.invariant.0 row is_row c.in_ok-values-2.field-0
+          has,
+      sums_step c.args.rows.now c.args.entries.now c.loop-place.place c.loop-place.values.items c.loop-place.invariant.0 row is_row made
+          c.loop-place.invariant.1,
     )

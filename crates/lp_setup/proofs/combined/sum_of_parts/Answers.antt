@@ -13,17 +13,20 @@ loop-part-init c = record { is_sum = refl; is_count = refl; is_made = refl }
 
 pub with_part-requires-clause-room : goal.with_part-requires-clause-room
 with_part-requires-clause-room c =
-    room (length c.args.values.now) c.args.parts.now c.args.values.now c.loop-part.part-index c.loop-part.total c.requires.parts c.requires.few c.loop-part.invariant
+    room (length c.args.values.now) c.args.parts.now c.args.values.now c.loop-part.part-index c.loop-part.total c.requires.parts c.requires.few
+    c.loop-part.invariant
 
 pub returns-in_err-total-clause-refused : goal.returns-in_err-total-clause-refused
 returns-in_err-total-clause-refused c =
     let p = err_from_is_err_and c.from_residual.result c.from_residual.ensures.1 in
     rw (p.1, p.2)
-    (refused_at c.args.parts.now c.args.values.now c.loop-part.part-index c.part-item.result c.loop-part-test.true c.part-item.is c.loop-part.total _ c.loop-part.invariant c.in_err-total.ensures.refused)
+    (refused_at c.args.parts.now c.args.values.now c.loop-part.part-index c.part-item.result c.loop-part-test.true c.part-item.is c.loop-part.total _
+    c.loop-part.invariant c.in_err-total.ensures.refused)
 
 pub loop-part-preserved : goal.loop-part-preserved
 loop-part-preserved c =
-    total_step c.args.parts.now c.args.values.now c.loop-part.part-index c.part-item.result c.loop-part-test.true c.part-item.is c.loop-part.total c.in_ok-total.total c.loop-part.invariant c.in_ok-total.ensures.total
+    total_step c.args.parts.now c.args.values.now c.loop-part.part-index c.part-item.result c.loop-part-test.true c.part-item.is c.loop-part.total
+    c.in_ok-total.total c.loop-part.invariant c.in_ok-total.ensures.total
 
 pub returns-clause-sum : goal.returns-clause-sum
 returns-clause-sum c =

@@ -19,17 +19,23 @@ invariant_of-result c =
     let low = c.in_ok-lower.ensures ∙ ap (map (λ (pair : Limits). pair.lower)) c.deref-2.ensures.value in
     let high = c.in_ok-upper.ensures ∙ ap (map (λ (pair : Limits). pair.upper)) c.deref-3.ensures.value in
     subst IsLinearProgram
-    (sym (program_made c.args.problem.now c.args.selection.objective c.args.selection.rhs.now c.args.selection.ranges.now c.args.selection.bounds.now c.args.selection.sense c.rows-rows.result.now c.columns.result.now c.row_count.result c.column_count.result
-    (entries_of c.in_ok-columns.columns.items) c.in_ok-limits.limits.items c.in_ok-lower.lower.items c.in_ok-upper.upper.items c.in_ok-sides.sides.items c.deref.result.now c.rows-rows.ensures.rows c.columns.ensures.columns
-    c.row_count.ensures.count c.column_count.ensures.count c.in_ok-columns.ensures.matrix c.in_ok-limits.ensures.limits c.deref.ensures.value low high c.in_ok-sides.ensures)) c.requires.lawful
+    (sym (program_made c.args.problem.now c.args.selection.objective c.args.selection.rhs.now c.args.selection.ranges.now c.args.selection.bounds.now
+    c.args.selection.sense c.rows-rows.result.now c.columns.result.now c.row_count.result c.column_count.result
+    (entries_of c.in_ok-columns.columns.items) c.in_ok-limits.limits.items c.in_ok-lower.lower.items c.in_ok-upper.upper.items c.in_ok-sides.sides.items
+    c.deref.result.now c.rows-rows.ensures.rows c.columns.ensures.columns
+    c.row_count.ensures.count c.column_count.ensures.count c.in_ok-columns.ensures.matrix c.in_ok-limits.ensures.limits c.deref.ensures.value low high
+    c.in_ok-sides.ensures)) c.requires.lawful
 
 pub returns-clause-program : goal.returns-clause-program
 returns-clause-program c =
     let low = c.in_ok-lower.ensures ∙ ap (map (λ (pair : Limits). pair.lower)) c.deref-2.ensures.value in
     let high = c.in_ok-upper.ensures ∙ ap (map (λ (pair : Limits). pair.upper)) c.deref-3.ensures.value in
-    program_made c.args.problem.now c.args.selection.objective c.args.selection.rhs.now c.args.selection.ranges.now c.args.selection.bounds.now c.args.selection.sense c.rows-rows.result.now c.columns.result.now c.row_count.result c.column_count.result
-    (entries_of c.in_ok-columns.columns.items) c.in_ok-limits.limits.items c.in_ok-lower.lower.items c.in_ok-upper.upper.items c.in_ok-sides.sides.items c.deref.result.now c.rows-rows.ensures.rows c.columns.ensures.columns
-    c.row_count.ensures.count c.column_count.ensures.count c.in_ok-columns.ensures.matrix c.in_ok-limits.ensures.limits c.deref.ensures.value low high c.in_ok-sides.ensures
+    program_made c.args.problem.now c.args.selection.objective c.args.selection.rhs.now c.args.selection.ranges.now c.args.selection.bounds.now
+    c.args.selection.sense c.rows-rows.result.now c.columns.result.now c.row_count.result c.column_count.result
+    (entries_of c.in_ok-columns.columns.items) c.in_ok-limits.limits.items c.in_ok-lower.lower.items c.in_ok-upper.upper.items c.in_ok-sides.sides.items
+    c.deref.result.now c.rows-rows.ensures.rows c.columns.ensures.columns
+    c.row_count.ensures.count c.column_count.ensures.count c.in_ok-columns.ensures.matrix c.in_ok-limits.ensures.limits c.deref.ensures.value low high
+    c.in_ok-sides.ensures
 
 pub returns-clause-limits_made : goal.returns-clause-limits_made
 returns-clause-limits_made c =

@@ -18,7 +18,8 @@ returns-in-Ok-clause-answer g c given bytes is =
 pub returns-in-Ok-clause-accounted : goal.returns-in-Ok-clause-accounted
 returns-in-Ok-clause-accounted g c = record {
   cause =
-      run_cause (Some Read) _ _ _ _ _ c.run_program.result c.in-Ok.ensures.read c.run_program.ensures.own c.run_program.ensures.print_fault c.run_program.ensures.punch_fault;
+      run_cause (Some Read) _ _ _ _ _ c.run_program.result c.in-Ok.ensures.read c.run_program.ensures.own c.run_program.ensures.print_fault
+      c.run_program.ensures.punch_fault;
   reported = reported_unread _ _ _ _ _ (c.in-Ok.ensures.quiet (λ e. absurd (cc e))) c.run_program.ensures.reported;
   still = c.run_program.ensures.still;
   no_further = c.in-Ok.ensures.no_further;
@@ -27,7 +28,8 @@ returns-in-Ok-clause-accounted g c = record {
 pub returns-in-Err-clause-answer : goal.returns-in-Err-clause-answer
 returns-in-Err-clause-answer g c given bytes is =
     ending_answer linear_programming_of_128_bits given _ c.in-Err.stop
-    (may_stop linear_programming_of_128_bits given bytes _ _ is.has_bytes is.is_read c.in-Err.stop is.is_reported c.in-Err.ensures.stop c.in-Err.ensures.cause) (g.U.Sink.taken c.args.punch.now).written c.end_job.result (λ e. e) (λ e. e) c.end_job.ensures
+    (may_stop linear_programming_of_128_bits given bytes _ _ is.has_bytes is.is_read c.in-Err.stop is.is_reported c.in-Err.ensures.stop
+    c.in-Err.ensures.cause) (g.U.Sink.taken c.args.punch.now).written c.end_job.result (λ e. e) (λ e. e) c.end_job.ensures
 
 pub returns-in-Err-clause-accounted : goal.returns-in-Err-clause-accounted
 returns-in-Err-clause-accounted g c =

@@ -9,11 +9,13 @@ loop-number-init c = ap live (nothing_yet c.args.first c.args.cards.now)
 
 pub loop-number-preserved : goal.loop-number-preserved
 loop-number-preserved c =
-    still_none c.args.first c.loop-number.number c.args.cards.now c.card-card.result.bytes.now c.requires.from_one c.loop-number.auto.number c.card-card.ensures c.loop-number.invariant
+    still_none c.args.first c.loop-number.number c.args.cards.now c.card-card.result.bytes.now c.requires.from_one c.loop-number.auto.number
+    c.card-card.ensures c.loop-number.invariant
     (sym c.is_skipped.ensures ∙ c.if-not-is_skipped.false)
 
 pub returns-then-not-is_skipped-clause-name : goal.returns-then-not-is_skipped-clause-name
 returns-then-not-is_skipped-clause-name c =
     let below : c.loop-number.number ≤ c.args.last = omega (arith, c.min-end.ensures) in
-    name_at_first c.args.first c.loop-number.number c.args.cards.now c.card-card.result.bytes.now c.requires.from_one c.loop-number.auto.number c.card-card.ensures c.loop-number.invariant c.args.last below
+    name_at_first c.args.first c.loop-number.number c.args.cards.now c.card-card.result.bytes.now c.requires.from_one c.loop-number.auto.number
+    c.card-card.ensures c.loop-number.invariant c.args.last below
     (sym c.is_skipped.ensures ∙ c.if-not-is_skipped.true)

@@ -31,7 +31,12 @@ follow-requires-clause-parametric g c = rhs_parametric c.args.lp.now c.as_slice-
 
 pub follow-requires-clause-fits : goal.follow-requires-clause-fits
 follow-requires-clause-fits g c =
-    record { lawful = c.slope_program.ensures.lawful; no_change = c.requires.no_change; shifts = rw c.as_slice-shift.ensures.value c.requires.shifts; is_moving = c.in_ok-moving.ensures.program }
+    record {
+      lawful = c.slope_program.ensures.lawful;
+      no_change = c.requires.no_change;
+      shifts = rw c.as_slice-shift.ensures.value c.requires.shifts;
+      is_moving = c.in_ok-moving.ensures.program;
+    }
 
 pub returns-clause-ends : goal.returns-clause-ends
 returns-clause-ends g c = rw c.as_slice-shift.ensures.value at c.follow.ensures.ends

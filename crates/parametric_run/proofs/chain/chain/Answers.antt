@@ -7,7 +7,8 @@ use Rattle.lp_model.proofs.Stops.{IfOverflow-map}
 use Rattle.bounded_primal.specs.declared.moves.PrimalStop.TheVariants.{NoMemory}
 use Rattle.parametric_run.specs.Calls.{part_of}
 use Rattle.parametric_run.proofs.Chains.{before_max}
-use Rattle.parametric_run.proofs.ChainWalk.{Begins, refused_interval, progress, parts_begin, parts_more, ends_at_max, ends_past, opens_first_any, first_stops, stops_any, stood_any, follows_any, opens_more, stood_past, faces_stop_any, faces_follow_any}
+use Rattle.parametric_run.proofs.ChainWalk.{Begins, refused_interval, progress, parts_begin, parts_more, ends_at_max, ends_past, opens_first_any, first_stops}
+use Rattle.parametric_run.proofs.ChainWalk.{stops_any, stood_any, follows_any, opens_more, stood_past, faces_stop_any, faces_follow_any}
 use Rattle.parametric_run.proofs.chain.chain.Goals as goal
 
 pub returns-in_err-workspace-clause-stops : goal.returns-in_err-workspace-clause-stops
@@ -84,7 +85,8 @@ returns-then-is_last-clause-ends g c =
     let m = g.M.Parametric.problem c.args.method.now in
     let before = (g.R.Rates.state c.args.rates.now).waypoints in
     rw c.whole_run.ensures
-    (ends_at_max m c.args.span.now c.args.basis.now c.args.opened.now.left c.parts.parts.items c.parts.theta c.parts.basis c.parts.left c.parts.invariant.begins c.in_ok-interval.interval c.in_ok-interval.ensures.interval
+    (ends_at_max m c.args.span.now c.args.basis.now c.args.opened.now.left c.parts.parts.items c.parts.theta c.parts.basis c.parts.left
+    c.parts.invariant.begins c.in_ok-interval.interval c.in_ok-interval.ensures.interval
     c.keep.new.parts.items c.in_ok-keep.ensures before (g.R.Rates.state c.parts.rates).waypoints
     (same_from_test c.in_ok-interval.interval.to c.args.span.now.to (sym c.is_last.ensures ∙ c.if-is_last.true))
     (stood_any m c.args.span.now c.args.basis.now c.args.opened.now.left before c.parts.theta c.parts.basis
@@ -129,7 +131,8 @@ returns-in-Ends-clause-ends g c =
     let before_end : c.in_ok-interval.interval.to <ℚ c.args.span.now.to =
     before_max c.in_ok-interval.interval.to c.args.span.now.to c.in_ok-interval.ensures.interval.reaches.within (sym c.is_last.ensures ∙ c.if-is_last.false) in
     rw c.closed_run.ensures
-    (ends_past m c.args.span.now c.args.basis.now c.args.opened.now.left c.parts.parts.items c.parts.theta c.parts.basis c.parts.left c.parts.invariant.begins c.in_ok-interval.interval c.in_ok-interval.ensures.interval
+    (ends_past m c.args.span.now c.args.basis.now c.args.opened.now.left c.parts.parts.items c.parts.theta c.parts.basis c.parts.left c.parts.invariant.begins
+    c.in_ok-interval.interval c.in_ok-interval.ensures.interval
     c.keep.new.parts.items c.in_ok-keep.ensures before
     (g.R.Rates.state c.faces.new.rates).waypoints c.faces.new.basis last.left c.in-Ends.end before_end last.reach last.ends
     (stood_past m c.args.span.now c.args.basis.now c.args.opened.now.left before c.parts.theta c.parts.basis
@@ -150,8 +153,10 @@ parts-smaller g c =
     let done = rw c.in-Done.is at c.in_ok-after.ensures.found in
     let before_end : c.in_ok-interval.interval.to <ℚ c.args.span.now.to =
     before_max c.in_ok-interval.interval.to c.args.span.now.to c.in_ok-interval.ensures.interval.reaches.within (sym c.is_last.ensures ∙ c.if-is_last.false) in
-    progress (g.M.Parametric.problem c.args.method.now) c.requires.parametric c.parts.theta c.args.span.now.to c.parts.basis c.faces.new.basis c.in_ok-interval.interval c.parts.left c.in-Done.after
-    (record { is_basis = c.parts.invariant.rates.is_basis; nonsingular = c.parts.invariant.rates.nonsingular }) c.in_ok-interval.ensures.interval before_end done.reach done.done
+    progress (g.M.Parametric.problem c.args.method.now) c.requires.parametric c.parts.theta c.args.span.now.to c.parts.basis c.faces.new.basis
+    c.in_ok-interval.interval c.parts.left c.in-Done.after
+    (record { is_basis = c.parts.invariant.rates.is_basis; nonsingular = c.parts.invariant.rates.nonsingular }) c.in_ok-interval.ensures.interval before_end
+    done.reach done.done
 
 pub parts-preserved : goal.parts-preserved
 parts-preserved g c =
@@ -166,7 +171,8 @@ parts-preserved g c =
       forward = c.in_ok-interval.ensures.interval.reaches.within;
       within = let taken = done.reach.taken in let within = c.parts.invariant.within in omega (arith, taken, within);
       begins =
-          parts_more m c.args.span.now c.args.basis.now c.args.opened.now.left c.parts.parts.items c.parts.theta c.parts.basis c.parts.left c.parts.invariant.begins c.in_ok-interval.interval c.in_ok-interval.ensures.interval
+          parts_more m c.args.span.now c.args.basis.now c.args.opened.now.left c.parts.parts.items c.parts.theta c.parts.basis c.parts.left
+          c.parts.invariant.begins c.in_ok-interval.interval c.in_ok-interval.ensures.interval
           c.keep.new.parts.items c.in_ok-keep.ensures c.faces.new.basis c.in-Done.after before_end done.reach done.done;
       any =
           opens_more m c.args.span.now c.args.basis.now c.args.opened.now.left (g.R.Rates.state c.args.rates.now).waypoints c.parts.theta c.parts.basis

@@ -113,7 +113,8 @@ turns-preserved g c =
     let stepped =
     any_more m c.args.theta c.args.basis.now c.args.begun before c.turns.basis
     (g.R.Rates.state c.face_turn.new.rates).waypoints c.turns.left turned c.take.new.basis (g.R.Rates.state c.take.new.rates).waypoints
-    (move_by c.in-Moves.q c.in-Moves.by) c.turns.invariant.reach moves.moves moves.is_left c.in_ok-take-in-Moves.ensures.basis c.in_ok-take-in-Moves.ensures.waypoints in
+    (move_by c.in-Moves.q c.in-Moves.by) c.turns.invariant.reach moves.moves moves.is_left c.in_ok-take-in-Moves.ensures.basis
+    c.in_ok-take-in-Moves.ensures.waypoints in
     record {
       rates = c.in_ok-refresh.ensures.rates.0;
       workspace = c.in_ok-refresh.ensures.workspace;
@@ -139,7 +140,8 @@ returns-in_err-refresh-clause-found g c =
     let stepped =
     any_more m c.args.theta c.args.basis.now c.args.begun before c.turns.basis
     (g.R.Rates.state c.face_turn.new.rates).waypoints c.turns.left turned c.take.new.basis (g.R.Rates.state c.take.new.rates).waypoints
-    (move_by c.in-Moves.q c.in-Moves.by) c.turns.invariant.reach moves.moves moves.is_left c.in_ok-take-in-Moves.ensures.basis c.in_ok-take-in-Moves.ensures.waypoints in
+    (move_by c.in-Moves.q c.in-Moves.by) c.turns.invariant.reach moves.moves moves.is_left c.in_ok-take-in-Moves.ensures.basis
+    c.in_ok-take-in-Moves.ensures.waypoints in
     let reach =
     faces_more m c.args.theta c.args.basis.now c.args.begun c.turns.basis c.take.new.basis c.turns.left
     (move_by c.in-Moves.q c.in-Moves.by) c.turns.invariant.reach moves.moves moves.is_left
@@ -161,7 +163,8 @@ returns-in_err-refresh-clause-waypoints g c =
     let stepped =
     any_more m c.args.theta c.args.basis.now c.args.begun before c.turns.basis
     (g.R.Rates.state c.face_turn.new.rates).waypoints c.turns.left turned c.take.new.basis (g.R.Rates.state c.take.new.rates).waypoints
-    (move_by c.in-Moves.q c.in-Moves.by) c.turns.invariant.reach moves.moves moves.is_left c.in_ok-take-in-Moves.ensures.basis c.in_ok-take-in-Moves.ensures.waypoints in
+    (move_by c.in-Moves.q c.in-Moves.by) c.turns.invariant.reach moves.moves moves.is_left c.in_ok-take-in-Moves.ensures.basis
+    c.in_ok-take-in-Moves.ensures.waypoints in
     let reach =
     faces_more m c.args.theta c.args.basis.now c.args.begun c.turns.basis c.take.new.basis c.turns.left
     (move_by c.in-Moves.q c.in-Moves.by) c.turns.invariant.reach moves.moves moves.is_left

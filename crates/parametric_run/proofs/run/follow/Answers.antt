@@ -3,7 +3,8 @@ use Rattle.std.proofs.lemmas.Result.{err_from_is_err_and}
 use Rattle.simplex_laws.specs.Laws.{IsNonsingularBasis}
 use Rattle.lp_model.specs.declared.reports.ParaReport.TheVariants.{Opening, Run}
 use Rattle.parametric_run.proofs.Openings.{failed_by}
-use Rattle.parametric_run.proofs.OpeningFacts.{opening_follows, opening_reported, opening_within, first_optimal, first_point, first_opens, run_ends, run_true, chain_stops, method_answers}
+use Rattle.parametric_run.proofs.OpeningFacts.{opening_follows, opening_reported, opening_within, first_optimal, first_point, first_opens, run_ends, run_true}
+use Rattle.parametric_run.proofs.OpeningFacts.{chain_stops, method_answers}
 use Rattle.parametric_run.proofs.run.follow.Goals as goal
 
 pub returns-in_err-outcome-clause-waypoints : goal.returns-in_err-outcome-clause-waypoints

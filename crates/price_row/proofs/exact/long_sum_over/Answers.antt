@@ -19,8 +19,10 @@ loop-entry-preserved c =
           ∙ ap (λ x. c.loop-entry.sum +ℚ x *ℚ c.entry-item.result.rate)
           (value_at_place c.args.values.now c.entry-item.result.i w.index-values-entry.result within.0 within.1 w.index-values-entry.is)
           ∙ ap (λ s. s +ℚ value_at c.args.values.now c.entry-item.result.i *ℚ c.entry-item.result.rate) c.loop-entry.invariant
-          ∙ sym (weighted_more c.args.p c.args.values.now c.args.entries.now c.loop-entry.entry-index c.entry-item.result c.args.first c.loop-entry-test.true c.entry-item.is w.if-entry-p.true)
+          ∙ sym (weighted_more c.args.p c.args.values.now c.args.entries.now c.loop-entry.entry-index c.entry-item.result c.args.first c.loop-entry-test.true
+          c.entry-item.is w.if-entry-p.true)
       | else-entry-p w ↦
           w.sum-is ∙ c.loop-entry.invariant
-          ∙ sym (weighted_same c.args.p c.args.values.now c.args.entries.now c.loop-entry.entry-index c.entry-item.result c.args.first c.loop-entry-test.true c.entry-item.is w.if-entry-p.false)
+          ∙ sym (weighted_same c.args.p c.args.values.now c.args.entries.now c.loop-entry.entry-index c.entry-item.result c.args.first c.loop-entry-test.true
+          c.entry-item.is w.if-entry-p.false)
     ]

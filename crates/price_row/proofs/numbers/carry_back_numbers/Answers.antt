@@ -9,18 +9,21 @@ use Rattle.price_row.proofs.numbers.carry_back_numbers.Goals as goal
 
 pub sum_over_eta-requires-clause-within : goal.sum_over_eta-requires-clause-within
 sum_over_eta-requires-clause-within g c =
-    whole_within c.args.file.now c.size-size.ensures.passed c.args.place c.requires.within c.eta-eta.result.p c.eta-eta.result.q c.eta-eta.result.entries.now c.eta-eta.ensures.lent
+    whole_within c.args.file.now c.size-size.ensures.passed c.args.place c.requires.within c.eta-eta.result.p c.eta-eta.result.q c.eta-eta.result.entries.now
+    c.eta-eta.ensures.lent
     c.in-Some.whole.scale c.in-Some.whole.pivot c.in-Some.whole.entries.now c.in-Some.ensures (length c.all.result.now)
     (c.all.ensures.places ∙ c.write.ensures.places ∙ c.requires.places)
 
 pub over-requires-clause-apart : goal.over-requires-clause-apart
 over-requires-clause-apart g c =
-    whole_pivot_apart c.args.file.now c.size-size.ensures.passed c.args.place c.requires.within c.eta-eta.result.p c.eta-eta.result.q c.eta-eta.result.entries.now c.eta-eta.ensures.lent
+    whole_pivot_apart c.args.file.now c.size-size.ensures.passed c.args.place c.requires.within c.eta-eta.result.p c.eta-eta.result.q
+    c.eta-eta.result.entries.now c.eta-eta.ensures.lent
     c.in-Some.whole.scale c.in-Some.whole.pivot c.in-Some.whole.entries.now c.in-Some.ensures
 
 pub returns-then-is_zero-clause-known : goal.returns-then-is_zero-clause-known
 returns-then-is_zero-clause-known g c =
-    known_idle c.args.file.now c.size-size.ensures.passed c.args.place c.requires.within c.eta-eta.result.p c.eta-eta.result.q c.eta-eta.result.entries.now c.eta-eta.ensures.lent
+    known_idle c.args.file.now c.size-size.ensures.passed c.args.place c.requires.within c.eta-eta.result.p c.eta-eta.result.q c.eta-eta.result.entries.now
+    c.eta-eta.ensures.lent
     c.in-Some.whole.scale c.in-Some.whole.pivot c.in-Some.whole.entries.now c.in-Some.ensures
     c.args.row c.requires.basic c.size-size.ensures.nonsingular c.args.denominator (g.N.Numbers.fractions c.args.out.now) c.requires.places c.requires.known
     (g.N.Numbers.fraction c.zero.result) c.zero.ensures.value (g.N.Numbers.fractions c.write.new.self) c.in_ok-write.ensures.number c.write.ensures.places
@@ -33,13 +36,15 @@ returns-clause-known g c =
     let written = g.N.Numbers.fractions c.write-2.new.self in
     let left = g.N.Numbers.fractions c.reduce_over.new.self in
     let carried : Represent (IsKnown c.args.file.now c.args.place c.args.row) c.in_ok-denominator.denominator written =
-    known_carried c.args.file.now c.size-size.ensures.passed c.args.place c.requires.within c.eta-eta.result.p c.eta-eta.result.q c.eta-eta.result.entries.now c.eta-eta.ensures.lent
+    known_carried c.args.file.now c.size-size.ensures.passed c.args.place c.requires.within c.eta-eta.result.p c.eta-eta.result.q c.eta-eta.result.entries.now
+    c.eta-eta.ensures.lent
     c.in-Some.whole.scale c.in-Some.whole.pivot c.in-Some.whole.entries.now c.in-Some.ensures
     c.args.row c.requires.basic c.size-size.ensures.nonsingular c.args.denominator (g.N.Numbers.fractions c.args.out.now) c.requires.places c.requires.known
     (g.N.Numbers.fraction c.zero.result) c.zero.ensures.value (g.N.Numbers.fractions c.write.new.self) c.in_ok-write.ensures.number c.write.ensures.places
     (map g.N.Numbers.fraction c.all.result.now) c.all.ensures.numbers (g.N.Numbers.fraction c.in_ok-sum.sum) c.in_ok-sum.ensures.value
     c.in_ok-ratio.ratio c.terms-number.result.1 c.terms-number.result.0 c.in_ok-denominator.denominator low written
-    c.in_ok-ratio.ensures.value c.terms-number.ensures.apart c.terms-number.ensures.product c.in_ok-denominator.ensures c.in_ok-multiply_by.ensures.products c.multiply_by.ensures.places
+    c.in_ok-ratio.ensures.value c.terms-number.ensures.apart c.terms-number.ensures.product c.in_ok-denominator.ensures c.in_ok-multiply_by.ensures.products
+    c.multiply_by.ensures.places
     (c.in_ok-write-2.ensures.number ∙ ap (set low (c.eta-eta.result.p - 1)) (c.in_ok-made.ensures.value ∙ c.neg.ensures)) in
     some_map c.reduce_over.result (λ e. IsSameOver c.in_ok-denominator.denominator written e left)
     (λ e. Represent (IsKnown c.args.file.now c.args.place c.args.row) e left)

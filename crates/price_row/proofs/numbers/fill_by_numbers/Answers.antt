@@ -9,7 +9,8 @@ loop-place-preserved g c =
     record {
       counted = search rules;
       filled =
-          filled_next c.args.file.now c.loop-place.place c.args.row c.loop-place.out c.in_ok-out.field-0 below c.loop-place.invariant.filled c.in_ok-out.ensures;
+          filled_next c.args.file.now c.loop-place.place c.args.row c.loop-place.out c.in_ok-out.field-0 below c.loop-place.invariant.filled
+          c.in_ok-out.ensures;
     }
 
 pub returns : goal.returns

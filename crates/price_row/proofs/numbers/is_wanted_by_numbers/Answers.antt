@@ -1,7 +1,8 @@
 use Rattle.std.proofs.Common.{◌∙◌, sym}
 use Rattle.price_row.proofs.WantedSigns.{nothing_there, basic_there, number_there}
 use Rattle.price_row.proofs.numbers.is_wanted_by_numbers.Goals as goal
-use Rattle.price_row.proofs.numbers.is_wanted_by_numbers.Goals.{then-is_nothing_wanted-via-then-is_nothing_wanted, then-is_nothing_wanted-via-else-is_nothing_wanted+then-is_basic}
+use Rattle.price_row.proofs.numbers.is_wanted_by_numbers.Goals.{then-is_nothing_wanted-via-then-is_nothing_wanted}
+use Rattle.price_row.proofs.numbers.is_wanted_by_numbers.Goals.{then-is_nothing_wanted-via-else-is_nothing_wanted+then-is_basic}
 
 pub returns-then-is_nothing_wanted : goal.returns-then-is_nothing_wanted
 returns-then-is_nothing_wanted g c = λ denominator known is_up rates row. elim c.then-is_nothing_wanted.branch [

@@ -25,6 +25,8 @@ returns-in_err-sum-clause-refused c =
     subst (λ (x : Entry). IsRowPlace (length c.args.values.now) x) (sym c.entry-item.is)
     (c.requires c.loop-entry.entry-index c.entry-item.result c.loop-entry-test.true) in
     rw is_err
-    (products_refused c.args.values.now c.args.column.now c.loop-entry.entry-index c.entry-item.result c.loop-entry.sum c.index-values-entry.result c.in_err-sum.field-0.0
+    (products_refused c.args.values.now c.args.column.now c.loop-entry.entry-index c.entry-item.result c.loop-entry.sum c.index-values-entry.result
+    c.in_err-sum.field-0.0
     c.loop-entry-test.true c.entry-item.is c.loop-entry.invariant
-    (value_at_place c.args.values.now c.entry-item.result.row c.index-values-entry.result within.0 within.1 c.index-values-entry.is) c.in_err-sum.ensures.refused)
+    (value_at_place c.args.values.now c.entry-item.result.row c.index-values-entry.result within.0 within.1 c.index-values-entry.is)
+    c.in_err-sum.ensures.refused)

@@ -20,10 +20,12 @@ loop-entry-preserved c =
           ∙ ap (λ x. c.loop-entry.sum +ℚ x *ℚ c.entry-item.result.rate)
           (value_at_place c.args.values.now c.entry-item.result.i w.index-values-entry.result within.0 within.1 w.index-values-entry.is)
           ∙ ap (λ s. s +ℚ value_at c.args.values.now c.entry-item.result.i *ℚ c.entry-item.result.rate) c.loop-entry.invariant
-          ∙ sym (weighted_more c.args.p c.args.values.now c.args.entries.now c.loop-entry.entry-index c.entry-item.result c.args.first c.loop-entry-test.true c.entry-item.is w.if-entry-p.true)
+          ∙ sym (weighted_more c.args.p c.args.values.now c.args.entries.now c.loop-entry.entry-index c.entry-item.result c.args.first c.loop-entry-test.true
+          c.entry-item.is w.if-entry-p.true)
       | else-entry-p w ↦
           w.sum-is ∙ c.loop-entry.invariant
-          ∙ sym (weighted_same c.args.p c.args.values.now c.args.entries.now c.loop-entry.entry-index c.entry-item.result c.args.first c.loop-entry-test.true c.entry-item.is w.if-entry-p.false)
+          ∙ sym (weighted_same c.args.p c.args.values.now c.args.entries.now c.loop-entry.entry-index c.entry-item.result c.args.first c.loop-entry-test.true
+          c.entry-item.is w.if-entry-p.false)
     ]
 
 pub returns-in_err-sum-clause-refused : goal.returns-in_err-sum-clause-refused
@@ -33,7 +35,8 @@ returns-in_err-sum-clause-refused c =
     subst (λ (x : EtaEntry). IsEntryWithin (length c.args.values.now) x) (sym c.entry-item.is)
     (c.requires c.loop-entry.entry-index c.entry-item.result c.loop-entry-test.true) in
     rw is_err
-    (weighted_refused c.args.p c.args.first c.args.values.now c.args.entries.now c.loop-entry.entry-index c.entry-item.result c.loop-entry.sum c.index-values-entry.result c.in_err-sum.field-0.0
+    (weighted_refused c.args.p c.args.first c.args.values.now c.args.entries.now c.loop-entry.entry-index c.entry-item.result c.loop-entry.sum
+    c.index-values-entry.result c.in_err-sum.field-0.0
     c.loop-entry-test.true c.entry-item.is c.if-entry-p.true c.loop-entry.invariant
     (value_at_place c.args.values.now c.entry-item.result.i c.index-values-entry.result within.0 within.1 c.index-values-entry.is)
     (subst (λ y. IsStepRefused c.loop-entry.sum c.index-values-entry.result y c.in_err-sum.field-0.0) c.reduced.ensures c.in_err-sum.ensures.refused))

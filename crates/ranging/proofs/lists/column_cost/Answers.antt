@@ -16,7 +16,8 @@ use Rattle.lp_laws.proofs.Places.{value_read}
 pub returns-then-stands_basic-clause-interval : goal.returns-then-stands_basic-clause-interval
 returns-then-stands_basic-clause-interval c =
     let basic =
-    basic_by_test c.args.at.now.lp.now c.args.at.now.basis.now c.args.k c.stands_basic.result c.requires.optimum.optimal.is_basis.counted c.requires.variable c.stands_basic.ensures c.if-stands_basic.true in
+    basic_by_test c.args.at.now.lp.now c.args.at.now.basis.now c.args.k c.stands_basic.result c.requires.optimum.optimal.is_basis.counted c.requires.variable
+    c.stands_basic.ensures c.if-stands_basic.true in
     let past = c.requires.past in
     let rows : c.lp.inside.rows ≡ c.args.at.now.lp.now.matrix.rows = search rules in
     let costs : c.cost.result ≡ cost c.args.at.now.lp.now (c.args.k - c.args.at.now.lp.now.matrix.rows) =
@@ -29,12 +30,14 @@ returns-then-stands_basic-clause-interval c =
     IfOk-map c.cost_interval.result
     (λ interval is t. subst (λ i. IsIn i t ↔ IsOptimalBasis (with_cost c.args.at.now.lp.now c.args.k t) c.args.at.now.basis.now)
     (sym (is ∙ ap (λ v. taken_from v c.index-found-k.result) costs))
-    (column_exact c.args.at.now.lp.now c.args.at.now.basis.now c.requires.optimum.lawful c.requires.optimum.no_change c.requires.optimum.optimal c.args.k c.requires.variable c.requires.past c.index-found-k.result of_row t)) c.cost_interval.ensures.interval
+    (column_exact c.args.at.now.lp.now c.args.at.now.basis.now c.requires.optimum.lawful c.requires.optimum.no_change c.requires.optimum.optimal c.args.k
+    c.requires.variable c.requires.past c.index-found-k.result of_row t)) c.cost_interval.ensures.interval
 
 pub returns-then-stands_basic-clause-refused : goal.returns-then-stands_basic-clause-refused
 returns-then-stands_basic-clause-refused c =
     let basic =
-    basic_by_test c.args.at.now.lp.now c.args.at.now.basis.now c.args.k c.stands_basic.result c.requires.optimum.optimal.is_basis.counted c.requires.variable c.stands_basic.ensures c.if-stands_basic.true in
+    basic_by_test c.args.at.now.lp.now c.args.at.now.basis.now c.args.k c.stands_basic.result c.requires.optimum.optimal.is_basis.counted c.requires.variable
+    c.stands_basic.ensures c.if-stands_basic.true in
     let past = c.requires.past in
     let rows : c.lp.inside.rows ≡ c.args.at.now.lp.now.matrix.rows = search rules in
     let costs : c.cost.result ≡ cost c.args.at.now.lp.now (c.args.k - c.args.at.now.lp.now.matrix.rows) =
@@ -45,16 +48,19 @@ returns-then-stands_basic-clause-refused c =
     (sym (ends_read c.args.found.now c.args.k c.index-found-k.result (omega arith) c.index-found-k.is))
     (c.requires.found.each c.args.k c.requires.variable.0 c.requires.variable.1 basic (λ e. absurd (omega (arith, e, row.1, past)))) in
     IfErr-map c.cost_interval.result
-    (λ e h. basic_cost_refused c.args.at.now.lp.now c.args.at.now.basis.now c.requires.optimum.lawful c.requires.optimum.no_change c.requires.optimum.optimal c.args.k (c.requires.variable, basic) c.requires.past c.index-found-k.result of_row e
+    (λ e h. basic_cost_refused c.args.at.now.lp.now c.args.at.now.basis.now c.requires.optimum.lawful c.requires.optimum.no_change c.requires.optimum.optimal
+    c.args.k (c.requires.variable, basic) c.requires.past c.index-found-k.result of_row e
     (subst (λ v. DifferenceRefused v c.index-found-k.result c.args.k e) costs h)) c.cost_interval.ensures.refused
 
 pub returns-clause-interval : goal.returns-clause-interval
 returns-clause-interval c =
     let out =
-    nonbasic_by_test c.args.at.now.lp.now c.args.at.now.basis.now c.args.k c.stands_basic.result c.requires.optimum.optimal.is_basis.counted c.requires.variable c.stands_basic.ensures c.if-stands_basic.false in
+    nonbasic_by_test c.args.at.now.lp.now c.args.at.now.basis.now c.args.k c.stands_basic.result c.requires.optimum.optimal.is_basis.counted
+    c.requires.variable c.stands_basic.ensures c.if-stands_basic.false in
     IfOk-map c.nonbasic_cost.result
     (λ interval is t. subst (λ i. IsIn i t ↔ IsOptimalBasis (with_cost c.args.at.now.lp.now c.args.k t) c.args.at.now.basis.now) (sym is)
-    (column_exact c.args.at.now.lp.now c.args.at.now.basis.now c.requires.optimum.lawful c.requires.optimum.no_change c.requires.optimum.optimal c.args.k c.requires.variable c.requires.past _
+    (column_exact c.args.at.now.lp.now c.args.at.now.basis.now c.requires.optimum.lawful c.requires.optimum.no_change c.requires.optimum.optimal c.args.k
+    c.requires.variable c.requires.past _
     (own_ends_are c.args.at.now.lp.now c.args.at.now.basis.now c.requires.optimum.lawful c.requires.optimum.no_change c.requires.optimum.optimal
     (value_at c.args.at.now.prices.now) c.requires.optimum.prices c.args.k (c.requires.variable, out) c.index-prices-k.result
     (value_read c.args.at.now.prices.now c.args.k c.index-prices-k.result
@@ -63,7 +69,8 @@ returns-clause-interval c =
 pub returns-clause-refused : goal.returns-clause-refused
 returns-clause-refused c =
     let out =
-    nonbasic_by_test c.args.at.now.lp.now c.args.at.now.basis.now c.args.k c.stands_basic.result c.requires.optimum.optimal.is_basis.counted c.requires.variable c.stands_basic.ensures c.if-stands_basic.false in
+    nonbasic_by_test c.args.at.now.lp.now c.args.at.now.basis.now c.args.k c.stands_basic.result c.requires.optimum.optimal.is_basis.counted
+    c.requires.variable c.stands_basic.ensures c.if-stands_basic.false in
     IfErr-map c.nonbasic_cost.result
     (λ e h. nonbasic_cost_refused c.args.at.now.lp.now c.args.at.now.basis.now c.requires.optimum.lawful c.requires.optimum.no_change c.requires.optimum.optimal
     (value_at c.args.at.now.prices.now) c.requires.optimum.prices c.args.k (c.requires.variable, out) c.index-prices-k.result

@@ -11,14 +11,16 @@ returns-then-not-stands_basic-clause-met g c =
     let low = c.requires.variable.0 in
     met_skipped c.args.at.now.lp.now c.args.at.now.basis.now c.requires.optimum.lawful c.requires.optimum.no_change c.requires.optimum.optimal
     (value_at c.args.at.now.point.now) c.requires.optimum.point (c.args.i - 1) c.args.i (omega arith)
-    (nonbasic_by_test c.args.at.now.lp.now c.args.at.now.basis.now c.args.i c.stands_basic.result c.requires.rates.is_basis.counted c.requires.variable c.stands_basic.ensures c.if-not-stands_basic.true) c.args.ends.now c.requires.met
+    (nonbasic_by_test c.args.at.now.lp.now c.args.at.now.basis.now c.args.i c.stands_basic.result c.requires.rates.is_basis.counted c.requires.variable
+    c.stands_basic.ensures c.if-not-stands_basic.true) c.args.ends.now c.requires.met
 
 pub returns-then-not-stands_basic-clause-found : goal.returns-then-not-stands_basic-clause-found
 returns-then-not-stands_basic-clause-found g c =
     let low = c.requires.variable.0 in
     found_skipped c.args.at.now.lp.now c.args.at.now.basis.now (c.args.i - 1) c.args.i (omega arith)
     (λ basic other. clash
-    (sym basic ∙ nonbasic_by_test c.args.at.now.lp.now c.args.at.now.basis.now c.args.i c.stands_basic.result c.requires.rates.is_basis.counted c.requires.variable c.stands_basic.ensures c.if-not-stands_basic.true)) c.args.found.now c.requires.found
+    (sym basic ∙ nonbasic_by_test c.args.at.now.lp.now c.args.at.now.basis.now c.args.i c.stands_basic.result c.requires.rates.is_basis.counted
+    c.requires.variable c.stands_basic.ensures c.if-not-stands_basic.true)) c.args.found.now c.requires.found
 
 pub returns-then-not-stands_basic-clause-rates : goal.returns-then-not-stands_basic-clause-rates
 returns-then-not-stands_basic-clause-rates g c = kept_same (g.R.Rates.state c.args.rates.now).waypoints c.requires.rates

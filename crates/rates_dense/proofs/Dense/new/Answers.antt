@@ -14,5 +14,9 @@ invariant_of-result c =
     let counted : length c.in_ok-vec.field-0.items ≡ c.number_of_variables-size.result = search rules in
     let changed : length c.in_ok-vec-2.field-0.items ≡ c.number_of_variables-size.result = search rules in
     let changing : length c.in_ok-vec-3.field-0.items ≡ c.lp.inside.rows = search rules in
-    rw (c.in_ok-copied_columns.ensures, c.in_ok-opening_marks.ensures, ← c.lp.view_is)
-    (opening_table a c.lp.invariant.is_matrix.small c.in_ok-opening_slots.field-0.items c.in_ok-opening_lines.field-0.items c.in_ok-vec.field-0.items in_order are (counted ∙ is_size), changed ∙ is_size, changing ∙ sym are.counted)
+    rw (c.in_ok-copied_columns.ensures, c.in_ok-opening_marks.ensures, ← c.lp.view_is) (
+      opening_table a c.lp.invariant.is_matrix.small c.in_ok-opening_slots.field-0.items c.in_ok-opening_lines.field-0.items c.in_ok-vec.field-0.items in_order
+          are (counted ∙ is_size),
+      changed ∙ is_size,
+      changing ∙ sym are.counted,
+    )

@@ -13,8 +13,13 @@ exchange_lines-requires-clause-pivot c =
     let leaves : IsBasic inverse.matrix inverse.basics c.args.p = rw (← c.self.view_is) at c.requires.leaves in
     let enters : IsNonbasic inverse.matrix inverse.basics c.args.q = rw (← c.self.view_is) at c.requires.enters in
     let pivot : HasPivot inverse.matrix inverse.basics c.args.p c.args.q = rw (← c.self.view_is) at c.requires.pivot in
-    rw (c.deref_mut.ensures.value, slot_read inverse.matrix inverse.basics c.self.inside.slots.items c.self.inside.lines.items c.self.inside.quotients.items c.self.invariant.0 c.args.p c.args.q leaves enters pivot c.index-slot.result.now c.index-slot.ensures)
-    (leaver_apart inverse.matrix inverse.basics c.self.inside.slots.items c.self.inside.lines.items c.self.inside.quotients.items c.self.invariant.0 c.args.p c.args.q leaves enters pivot)
+    rw (
+      c.deref_mut.ensures.value,
+      slot_read inverse.matrix inverse.basics c.self.inside.slots.items c.self.inside.lines.items c.self.inside.quotients.items
+          c.self.invariant.0 c.args.p c.args.q leaves enters pivot c.index-slot.result.now c.index-slot.ensures,
+    )
+    (leaver_apart inverse.matrix inverse.basics c.self.inside.slots.items c.self.inside.lines.items c.self.inside.quotients.items c.self.invariant.0 c.args.p
+    c.args.q leaves enters pivot)
 
 pub invariant_of-self : goal.invariant_of-self
 invariant_of-self c =
@@ -42,8 +47,13 @@ returns-in-Err-clause-overflow c =
     let enters : IsNonbasic inverse.matrix inverse.basics c.args.q = rw (← c.self.view_is) at c.requires.enters in
     let pivot : HasPivot inverse.matrix inverse.basics c.args.p c.args.q = rw (← c.self.view_is) at c.requires.pivot in
     rw (← c.self.view_is)
-    (lines_refused inverse.matrix inverse.basics c.self.inside.slots.items c.self.inside.lines.items c.self.inside.quotients.items c.self.invariant.0 c.args.p c.args.q leaves enters pivot c.in-Err.evidence
-    (rw (c.deref_mut.ensures.value, slot_read inverse.matrix inverse.basics c.self.inside.slots.items c.self.inside.lines.items c.self.inside.quotients.items c.self.invariant.0 c.args.p c.args.q leaves enters pivot c.index-slot.result.now c.index-slot.ensures) at c.in-Err.ensures.refused))
+    (lines_refused inverse.matrix inverse.basics c.self.inside.slots.items c.self.inside.lines.items c.self.inside.quotients.items c.self.invariant.0 c.args.p
+    c.args.q leaves enters pivot c.in-Err.evidence
+    (rw (
+      c.deref_mut.ensures.value,
+      slot_read inverse.matrix inverse.basics c.self.inside.slots.items c.self.inside.lines.items c.self.inside.quotients.items
+          c.self.invariant.0 c.args.p c.args.q leaves enters pivot c.index-slot.result.now c.index-slot.ensures,
+    ) at c.in-Err.ensures.refused))
 
 pub returns-in-Err-clause-own : goal.returns-in-Err-clause-own
 returns-in-Err-clause-own c =
@@ -52,10 +62,12 @@ returns-in-Err-clause-own c =
     let enters : IsNonbasic inverse.matrix inverse.basics c.args.q = rw (← c.self.view_is) at c.requires.enters in
     let pivot : HasPivot inverse.matrix inverse.basics c.args.p c.args.q = rw (← c.self.view_is) at c.requires.pivot in
     let is_slot : c.index-slot.result.now ≡ get_or c.self.inside.slots.items (c.args.p - 1) 0 =
-    slot_read inverse.matrix inverse.basics c.self.inside.slots.items c.self.inside.lines.items c.self.inside.quotients.items c.self.invariant.0 c.args.p c.args.q leaves enters pivot c.index-slot.result.now c.index-slot.ensures in
+    slot_read inverse.matrix inverse.basics c.self.inside.slots.items c.self.inside.lines.items c.self.inside.quotients.items c.self.invariant.0 c.args.p
+    c.args.q leaves enters pivot c.index-slot.result.now c.index-slot.ensures in
     let within : c.index-slot.result.now < length c.deref_mut.result.now =
     rw (c.deref_mut.ensures.value, is_slot)
-    (slot_within inverse.matrix inverse.basics c.self.inside.slots.items c.self.inside.lines.items c.self.inside.quotients.items c.self.invariant.0 c.args.p c.args.q leaves enters pivot) in
+    (slot_within inverse.matrix inverse.basics c.self.inside.slots.items c.self.inside.lines.items c.self.inside.quotients.items c.self.invariant.0 c.args.p
+    c.args.q leaves enters pivot) in
     lines_own c.args.p c.args.q c.deref_mut.result.now c.index-slot.result.now c.in-Err.evidence within c.in-Err.ensures.refused
 
 pub invariant_of-self-2 : goal.invariant_of-self-2
@@ -69,7 +81,8 @@ invariant_of-self-2 c =
     let same_changed : length c.exchange_lines.new.changed ≡ length c.self.inside.changed.items = search rules in
     let same_changing : length c.exchange_lines.new.changing ≡ length c.self.inside.changing.items = search rules in
     let is_slot : c.index-slot.result.now ≡ get_or c.self.inside.slots.items (c.args.p - 1) 0 =
-    slot_read inverse.matrix inverse.basics c.self.inside.slots.items c.self.inside.lines.items c.self.inside.quotients.items c.self.invariant.0 c.args.p c.args.q leaves enters pivot c.index-slot.result.now c.index-slot.ensures in
+    slot_read inverse.matrix inverse.basics c.self.inside.slots.items c.self.inside.lines.items c.self.inside.quotients.items c.self.invariant.0 c.args.p
+    c.args.q leaves enters pivot c.index-slot.result.now c.index-slot.ensures in
     rw (
       came_back c.exchange_lines.new.lines c.self.inside.lines.items c.self.inside.lines.len same_lines (search rules),
       came_back c.exchange_lines.new.quotients c.self.inside.quotients.items c.self.inside.quotients.len same_quotients (search rules),
@@ -77,7 +90,8 @@ invariant_of-self-2 c =
       came_back c.exchange_lines.new.changing c.self.inside.changing.items c.self.inside.changing.len same_changing (search rules),
       is_slot,
     ) (
-      table_then inverse.matrix inverse.basics c.self.inside.slots.items c.self.inside.lines.items c.self.inside.quotients.items c.self.invariant.0 c.args.p c.args.q leaves enters pivot
+      table_then inverse.matrix inverse.basics c.self.inside.slots.items c.self.inside.lines.items c.self.inside.quotients.items c.self.invariant.0 c.args.p
+          c.args.q leaves enters pivot
           c.exchange_lines.new.quotients (same_quotients ∙ c.self.invariant.0.room) (rw (c.deref_mut.ensures.value, is_slot) at c.in_default.ensures.quotients)
           c.exchange_lines.new.lines same_lines (rw c.deref_mut.ensures.value at c.in_default.ensures.lines),
       same_changed ∙ c.self.invariant.1,

@@ -13,7 +13,8 @@ pub returns-in_err-quotients-clause-refused : goal.returns-in_err-quotients-clau
 returns-in_err-quotients-clause-refused c =
     let is_err : c.from_residual-in_err-quotients.result ≡ Err c.in_err-quotients.field-0.0 = search rules in
     rw is_err
-    (rate_refused c.args.exchange.now.p c.args.exchange.now.q c.args.rates.now c.loop-k.k c.index-rates-k.result c.index-rates-q.result c.in_err-quotients.field-0.0
+    (rate_refused c.args.exchange.now.p c.args.exchange.now.q c.args.rates.now c.loop-k.k c.index-rates-k.result c.index-rates-q.result
+    c.in_err-quotients.field-0.0
     (search rules) (read_at c.args.rates.now c.loop-k.k c.index-rates-k.result (search rules) c.index-rates-k.is)
     (value_at_place c.args.rates.now c.args.exchange.now.q c.index-rates-q.result c.requires.q_low c.requires.q_high c.index-rates-q.is)
     c.in_err-quotients.ensures.needed c.in_err-quotients.ensures.refused)
@@ -46,8 +47,10 @@ loop-k-preserved c =
     let pivot : c.index-rates-q.result ≡ value_at c.args.rates.now c.args.exchange.now.q =
     value_at_place c.args.rates.now c.args.exchange.now.q c.index-rates-q.result c.requires.q_low c.requires.q_high c.index-rates-q.is in
     let is : c.if-j-p-2.quotients ≡ f j = elim c.if-j-p-2.branch [
-      | then-j-p-2+in_ok-reciprocal w ↦ quotient_own c.args.exchange.now.p c.args.exchange.now.q c.args.rates.now j c.if-j-p-2.quotients c.index-rates-q.result w.if-j-p-2.true pivot (w.quotients-is ∙ w.in_ok-reciprocal.ensures.value)
-      | else-j-p-2+in_ok-quotients w ↦ quotient_other c.args.exchange.now.p c.args.exchange.now.q c.args.rates.now j c.if-j-p-2.quotients c.index-rates-k.result c.index-rates-q.result w.if-j-p-2.false here pivot (w.quotients-is ∙ w.in_ok-quotients.ensures.value)
+      | then-j-p-2+in_ok-reciprocal w ↦ quotient_own c.args.exchange.now.p c.args.exchange.now.q c.args.rates.now j c.if-j-p-2.quotients
+          c.index-rates-q.result w.if-j-p-2.true pivot (w.quotients-is ∙ w.in_ok-reciprocal.ensures.value)
+      | else-j-p-2+in_ok-quotients w ↦ quotient_other c.args.exchange.now.p c.args.exchange.now.q c.args.rates.now j c.if-j-p-2.quotients
+          c.index-rates-k.result c.index-rates-q.result w.if-j-p-2.false here pivot (w.quotients-is ∙ w.in_ok-quotients.ensures.value)
     ] in
     record {
       filled =

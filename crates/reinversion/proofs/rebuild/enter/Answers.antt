@@ -21,7 +21,8 @@ leaver-p-requires-clause-some c =
     (subst (λ n. IsDirectionOf c.args.new.now.matrix c.args.new.now.basics (n + c.args.c) (value_at c.values.result.now)) c.rows.ensures
     (subst (λ xs. IsDirectionOf c.args.new.now.matrix c.args.new.now.basics (c.rows.result + c.args.c) (value_at xs))
     (sym c.values.ensures) c.in_default.ensures.direction)) in
-    some_leaver c.args.old.now.matrix c.args.old.now.basics c.args.c c.args.new.now c.values.result.now c.size-size.ensures.nonsingular c.requires.column basic c.requires.rebuilt direction
+    some_leaver c.args.old.now.matrix c.args.old.now.basics c.args.c c.args.new.now c.values.result.now c.size-size.ensures.nonsingular c.requires.column
+    basic c.requires.rebuilt direction
 
 pub returns-clause-keeps : goal.returns-clause-keeps
 returns-clause-keeps c n h =

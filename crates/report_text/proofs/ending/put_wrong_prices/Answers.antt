@@ -9,4 +9,5 @@ pub returns : goal.returns
 returns g c =
     writes_same (ap
     (λ n. concat
-    (codes "STOP 10 VERB " ∷ fault_text n c.args.card ∷ codes " VARIABLE " ∷ digits c.args.variable ∷ codes "\n" ∷ [])) c.verb_fault_number.ensures) c.put_fault_at.ensures
+    (codes "STOP 10 VERB " ∷ fault_text n c.args.card ∷ codes " VARIABLE " ∷ digits c.args.variable ∷ codes "\n" ∷ [])) c.verb_fault_number.ensures)
+    c.put_fault_at.ensures

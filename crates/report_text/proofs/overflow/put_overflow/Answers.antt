@@ -14,7 +14,8 @@ returns-in_err-put_evidence_head g c =
     rw (p.1, p.2)
     (writes_same (overflow_parts c.args.evidence.now place c.args.card)
     (writes_more
-    (concat (evidence_tail c.args.evidence.now ∷ codes " CARD " ∷ digits c.args.card ∷ codes "\n" ∷ []) ++ place_text place) c.in_err-put_evidence_head.ensures))
+    (concat (evidence_tail c.args.evidence.now ∷ codes " CARD " ∷ digits c.args.card ∷ codes "\n" ∷ []) ++ place_text place)
+    c.in_err-put_evidence_head.ensures))
 
 pub returns-in_err-put_evidence_tail : goal.returns-in_err-put_evidence_tail
 returns-in_err-put_evidence_tail g c =

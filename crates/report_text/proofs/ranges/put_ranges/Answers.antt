@@ -1,7 +1,8 @@
 use Rattle.std.proofs.Common.{◌++◌}
 use Rattle.std.proofs.lemmas.Result.{err_from_is_err_and}
 use Rattle.job_devices.proofs.TextLemmas.{writes_then, writes_more, writes_same}
-use Rattle.report_text.proofs.RangeParts.{limit_rows_lines, limit_columns_lines, between_rows_lines, between_columns_lines, limit_rows_text, limit_columns_text, between_rows_text, between_columns_text, ranges_written}
+use Rattle.report_text.proofs.RangeParts.{limit_rows_lines, limit_columns_lines, between_rows_lines, between_columns_lines, limit_rows_text, limit_columns_text}
+use Rattle.report_text.proofs.RangeParts.{between_rows_text, between_columns_text, ranges_written}
 use Rattle.report_text.proofs.ranges.put_ranges.Goals as goal
 
 pub put_row_section-requires : goal.put_row_section-requires

@@ -14,7 +14,8 @@ pub returns-in-Unbounded : goal.returns-in-Unbounded
 returns-in-Unbounded g c =
     rw c.in-Unbounded.is
     (writes_same
-    (pair_table c.args.sheet c.number_of_variables-last.result c.number_of_variables-last.ensures.size c.values-in-Unbounded.result c.values-in-Unbounded-2.result
+    (pair_table c.args.sheet c.number_of_variables-last.result c.number_of_variables-last.ensures.size c.values-in-Unbounded.result
+    c.values-in-Unbounded-2.result
     ∙ ap (λ point. table_text (pair_lines c.args.sheet.problem.now c.args.sheet.lp.now point c.values-in-Unbounded-2.result.now)) c.values-in-Unbounded.ensures
     ∙ ap (λ direction. table_text
     (pair_lines c.args.sheet.problem.now c.args.sheet.lp.now c.in-Unbounded.point direction)) c.values-in-Unbounded-2.ensures) c.put_table-in-Unbounded.ensures)

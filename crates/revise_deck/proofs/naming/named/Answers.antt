@@ -9,9 +9,11 @@ use Rattle.revise_deck.proofs.naming.named.Goals as goal
 
 pub returns : goal.returns
 returns c =
-    named_by_parts c.args.problem.now c.rows-rows.result.now c.columns-columns.result.now c.rhs.result.now c.ranges-2.result.now c.bounds.result.now c.name.result
+    named_by_parts c.args.problem.now c.rows-rows.result.now c.columns-columns.result.now c.rhs.result.now c.ranges-2.result.now c.bounds.result.now
+    c.name.result
     c.name.ensures.name c.rows-rows.ensures.rows c.columns-columns.ensures.columns c.rhs.ensures.rhs c.ranges-2.ensures.ranges c.bounds.ensures.bounds
-    _ _ _ _ _ c.in_ok-named_rows.ensures c.in_ok-named_groups.ensures c.in_ok-named_groups-2.ensures c.in_ok-named_groups-3.ensures c.in_ok-named_bound_sets.ensures
+    _ _ _ _ _ c.in_ok-named_rows.ensures c.in_ok-named_groups.ensures c.in_ok-named_groups-2.ensures c.in_ok-named_groups-3.ensures
+    c.in_ok-named_bound_sets.ensures
 
 -- the entries of groups differ, by the names of these rows, and the bounds of sets, by the names of these columns
 abbrev differ : List (Row ℕ) → List (Group (Entry ℕ)) → Type 0

@@ -8,4 +8,5 @@ pub add-requires : goal.add-requires
 add-requires c =
     bound_is_new
     (bound_by (name_at
-    (group_names c.args.columns.now))) c.args.bounds.now _ c.loop-bound.bound-index _ c.bound-item.result _ c.requires c.loop-bound-test.true c.bound-item.is c.named_bound.ensures c.loop-bound.invariant
+    (group_names c.args.columns.now))) c.args.bounds.now _ c.loop-bound.bound-index _ c.bound-item.result _ c.requires c.loop-bound-test.true c.bound-item.is
+    c.named_bound.ensures c.loop-bound.invariant

@@ -13,7 +13,8 @@ named_entries-requires c =
     (each_at (λ group. AreDifferentEntries group.items)
     (group_by (entry_by
     (name_at (map
-    (λ row. row.name) c.args.rows.now)))) c.args.groups.now c.loop-group.group-index _ c.group-item.result c.requires.items c.loop-group-test.true c.group-item.is)
+    (λ row. row.name) c.args.rows.now)))) c.args.groups.now c.loop-group.group-index _ c.group-item.result c.requires.items c.loop-group-test.true
+    c.group-item.is)
 
 pub add-requires : goal.add-requires
 add-requires c =

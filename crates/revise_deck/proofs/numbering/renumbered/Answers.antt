@@ -40,11 +40,13 @@ pub returns : goal.returns
 unfolding by_row
 returns c =
     c.new.ensures
-    ∙ same_parts c.args.name c.problem.inside.name c.problem.inside.rows c.problem.inside.columns c.problem.inside.rhs c.problem.inside.ranges c.problem.inside.bounds c.args.problem.now _ _ _ _ _ c.problem.view_is
+    ∙ same_parts c.args.name c.problem.inside.name c.problem.inside.rows c.problem.inside.columns c.problem.inside.rhs c.problem.inside.ranges
+    c.problem.inside.bounds c.args.problem.now _ _ _ _ _ c.problem.view_is
     c.in_ok-rows.ensures c.in_ok-columns.ensures c.in_ok-rhs.ensures c.in_ok-ranges.ensures c.in_ok-bounds.ensures
 
 pub new-requires : goal.new-requires
 unfolding by_row
 new-requires c =
-    by_parts c.args.name c.problem.inside.name c.problem.inside.rows c.problem.inside.columns c.problem.inside.rhs c.problem.inside.ranges c.problem.inside.bounds c.args.problem.now _ _ _ _ _ c.problem.view_is c.requires
+    by_parts c.args.name c.problem.inside.name c.problem.inside.rows c.problem.inside.columns c.problem.inside.rhs c.problem.inside.ranges
+    c.problem.inside.bounds c.args.problem.now _ _ _ _ _ c.problem.view_is c.requires
     c.in_ok-rows.ensures c.in_ok-columns.ensures c.in_ok-rhs.ensures c.in_ok-ranges.ensures c.in_ok-bounds.ensures

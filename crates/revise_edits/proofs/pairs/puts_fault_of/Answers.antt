@@ -11,7 +11,8 @@ returns-in-Some c =
     (unwrap_or (option_copied c.args.items) []) c.args.count c.first_of.result c.put_fault_at-fault.result c.put_fault_at-other.result
     c.stands_on-is_first.result c.is_second_there-is_second.result c.count_with-more.result (pair_view c.first_pair-first.result) (pair_view c.in-Some.second)
     (pairs_of (viewed c.args.card.now))
-    c.first_of.ensures c.put_fault_at-fault.ensures c.stands_on-is_first.ensures c.put_fault_at-other.ensures c.is_second_there-is_second.ensures c.count_with-more.ensures
+    c.first_of.ensures c.put_fault_at-fault.ensures c.stands_on-is_first.ensures c.put_fault_at-other.ensures c.is_second_there-is_second.ensures
+    c.count_with-more.ensures
     (sym (ap₂ (λ first rest. first ∷ rest) c.first_pair-first.ensures c.in-Some.ensures))
 
 pub returns-in-None : goal.returns-in-None

@@ -27,7 +27,8 @@ punch_basis-requires g c =
     (ready_rates c.args.machine.now.file _
     (ready_of c.args.machine.now.file c.args.machine.now.setup _
     (c.in-Some.is
-    ∙ ap Some (sym c.setup.view_is)) c.requires) c.problem_on_file-problem.result.now c.problem_on_file-problem.ensures c.args.machine.now.cells c.in-Ok.lp c.in-Ok.ensures.selected).is_basis
+    ∙ ap Some (sym c.setup.view_is)) c.requires) c.problem_on_file-problem.result.now c.problem_on_file-problem.ensures c.args.machine.now.cells c.in-Ok.lp
+    c.in-Ok.ensures.selected).is_basis
 
 pub returns-in-Err-punch_basis : goal.returns-in-Err-punch_basis
 returns-in-Err-punch_basis g c = λ cards.
@@ -43,7 +44,8 @@ returns-in_err-text_of g c = λ cards.
     (deck_line_cut c.args.card cards c.args.machine.now _
     (c.in-Some.is
     ∙ ap Some (sym c.setup.view_is)) c.problem_on_file-problem.result.now c.problem_on_file-problem.ensures c.in-Ok.lp c.in-Ok.ensures.selected
-    c.name.result c.name.ensures.name c.in-Ok-punch_basis.count c.in-Ok-punch_basis.ensures.counted c.in-Ok-punch_basis.ensures.writes _ c.in_err-text_of.ensures)
+    c.name.result c.name.ensures.name c.in-Ok-punch_basis.count c.in-Ok-punch_basis.ensures.counted c.in-Ok-punch_basis.ensures.writes _
+    c.in_err-text_of.ensures)
 
 pub returns : goal.returns
 returns g c = λ cards.

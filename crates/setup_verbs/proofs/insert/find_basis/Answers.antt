@@ -40,7 +40,8 @@ returns-in-Basis g c =
     (subst (IsGiven c.args.card c.problem_on_file-problem.result.now c.in-Ok.lp c.name-name.result
     (drop (c.args.machine.now.decks_from - 1) (numbered_cards c.args.cards.now)) c.args.cards.now)
     (ap Ok c.in-Basis.is) c.in_ok-given.ensures) c.present_choice-choice.result c.present_choice-choice.ensures c.installed.result
-    (subst (λ (s : Setup). IsInstalledFor c.args.card s c.present_choice-choice.result c.in-Ok.lp c.in-Basis.basis.basis c.in-Basis.basis.deck.first c.in-Basis.basis.deck.last c.args.cards.now c.installed.result) (sym c.setup.view_is) c.installed.ensures)
+    (subst (λ (s : Setup). IsInstalledFor c.args.card s c.present_choice-choice.result c.in-Ok.lp c.in-Basis.basis.basis c.in-Basis.basis.deck.first
+    c.in-Basis.basis.deck.last c.args.cards.now c.installed.result) (sym c.setup.view_is) c.installed.ensures)
 
 pub returns-in-Ends : goal.returns-in-Ends
 returns-in-Ends g c =

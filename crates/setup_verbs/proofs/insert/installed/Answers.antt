@@ -28,7 +28,8 @@ returns-in-Ok g c = record {
 pub returns-in-Err-Singular : goal.returns-in-Err-Singular
 returns-in-Err-Singular g c =
     let stops = subst (InstallStops g.E.Rates.state c.args.selection.lp c.args.given.basis) c.in-Err-Singular.field-0-is c.in-Err-Singular.ensures.stops in
-    subst (λ (d : List ℚ). IsSingularFor c.args.card c.args.setup.now c.args.selection.choice c.args.selection.lp c.args.given.basis c.args.given.deck.first c.args.given.deck.last c.args.cards.now c.setup.inside.name c.args.selection.lp d) (sym c.in-Err-Singular.dependency-is) (record {
+    subst (λ (d : List ℚ). IsSingularFor c.args.card c.args.setup.now c.args.selection.choice c.args.selection.lp c.args.given.basis c.args.given.deck.first
+    c.args.given.deck.last c.args.cards.now c.setup.inside.name c.args.selection.lp d) (sym c.in-Err-Singular.dependency-is) (record {
       same_name = ap (λ (s : Setup). s.name) c.setup.view_is;
       same_lp = refl;
       full = stops.0;
@@ -46,5 +47,6 @@ returns-in-Ok-overflow_end g c =
       fits = subst EvidenceFits c.in-Err-Overflow.evidence-is c.in-Ok-overflow_end.ensures.1;
       is_end =
           ended_at (λ e. (g.E.Rates.state e).basics)
-          (λ e. (g.E.Rates.state e).waypoints) c.args.card _ _ c.setup.view_is _ _ c.in-Err-Overflow.evidence-is _ _ c.in-Err-Overflow.engine-is c.in-Ok-overflow_end.end c.in-Ok-overflow_end.ensures.0;
+          (λ e. (g.E.Rates.state e).waypoints) c.args.card _ _ c.setup.view_is _ _ c.in-Err-Overflow.evidence-is _ _ c.in-Err-Overflow.engine-is
+          c.in-Ok-overflow_end.end c.in-Ok-overflow_end.ensures.0;
     }

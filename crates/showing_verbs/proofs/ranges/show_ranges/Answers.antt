@@ -23,7 +23,8 @@ pub range_setup-requires-clause-optimal : goal.range_setup-requires-clause-optim
 range_setup-requires-clause-optimal g c =
     let marked = without_fault c.args.machine.now.mark (sym c.range_fault.ensures ∙ c.in_default-range_fault.is) in
     let solved =
-    solved_of c.args.machine.now.cells c.args.machine.now.file c.args.machine.now.mark c.args.machine.now.setup Optimal c.in-Some.setup marked c.in-Some.is c.requires.solved in
+    solved_of c.args.machine.now.cells c.args.machine.now.file c.args.machine.now.mark c.args.machine.now.setup Optimal c.in-Some.setup marked c.in-Some.is
+    c.requires.solved in
     solved.optimal refl
 
 pub returns-in_err-finding-clause-acts : goal.returns-in_err-finding-clause-acts
@@ -33,7 +34,8 @@ returns-in_err-finding-clause-acts g c = λ cards.
     let same = c.range_setup.ensures.same in
     let marked = without_fault c.args.machine.now.mark (sym c.range_fault.ensures ∙ c.in_default-range_fault.is) in
     let solved =
-    solved_of c.args.machine.now.cells c.args.machine.now.file c.args.machine.now.mark c.args.machine.now.setup Optimal c.in-Some.setup marked c.in-Some.is c.requires.solved in
+    solved_of c.args.machine.now.cells c.args.machine.now.file c.args.machine.now.mark c.args.machine.now.setup Optimal c.in-Some.setup marked c.in-Some.is
+    c.requires.solved in
     rw (p.1, p.2)
     (ranges_broken c.args.card cards c.args.machine.now c.in-Some.setup c.in-Some.is ready.problem ready.on_file (g.P.Sink.taken c.args.print.now)
     (g.P.Sink.taken c.range_setup.new.print) c.range_setup.new.setup
@@ -53,7 +55,8 @@ returns-clause-acts g c = λ cards.
     let same = c.range_setup.ensures.same in
     let marked = without_fault c.args.machine.now.mark (sym c.range_fault.ensures ∙ c.in_default-range_fault.is) in
     let solved =
-    solved_of c.args.machine.now.cells c.args.machine.now.file c.args.machine.now.mark c.args.machine.now.setup Optimal c.in-Some.setup marked c.in-Some.is c.requires.solved in
+    solved_of c.args.machine.now.cells c.args.machine.now.file c.args.machine.now.mark c.args.machine.now.setup Optimal c.in-Some.setup marked c.in-Some.is
+    c.requires.solved in
     ranges_found c.args.card cards c.args.machine.now c.in-Some.setup c.in-Some.is ready.problem ready.on_file (g.P.Sink.taken c.args.print.now)
     (g.P.Sink.taken c.range_setup.new.print) c.range_setup.new.setup
     marked (solved.is_selected ready.problem ready.on_file) same c.in_ok-finding.finding c.act_of.result c.act_of.ensures

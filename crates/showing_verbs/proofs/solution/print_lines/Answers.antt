@@ -22,16 +22,20 @@ pub returns-in_err-text_of : goal.returns-in_err-text_of
 returns-in_err-text_of g c = λ before.
     let fit =
     subst (λ (slack : List ℚ). SolutionFits
-    (solution_lines c.args.sheet.problem.now c.args.sheet.lp.now c.args.basis.now c.args.viewed.now.point c.args.viewed.now.prices slack)) c.deref.ensures.value c.recall_solution.ensures in
+    (solution_lines c.args.sheet.problem.now c.args.sheet.lp.now c.args.basis.now c.args.viewed.now.point c.args.viewed.now.prices slack))
+    c.deref.ensures.value c.recall_solution.ensures in
     let p = err_from_is_err_and c.from_residual.result c.from_residual.ensures.1 in
     rw (p.1, p.2)
-    (lines_cut c.args.sheet c.args.basis.now before c.args.mark c.args.viewed.now.point c.args.viewed.now.prices c.args.viewed.now.slack.items c.deref-2.result.now c.deref-2.ensures.value
+    (lines_cut c.args.sheet c.args.basis.now before c.args.mark c.args.viewed.now.point c.args.viewed.now.prices c.args.viewed.now.slack.items
+    c.deref-2.result.now c.deref-2.ensures.value
     c.requires.viewed fit _ c.in_err-text_of.ensures)
 
 pub returns : goal.returns
 returns g c = λ before.
     let fit =
     subst (λ (slack : List ℚ). SolutionFits
-    (solution_lines c.args.sheet.problem.now c.args.sheet.lp.now c.args.basis.now c.args.viewed.now.point c.args.viewed.now.prices slack)) c.deref.ensures.value c.recall_solution.ensures in
-    lines_reported c.args.sheet c.args.basis.now before c.args.mark c.args.viewed.now.point c.args.viewed.now.prices c.args.viewed.now.slack.items c.deref-2.result.now c.deref-2.ensures.value
+    (solution_lines c.args.sheet.problem.now c.args.sheet.lp.now c.args.basis.now c.args.viewed.now.point c.args.viewed.now.prices slack))
+    c.deref.ensures.value c.recall_solution.ensures in
+    lines_reported c.args.sheet c.args.basis.now before c.args.mark c.args.viewed.now.point c.args.viewed.now.prices c.args.viewed.now.slack.items
+    c.deref-2.result.now c.deref-2.ensures.value
     c.requires.viewed fit c.in_ok-text_of.ensures

@@ -23,7 +23,8 @@ returns-in_err-finding-clause-acts g c = λ cards.
     let ready = ready_of c.args.machine.now.file c.args.machine.now.setup c.in-Some.setup c.in-Some.is c.requires.ready in
     let same = c.show_setup.ensures.same in
     let solved =
-    solved_of c.args.machine.now.cells c.args.machine.now.file c.args.machine.now.mark c.args.machine.now.setup c.in-Some-mark.mark c.in-Some.setup c.in-Some-mark.is c.in-Some.is c.requires.solved in
+    solved_of c.args.machine.now.cells c.args.machine.now.file c.args.machine.now.mark c.args.machine.now.setup c.in-Some-mark.mark c.in-Some.setup
+    c.in-Some-mark.is c.in-Some.is c.requires.solved in
     rw (p.1, p.2)
     (solution_cut c.args.card cards c.args.machine.now c.in-Some.setup c.in-Some.is ready.problem ready.on_file (g.P.Sink.taken c.args.print.now)
     (g.P.Sink.taken c.show_setup.new.print) c.show_setup.new.setup
@@ -42,7 +43,8 @@ returns-clause-acts g c = λ cards.
     let ready = ready_of c.args.machine.now.file c.args.machine.now.setup c.in-Some.setup c.in-Some.is c.requires.ready in
     let same = c.show_setup.ensures.same in
     let solved =
-    solved_of c.args.machine.now.cells c.args.machine.now.file c.args.machine.now.mark c.args.machine.now.setup c.in-Some-mark.mark c.in-Some.setup c.in-Some-mark.is c.in-Some.is c.requires.solved in
+    solved_of c.args.machine.now.cells c.args.machine.now.file c.args.machine.now.mark c.args.machine.now.setup c.in-Some-mark.mark c.in-Some.setup
+    c.in-Some-mark.is c.in-Some.is c.requires.solved in
     solution_found c.args.card cards c.args.machine.now c.in-Some.setup c.in-Some.is ready.problem ready.on_file (g.P.Sink.taken c.args.print.now)
     (g.P.Sink.taken c.show_setup.new.print) c.show_setup.new.setup
     c.in-Some-mark.mark c.in-Some-mark.is (solved.is_selected ready.problem ready.on_file) same c.in_ok-finding.finding c.act_of.result c.act_of.ensures

@@ -5,4 +5,11 @@ use Rattle.solver_tests.proofs.engines.wide.Goals as goal
 
 pub invariant_of-result : goal.invariant_of-result
 invariant_of-result c =
-    rw (c.in_ok-lower.ensures.items, c.in_ok-upper.ensures.items, c.in_ok-rhs.ensures.items, c.in_ok-columns.ensures.items, c.in_ok-x.ensures.items, c.in_ok-y.ensures.items) (tested _ refl)
+    rw (
+      c.in_ok-lower.ensures.items,
+      c.in_ok-upper.ensures.items,
+      c.in_ok-rhs.ensures.items,
+      c.in_ok-columns.ensures.items,
+      c.in_ok-x.ensures.items,
+      c.in_ok-y.ensures.items,
+    ) (tested _ refl)

@@ -34,4 +34,5 @@ returns-clause-acts g c = λ cards.
 
 pub returns-clause-sound : goal.returns-clause-sound
 returns-clause-sound g c = λ cards sound.
-    sound_run_through cards c.args.machine.now c.in-Some.setup c.find.new.setup c.find.ensures.ready sound c.in_ok-finding.finding c.leave_value.new.cells c.leave_value.ensures
+    sound_run_through cards c.args.machine.now c.in-Some.setup c.find.new.setup c.find.ensures.ready sound c.in_ok-finding.finding c.leave_value.new.cells
+    c.leave_value.ensures

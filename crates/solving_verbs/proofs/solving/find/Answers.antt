@@ -19,7 +19,8 @@ returns-in-Err-clause-tells g c =
 pub follow-requires : goal.follow-requires
 follow-requires g c =
     let is =
-    now_is c.args.setup.now c.setup-2.view_is c.select_again.ensures.others c.args.file.now c.problem_on_file-problem.result.now c.args.cells.now c.in_default.ensures.selected in
+    now_is c.args.setup.now c.setup-2.view_is c.select_again.ensures.others c.args.file.now c.problem_on_file-problem.result.now c.args.cells.now
+    c.in_default.ensures.selected in
     record {
       sheet = record {
         rows = as_many_rows c.problem_on_file-problem.result.now (choice_of c.args.cells.now c.args.setup.now.options) _ is;
@@ -28,19 +29,22 @@ follow-requires g c =
       lawful = c.number_of_variables-size.ensures.lawful;
       no_change = no_change c.problem_on_file-problem.result.now (choice_of c.args.cells.now c.args.setup.now.options) _ is;
       rates =
-          rates_again c.args.setup.now c.setup-2.view_is c.select_again.ensures.others c.args.file.now c.problem_on_file-problem.result.now c.args.cells.now c.in_default.ensures.selected c.requires
+          rates_again c.args.setup.now c.setup-2.view_is c.select_again.ensures.others c.args.file.now c.problem_on_file-problem.result.now c.args.cells.now
+          c.in_default.ensures.selected c.requires
           (ap (λ (s : Setup). filed_under s.name c.args.file.now) (sym c.setup.view_is) ∙ c.problem_on_file-problem.ensures);
     }
 
 pub returns-clause-tells : goal.returns-clause-tells
 returns-clause-tells g c =
-    again_reported c.args.verb c.args.cells.now c.args.file.now c.args.setup.now c.setup-2.view_is c.select_again.ensures.others c.problem_on_file-problem.result.now
+    again_reported c.args.verb c.args.cells.now c.args.file.now c.args.setup.now c.setup-2.view_is c.select_again.ensures.others
+    c.problem_on_file-problem.result.now
     (ap (λ (s : Setup). filed_under s.name c.args.file.now) (sym c.setup.view_is) ∙ c.problem_on_file-problem.ensures) c.in_default.ensures.selected _ refl refl
     (g.P.Sink.taken c.args.print.now) (g.P.Sink.taken c.follow.new.print) c.follow.result c.follow.ensures.tells
 
 pub returns-clause-solved : goal.returns-clause-solved
 returns-clause-solved g c =
-    again_solved c.args.verb c.args.cells.now c.args.file.now c.args.setup.now c.setup-2.view_is c.select_again.ensures.others c.problem_on_file-problem.result.now
+    again_solved c.args.verb c.args.cells.now c.args.file.now c.args.setup.now c.setup-2.view_is c.select_again.ensures.others
+    c.problem_on_file-problem.result.now
     (ap (λ (s : Setup). filed_under s.name c.args.file.now) (sym c.setup.view_is) ∙ c.problem_on_file-problem.ensures) c.in_default.ensures.selected _ refl refl
     (g.P.Sink.taken c.args.print.now) (g.P.Sink.taken c.follow.new.print) c.follow.result c.follow.ensures.tells
     c.requires refl c.number_of_variables-size.ensures.lawful c.follow.ensures.rates

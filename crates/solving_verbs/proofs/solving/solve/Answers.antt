@@ -34,5 +34,6 @@ returns-clause-acts g c = λ cards.
 
 pub returns-clause-sound : goal.returns-clause-sound
 returns-clause-sound g c = λ cards sound.
-    sound_found cards c.args.machine.now c.in-Some.setup c.find.new.setup c.find.ensures.ready sound c.in_ok-finding.finding c.mark_left-machine.result c.mark_left-machine.ensures
+    sound_found cards c.args.machine.now c.in-Some.setup c.find.new.setup c.find.ensures.ready sound c.in_ok-finding.finding c.mark_left-machine.result
+    c.mark_left-machine.ensures
     c.in_ok-finding.ensures.solved

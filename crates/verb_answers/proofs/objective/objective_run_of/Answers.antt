@@ -24,6 +24,7 @@ returns-clause-answered g c =
 
 pub returns-clause-printable : goal.returns-clause-printable
 returns-clause-printable g c =
-    objective_printable c.args.sheet c.requires.sheet c.args.run.now.row c.args.run.now.from c.args.run.now.to c.args.basis.now c.para_obj.new.basis c.args.run.now.limit c.args.sheet.lp.now.matrix
+    objective_printable c.args.sheet c.requires.sheet c.args.run.now.row c.args.run.now.from c.args.run.now.to c.args.basis.now c.para_obj.new.basis
+    c.args.run.now.limit c.args.sheet.lp.now.matrix
     (g.R.Rates.state c.args.rates.now).waypoints
     (g.R.Rates.state c.para_obj.new.rates).waypoints c.in_ok-report.report c.in_ok-report.ensures.ends c.in_ok-report.ensures.truth

@@ -28,7 +28,8 @@ returns-in_err-report-clause-rates g c = kept_then c.point_at.ensures.rates c.ra
 
 pub returns-clause-ranged : goal.returns-clause-ranged
 returns-clause-ranged g c =
-    ranged c.args.sheet.problem.now c.args.sheet.lp.now c.args.basis.now c.in_ok-point.point c.in_ok-report.report c.requires.optimal c.in_ok-point.ensures.point c.in_ok-report.ensures.report
+    ranged c.args.sheet.problem.now c.args.sheet.lp.now c.args.basis.now c.in_ok-point.point c.in_ok-report.report c.requires.optimal
+    c.in_ok-point.ensures.point c.in_ok-report.ensures.report
 
 pub returns-clause-rates : goal.returns-clause-rates
 returns-clause-rates g c = kept_then c.point_at.ensures.rates c.range.ensures.rates

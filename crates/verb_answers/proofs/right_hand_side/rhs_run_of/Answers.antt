@@ -15,7 +15,8 @@ returns-in_err-refused-clause-stops g c =
     let p = err_from_is_err_and c.from_residual-in_err-refused.result c.from_residual-in_err-refused.ensures.1 in
     rw (p.1, p.2)
     (rhs_unchecked c.args.sheet c.args.run.now c.args.basis.now c.para_rhs.new.basis (g.R.Rates.state c.args.rates.now).waypoints
-    (g.R.Rates.state c.para_rhs.new.rates).waypoints c.in_err-refused.field-0.0 c.in_ok-report.report c.in_err-refused.ensures.opening c.in_ok-report.ensures.ends c.in_err-refused.ensures.overflow)
+    (g.R.Rates.state c.para_rhs.new.rates).waypoints c.in_err-refused.field-0.0 c.in_ok-report.report c.in_err-refused.ensures.opening
+    c.in_ok-report.ensures.ends c.in_err-refused.ensures.overflow)
 
 pub returns-clause-answered : goal.returns-clause-answered
 returns-clause-answered g c =
@@ -24,6 +25,7 @@ returns-clause-answered g c =
 
 pub returns-clause-printable : goal.returns-clause-printable
 returns-clause-printable g c =
-    rhs_printable c.args.sheet c.requires.sheet c.args.run.now.shift.items c.args.run.now.from c.args.run.now.to c.args.basis.now c.para_rhs.new.basis c.args.run.now.limit c.args.sheet.lp.now.matrix
+    rhs_printable c.args.sheet c.requires.sheet c.args.run.now.shift.items c.args.run.now.from c.args.run.now.to c.args.basis.now c.para_rhs.new.basis
+    c.args.run.now.limit c.args.sheet.lp.now.matrix
     (g.R.Rates.state c.args.rates.now).waypoints
     (g.R.Rates.state c.para_rhs.new.rates).waypoints c.in_ok-report.report c.in_ok-report.ensures.ends c.in_ok-report.ensures.truth

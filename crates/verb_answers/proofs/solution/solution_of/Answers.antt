@@ -41,7 +41,8 @@ returns-in_err-slack-clause-rates g c = kept_then c.point_at.ensures.rates c.pri
 
 pub returns-clause-viewed : goal.returns-clause-viewed
 returns-clause-viewed g c =
-    viewed c.args.sheet.problem.now c.args.sheet.lp.now c.args.basis.now c.in_ok-point.point c.in_ok-prices.prices c.in_ok-slack.slack.items c.in_ok-point.ensures.point c.in_ok-prices.ensures.prices
+    viewed c.args.sheet.problem.now c.args.sheet.lp.now c.args.basis.now c.in_ok-point.point c.in_ok-prices.prices c.in_ok-slack.slack.items
+    c.in_ok-point.ensures.point c.in_ok-prices.ensures.prices
     (rw c.values.ensures at c.in_ok-slack.ensures.slacks)
 
 pub returns-clause-rates : goal.returns-clause-rates

@@ -1,5 +1,6 @@
 use Rattle.basis_values.proofs.formula.Formula.product.Goals as goal
-use Rattle.basis_values.proofs.formula.Formula.product.Goals.{then-is_zero-via-then-is_zero, then-is_zero-via-else-is_zero+then-is_one, then-is_zero-2-via-then-is_zero-2, then-is_zero-2-via-else-is_zero-2+then-is_one-2}
+use Rattle.basis_values.proofs.formula.Formula.product.Goals.{then-is_zero-via-then-is_zero, then-is_zero-via-else-is_zero+then-is_one}
+use Rattle.basis_values.proofs.formula.Formula.product.Goals.{then-is_zero-2-via-then-is_zero-2, then-is_zero-2-via-else-is_zero-2+then-is_one-2}
 use Rattle.lp_laws.proofs.Idle.{left_nothing, right_nothing, left_once, right_once}
 
 pub returns-then-is_zero-clause-value : goal.returns-then-is_zero-clause-value

@@ -7,4 +7,5 @@ append_in-requires-clause-pivot c = rw (← c.self.view_is) at c.requires.pivot
 pub returns-clause-waypoints : goal.returns-clause-waypoints
 returns-clause-waypoints c =
     rw (← c.self.view_is)
-    (keeps_exchange c.append_in.result c.self.inside.file c.args.p c.args.q c.append_in.new.self c.size-size.ensures.basics c.append_in.ensures.ok c.append_in.ensures.err)
+    (keeps_exchange c.append_in.result c.self.inside.file c.args.p c.args.q c.append_in.new.self c.size-size.ensures.basics c.append_in.ensures.ok
+    c.append_in.ensures.err)

@@ -46,7 +46,8 @@ loop-entry-preserved g c =
             (c.loop-entry.invariant.each k low high other);
         cost =
             let more =
-            others_next_other c.args.entries.now c.loop-entry.entry-index c.entry-item.result c.loop-entry-test.true c.entry-item.is c.args.self.p w.if-entry-self.true in
+            others_next_other c.args.entries.now c.loop-entry.entry-index c.entry-item.result c.loop-entry-test.true c.entry-item.is c.args.self.p
+            w.if-entry-self.true in
             omega (arith, more, w.in_ok-out.ensures.cost, c.loop-entry.invariant.cost);
       })
       | else-entry-self w ↦ rw (w.out-is, w.steps-is) (record {
@@ -57,7 +58,8 @@ loop-entry-preserved g c =
             (sym (sum_next_other c.args.entries.now c.loop-entry.entry-index c.entry-item.result c.loop-entry-test.true c.entry-item.is k apart));
         cost =
             let same =
-            others_next_same c.args.entries.now c.loop-entry.entry-index c.entry-item.result c.loop-entry-test.true c.entry-item.is c.args.self.p w.if-entry-self.false in
+            others_next_same c.args.entries.now c.loop-entry.entry-index c.entry-item.result c.loop-entry-test.true c.entry-item.is c.args.self.p
+            w.if-entry-self.false in
             omega (arith, same, c.loop-entry.invariant.cost);
       })
     ]

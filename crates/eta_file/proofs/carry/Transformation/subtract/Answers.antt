@@ -37,7 +37,8 @@ returns-in_err-out-clause-refused g c =
       is_entry = entry_at c.args.entries.now c.loop-entry.entry-index c.entry-item.result c.loop-entry-test.true c.entry-item.is;
       stays = c.if-entry-self.true;
       refused =
-          subst (λ (x : ℚ). IsRestRefused c.args.self.way c.args.self.p c.args.self.q c.entry-item.result.i c.args.j x c.args.quotient c.entry-item.result.rate c.in_err-out.field-0.0) is_old c.in_err-out.ensures.refused;
+          subst (λ (x : ℚ). IsRestRefused c.args.self.way c.args.self.p c.args.self.q c.entry-item.result.i c.args.j x c.args.quotient
+          c.entry-item.result.rate c.in_err-out.field-0.0) is_old c.in_err-out.ensures.refused;
     })
 
 pub loop-entry-preserved : goal.loop-entry-preserved
@@ -54,7 +55,8 @@ loop-entry-preserved g c =
             (c.loop-entry.invariant.each k low high other);
         cost =
             let more =
-            others_next_other c.args.entries.now c.loop-entry.entry-index c.entry-item.result c.loop-entry-test.true c.entry-item.is c.args.self.p w.if-entry-self.true in
+            others_next_other c.args.entries.now c.loop-entry.entry-index c.entry-item.result c.loop-entry-test.true c.entry-item.is c.args.self.p
+            w.if-entry-self.true in
             omega (arith, more, w.in_ok-out.ensures.cost, c.loop-entry.invariant.cost);
       })
       | else-entry-self w ↦ rw (w.out-is, w.steps-is) (record {
@@ -65,7 +67,8 @@ loop-entry-preserved g c =
             (sym (sum_next_other c.args.entries.now c.loop-entry.entry-index c.entry-item.result c.loop-entry-test.true c.entry-item.is k apart));
         cost =
             let same =
-            others_next_same c.args.entries.now c.loop-entry.entry-index c.entry-item.result c.loop-entry-test.true c.entry-item.is c.args.self.p w.if-entry-self.false in
+            others_next_same c.args.entries.now c.loop-entry.entry-index c.entry-item.result c.loop-entry-test.true c.entry-item.is c.args.self.p
+            w.if-entry-self.false in
             omega (arith, same, c.loop-entry.invariant.cost);
       })
     ]

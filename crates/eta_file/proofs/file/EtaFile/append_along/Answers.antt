@@ -32,6 +32,7 @@ append_entries-requires c =
           (omega (arith, leaves.0.1, places, ap length c.values-values.ensures)) c.index-values-p.is
           ∙ ap (λ xs. value_at xs c.args.p) c.values-values.ensures;
       are_entries =
-          entries_along f.matrix f.basics counted c.args.q enters c.args.direction.now places direction c.nonzero.result.now c.nonzero.ensures c.values-values.result.now c.values-values.ensures
+          entries_along f.matrix f.basics counted c.args.q enters c.args.direction.now places direction c.nonzero.result.now c.nonzero.ensures
+          c.values-values.result.now c.values-values.ensures
           c.in_ok-entries.entries.items c.in_ok-entries.ensures;
     })

@@ -16,5 +16,6 @@ returns-in_err-column_to-clause-overflow c =
 pub append_carried-requires-clause-pivot : goal.append_carried-requires-clause-pivot
 append_carried-requires-clause-pivot c =
     rw c.deref.ensures.value
-    (pivot_apart c.args.self.now.matrix c.args.self.now.basics c.size-size.ensures.nonsingular c.args.p c.args.q c.requires.leaves c.column_to.new.workspace.direction.items
+    (pivot_apart c.args.self.now.matrix c.args.self.now.basics c.size-size.ensures.nonsingular c.args.p c.args.q c.requires.leaves
+    c.column_to.new.workspace.direction.items
     c.in_ok-column_to.ensures.direction c.requires.pivot)

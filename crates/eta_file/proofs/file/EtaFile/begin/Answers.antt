@@ -4,7 +4,8 @@ use Rattle.eta_file.specs.declared.eta.StoredEta.{StoredEta}
 use Rattle.eta_file.specs.Transformations.{IsLeaving}
 use Rattle.eta_file.specs.Refusals.{LeaveRefused}
 use Rattle.eta_file.specs.File.{inverse_of}
-use Rattle.eta_file.proofs.FileLaws.{refused_map, ok_map, within_places, entries_apart, fewer, count_next, left, leaving_refused, nonbasic_from, is_column, column_number, column_within, column_distinct, filled}
+use Rattle.eta_file.proofs.FileLaws.{refused_map, ok_map, within_places, entries_apart, fewer, count_next, left, leaving_refused, nonbasic_from, is_column}
+use Rattle.eta_file.proofs.FileLaws.{column_number, column_within, column_distinct, filled}
 use Rattle.eta_file.proofs.file.EtaFile.begin.Goals as goal
 
 pub overflow_sub-j : goal.overflow_sub-j

@@ -6,7 +6,8 @@ use Rattle.eta_file.specs.declared.eta.StoredEta.{StoredEta}
 use Rattle.eta_file.specs.Transformations.{IsLeaving, IsColumnFilled}
 use Rattle.eta_file.specs.Inverse.{IsDirectionAfter}
 use Rattle.eta_file.specs.File.{inverse_of}
-use Rattle.eta_file.proofs.FileLaws.{some_map, within_places, whole_is, entries_apart, left, nonbasic_from, is_column, column_number, column_within, column_distinct, filled}
+use Rattle.eta_file.proofs.FileLaws.{some_map, within_places, whole_is, entries_apart, left, nonbasic_from, is_column, column_number, column_within}
+use Rattle.eta_file.proofs.FileLaws.{column_distinct, filled}
 use Rattle.eta_file.proofs.file.EtaFile.begin_at.Goals as goal
 
 pub overflow_sub-j : goal.overflow_sub-j

@@ -21,7 +21,8 @@ settle-requires c =
     let new = c.change_under-changed.new.groups.entries in
     IfOk-weaker c.change_under-changed.result (λ lengths. IsPut name items c.self.inside.groups.entries new lengths.before lengths.after)
     (λ lengths. IsCountBefore (map group_at new) c.self.inside.count lengths.before lengths.after)
-    (λ lengths put. put_kept name items c.self.inside.groups.entries new c.self.inside.count lengths.before lengths.after c.self.invariant.1 c.self.invariant.2 put)
+    (λ lengths put. put_kept name items c.self.inside.groups.entries new c.self.inside.count lengths.before lengths.after c.self.invariant.1
+    c.self.invariant.2 put)
     c.change_under-changed.ensures
 
 pub invariant_of-self : goal.invariant_of-self

@@ -22,7 +22,8 @@ overflow_add-self c =
     count_placed c.self.inside.groups.entries c.insert_new.new.values.entries c.args.place c.args.name c.args.items c.self.inside.count
     (c.self.inside.count + c.len-added.result) c.len-added.result c.self.invariant.1 c.in_ok-insert_new.ensures.placed c.len-added.ensures refl in
     let short =
-    short_placed c.self.inside.groups.entries c.insert_new.new.values.entries c.args.place c.args.name c.args.items c.len-added.result c.self.invariant.2 c.in_ok-insert_new.ensures.placed c.len-added.ensures few in
+    short_placed c.self.inside.groups.entries c.insert_new.new.values.entries c.args.place c.args.name c.args.items c.len-added.result c.self.invariant.2
+    c.in_ok-insert_new.ensures.placed c.len-added.ensures few in
     let fits = total_fits c.insert_new.new.values.entries c.len-names.result short c.len-names.ensures.len names in
     omega (arith, counted, fits)
 
@@ -30,6 +31,8 @@ pub invariant_of-self-2 : goal.invariant_of-self-2
 invariant_of-self-2 c =
     let few : c.len-added.result ≤ 18446744073709551615 = omega arith in (
       c.insert_new.ensures.distinct,
-      count_placed c.self.inside.groups.entries c.insert_new.new.values.entries c.args.place c.args.name c.args.items c.self.inside.count _ c.len-added.result c.self.invariant.1 c.in_ok-insert_new.ensures.placed c.len-added.ensures refl,
-      short_placed c.self.inside.groups.entries c.insert_new.new.values.entries c.args.place c.args.name c.args.items c.len-added.result c.self.invariant.2 c.in_ok-insert_new.ensures.placed c.len-added.ensures few,
+      count_placed c.self.inside.groups.entries c.insert_new.new.values.entries c.args.place c.args.name c.args.items c.self.inside.count _ c.len-added.result
+          c.self.invariant.1 c.in_ok-insert_new.ensures.placed c.len-added.ensures refl,
+      short_placed c.self.inside.groups.entries c.insert_new.new.values.entries c.args.place c.args.name c.args.items c.len-added.result c.self.invariant.2
+          c.in_ok-insert_new.ensures.placed c.len-added.ensures few,
     )

@@ -15,7 +15,8 @@ settle-requires c =
     let new = c.take_column_into-taken.new.columns.entries in
     IfOk-weaker c.take_column_into-taken.result (λ lengths. IsPut name items c.self.inside.groups.entries new lengths.before lengths.after)
     (λ lengths. IsCountBefore (map group_at new) c.self.inside.count lengths.before lengths.after)
-    (λ lengths put. put_kept name items c.self.inside.groups.entries new c.self.inside.count lengths.before lengths.after c.self.invariant.1 c.self.invariant.2 put)
+    (λ lengths put. put_kept name items c.self.inside.groups.entries new c.self.inside.count lengths.before lengths.after c.self.invariant.1
+    c.self.invariant.2 put)
     c.take_column_into-taken.ensures.put
 
 pub invariant_of-self : goal.invariant_of-self

@@ -12,7 +12,8 @@ use Rattle.parametric_run.specs.declared.workspace.Workspace.{Workspace}
 use Rattle.parametric_run.proofs.Workspaces.{direction_kept}
 use Rattle.para_objective.specs.Faces.{face_up}
 use Rattle.para_objective.specs.Method.{objective_problem}
-use Rattle.para_objective.proofs.FaceFacts.{face_done, feasible, nonbasic, may, face_ends, face_moves, face_keeps, face_pivot, face_by_blocking_variable, face_enters}
+use Rattle.para_objective.proofs.FaceFacts.{face_done, feasible, nonbasic, may, face_ends, face_moves, face_keeps, face_pivot, face_by_blocking_variable}
+use Rattle.para_objective.proofs.FaceFacts.{face_enters}
 use Rattle.para_objective.proofs.FaceStops.{turn_stops}
 use Rattle.para_objective.proofs.RunEvidence.{of_step}
 use Rattle.para_objective.proofs.method.ObjectiveParametric.face_turn.Goals as goal
@@ -70,7 +71,9 @@ returns-in_err-stopped-clause-turn g c =
     rw (p.1, p.2)
     (λ from. turn_stops c.args.self.now.lp.now c.args.self.now.row c.requires.fits.no_change c.args.theta c.args.basis.now from c.args.left
     (g.R.Rates.state c.args.rates.now).waypoints (g.R.Rates.state c.blocking_variable_of.new.rates).waypoints c.in-Some.q
-    (face_enters c.args.self.now.lp.now c.args.self.now.row c.requires.fits.lawful c.requires.fits.row c.requires.fits.free c.args.theta c.args.basis.now at (value_at c.args.workspace.now.point.items) c.requires.workspace.point c.requires.optimal (value_at c.args.workspace.now.change.items) c.requires.workspace.change c.in-Some.q c.in-Some.ensures)
+    (face_enters c.args.self.now.lp.now c.args.self.now.row c.requires.fits.lawful c.requires.fits.row c.requires.fits.free c.args.theta c.args.basis.now at
+    (value_at c.args.workspace.now.point.items) c.requires.workspace.point c.requires.optimal (value_at c.args.workspace.now.change.items)
+    c.requires.workspace.change c.in-Some.q c.in-Some.ensures)
     (value_at c.args.workspace.now.point.items) c.rises-up.result c.in_err-stopped.field-0.0 c.in_err-stopped.ensures.overflow)
 
 pub returns-in_default-stopped-clause-turn : goal.returns-in_default-stopped-clause-turn
@@ -79,7 +82,8 @@ returns-in_default-stopped-clause-turn g c =
     record { is_basis = c.requires.rates.is_basis; nonsingular = c.requires.rates.nonsingular } in
     let last =
     direction_kept
-    (objective_problem c.args.self.now.lp.now c.args.self.now.row) c.args.basis.now c.args.workspace.now c.blocking_variable_of.new.workspace c.requires.workspace c.in_ok-stopped.ensures.others c.in_ok-stopped.ensures.places in
+    (objective_problem c.args.self.now.lp.now c.args.self.now.row) c.args.basis.now c.args.workspace.now c.blocking_variable_of.new.workspace
+    c.requires.workspace c.in_ok-stopped.ensures.others c.in_ok-stopped.ensures.places in
     let up_is : c.rises-up.result ≡ face_up c.args.self.now.lp.now (value_at c.blocking_variable_of.new.workspace.change.items) c.in-Some.q =
     c.rises-up.ensures ∙ ap (λ (w : Workspace). face_up c.args.self.now.lp.now (value_at w.change.items) c.in-Some.q) (sym c.in_ok-stopped.ensures.others) in
     face_ends c.args.self.now.lp.now c.args.self.now.row c.requires.fits.lawful c.requires.fits.row c.requires.fits.free c.args.theta c.args.basis.now at
@@ -93,7 +97,8 @@ pub returns-in_default-stopped-clause-workspace : goal.returns-in_default-stoppe
 returns-in_default-stopped-clause-workspace g c =
     let last =
     direction_kept
-    (objective_problem c.args.self.now.lp.now c.args.self.now.row) c.args.basis.now c.args.workspace.now c.blocking_variable_of.new.workspace c.requires.workspace c.in_ok-stopped.ensures.others c.in_ok-stopped.ensures.places in
+    (objective_problem c.args.self.now.lp.now c.args.self.now.row) c.args.basis.now c.args.workspace.now c.blocking_variable_of.new.workspace
+    c.requires.workspace c.in_ok-stopped.ensures.others c.in_ok-stopped.ensures.places in
     last
 
 pub returns-then-left-eq0-clause-turn : goal.returns-then-left-eq0-clause-turn
@@ -102,14 +107,23 @@ returns-then-left-eq0-clause-turn g c =
     record { is_basis = c.requires.rates.is_basis; nonsingular = c.requires.rates.nonsingular } in
     let last =
     direction_kept
-    (objective_problem c.args.self.now.lp.now c.args.self.now.row) c.args.basis.now c.args.workspace.now c.blocking_variable_of.new.workspace c.requires.workspace c.in_ok-stopped.ensures.others c.in_ok-stopped.ensures.places in
+    (objective_problem c.args.self.now.lp.now c.args.self.now.row) c.args.basis.now c.args.workspace.now c.blocking_variable_of.new.workspace
+    c.requires.workspace c.in_ok-stopped.ensures.others c.in_ok-stopped.ensures.places in
     let up_is : c.rises-up.result ≡ face_up c.args.self.now.lp.now (value_at c.blocking_variable_of.new.workspace.change.items) c.in-Some.q =
     c.rises-up.ensures ∙ ap (λ (w : Workspace). face_up c.args.self.now.lp.now (value_at w.change.items) c.in-Some.q) (sym c.in_ok-stopped.ensures.others) in
     λ from. (
       c.if-left-eq0.true,
       (
         after c.args.basis.now (move_by c.in-Some.q c.in-Some-stopped.by),
-        (move_by c.in-Some.q c.in-Some-stopped.by, face_moves c.args.self.now.lp.now c.args.self.now.row c.requires.fits.lawful c.requires.fits.row c.requires.fits.free c.args.theta c.args.basis.now at (value_at c.blocking_variable_of.new.workspace.point.items) last.point c.requires.optimal (value_at c.blocking_variable_of.new.workspace.change.items) last.change c.in-Some.q c.in-Some.ensures (value_at c.blocking_variable_of.new.workspace.direction) c.in_ok-stopped.ensures.direction c.rises-up.result up_is c.in-Some-stopped.by (sym c.in-Some-stopped.is ∙ c.in_ok-stopped.ensures.blocking_variable), refl),
+        (
+          move_by c.in-Some.q c.in-Some-stopped.by,
+          face_moves c.args.self.now.lp.now c.args.self.now.row c.requires.fits.lawful c.requires.fits.row
+              c.requires.fits.free c.args.theta c.args.basis.now at (value_at c.blocking_variable_of.new.workspace.point.items) last.point c.requires.optimal
+              (value_at c.blocking_variable_of.new.workspace.change.items) last.change c.in-Some.q c.in-Some.ensures
+              (value_at c.blocking_variable_of.new.workspace.direction) c.in_ok-stopped.ensures.direction c.rises-up.result up_is c.in-Some-stopped.by
+              (sym c.in-Some-stopped.is ∙ c.in_ok-stopped.ensures.blocking_variable),
+          refl,
+        ),
       ),
     )
 
@@ -119,7 +133,8 @@ returns-clause-turn g c =
     record { is_basis = c.requires.rates.is_basis; nonsingular = c.requires.rates.nonsingular } in
     let last =
     direction_kept
-    (objective_problem c.args.self.now.lp.now c.args.self.now.row) c.args.basis.now c.args.workspace.now c.blocking_variable_of.new.workspace c.requires.workspace c.in_ok-stopped.ensures.others c.in_ok-stopped.ensures.places in
+    (objective_problem c.args.self.now.lp.now c.args.self.now.row) c.args.basis.now c.args.workspace.now c.blocking_variable_of.new.workspace
+    c.requires.workspace c.in_ok-stopped.ensures.others c.in_ok-stopped.ensures.places in
     let up_is : c.rises-up.result ≡ face_up c.args.self.now.lp.now (value_at c.blocking_variable_of.new.workspace.change.items) c.in-Some.q =
     c.rises-up.ensures ∙ ap (λ (w : Workspace). face_up c.args.self.now.lp.now (value_at w.change.items) c.in-Some.q) (sym c.in_ok-stopped.ensures.others) in
     let left = c.if-left-eq0.false in
@@ -136,7 +151,8 @@ returns-clause-turn g c =
     (value_at c.blocking_variable_of.new.workspace.direction) c.in_ok-stopped.ensures.direction c.rises-up.result up_is c.in-Some-stopped.by
     (sym c.in-Some-stopped.is ∙ c.in_ok-stopped.ensures.blocking_variable) in
     let step =
-    face_by_blocking_variable c.args.self.now.lp.now c.args.self.now.row c.requires.fits.lawful c.requires.fits.row c.requires.fits.free c.args.theta c.args.basis.now at
+    face_by_blocking_variable c.args.self.now.lp.now c.args.self.now.row c.requires.fits.lawful c.requires.fits.row c.requires.fits.free c.args.theta
+    c.args.basis.now at
     (value_at c.blocking_variable_of.new.workspace.point.items) last.point c.requires.optimal
     (value_at c.blocking_variable_of.new.workspace.change.items) last.change c.in-Some.q c.in-Some.ensures
     (value_at c.blocking_variable_of.new.workspace.direction) c.in_ok-stopped.ensures.direction c.rises-up.result up_is c.in-Some-stopped.by
@@ -153,11 +169,21 @@ returns-clause-turn g c =
           (value_at c.blocking_variable_of.new.workspace.direction) c.in_ok-stopped.ensures.direction c.rises-up.result up_is c.in-Some-stopped.by
           (sym c.in-Some-stopped.is ∙ c.in_ok-stopped.ensures.blocking_variable);
       ready =
-          record { nonbasic = nonbasic c.args.self.now.lp.now c.args.self.now.row c.requires.fits.lawful c.requires.fits.row c.requires.fits.free c.args.theta c.args.basis.now at (value_at c.blocking_variable_of.new.workspace.point.items) last.point c.requires.optimal (value_at c.blocking_variable_of.new.workspace.change.items) last.change c.in-Some.q c.in-Some.ensures; direction = c.in_ok-stopped.ensures.direction; pivot = pivot; step = step };
+          record {
+            nonbasic = nonbasic c.args.self.now.lp.now c.args.self.now.row c.requires.fits.lawful c.requires.fits.row c.requires.fits.free c.args.theta
+                c.args.basis.now at (value_at c.blocking_variable_of.new.workspace.point.items) last.point c.requires.optimal
+                (value_at c.blocking_variable_of.new.workspace.change.items) last.change c.in-Some.q c.in-Some.ensures;
+            direction =
+                c.in_ok-stopped.ensures.direction;
+            pivot = pivot;
+            step = step;
+          };
       is_left = omega (arith, left);
       refused = λ from before now e h.
           of_step c.args.self.now.lp.now c.args.self.now.row from c.requires.fits.no_change c.args.basis.now c.args.left before now e c.args.theta c.in-Some.q
-          (face_enters c.args.self.now.lp.now c.args.self.now.row c.requires.fits.lawful c.requires.fits.row c.requires.fits.free c.args.theta c.args.basis.now at (value_at c.blocking_variable_of.new.workspace.point.items) last.point c.requires.optimal (value_at c.blocking_variable_of.new.workspace.change.items) last.change c.in-Some.q c.in-Some.ensures) c.in-Some-stopped.by moves
+          (face_enters c.args.self.now.lp.now c.args.self.now.row c.requires.fits.lawful c.requires.fits.row c.requires.fits.free c.args.theta
+          c.args.basis.now at (value_at c.blocking_variable_of.new.workspace.point.items) last.point c.requires.optimal
+          (value_at c.blocking_variable_of.new.workspace.change.items) last.change c.in-Some.q c.in-Some.ensures) c.in-Some-stopped.by moves
           (limit_apart c.args.self.now.lp.now c.in-Some-stopped.by.p c.in-Some-stopped.by.to reach.limit reach.is_limit).0 (omega (arith, left)) h;
     }
 
@@ -165,5 +191,6 @@ pub returns-clause-workspace : goal.returns-clause-workspace
 returns-clause-workspace g c =
     let last =
     direction_kept
-    (objective_problem c.args.self.now.lp.now c.args.self.now.row) c.args.basis.now c.args.workspace.now c.blocking_variable_of.new.workspace c.requires.workspace c.in_ok-stopped.ensures.others c.in_ok-stopped.ensures.places in
+    (objective_problem c.args.self.now.lp.now c.args.self.now.row) c.args.basis.now c.args.workspace.now c.blocking_variable_of.new.workspace
+    c.requires.workspace c.in_ok-stopped.ensures.others c.in_ok-stopped.ensures.places in
     last

@@ -38,7 +38,8 @@ returns-in_default-clause-turn g c =
     record { is_basis = c.requires.rates.is_basis; nonsingular = c.requires.rates.nonsingular } in
     face_done c.args.self.now.lp.now c.args.self.now.shift.now c.requires.fits.lawful c.requires.fits.no_change c.args.theta c.args.basis.now at
     (value_at c.args.workspace.now.point.items) (value_at c.args.workspace.now.change.items) c.requires.workspace.point c.requires.workspace.change
-    (subst (λ (o : Option Leaver). IsFaceLeaver c.args.self.now.lp.now c.args.self.now.shift.now c.args.theta c.args.basis.now o) c.in_default.is c.in-Ok.ensures.leaver)
+    (subst (λ (o : Option Leaver). IsFaceLeaver c.args.self.now.lp.now c.args.self.now.shift.now c.args.theta c.args.basis.now o) c.in_default.is
+    c.in-Ok.ensures.leaver)
 
 pub returns-in_default-clause-rates : goal.returns-in_default-clause-rates
 returns-in_default-clause-rates g c =
@@ -49,7 +50,8 @@ entering-requires-clause-basic g c =
     let at : IsNonsingularBasis c.args.self.now.lp.now c.args.basis.now =
     record { is_basis = c.requires.rates.is_basis; nonsingular = c.requires.rates.nonsingular } in
     let found : IsFaceLeaver c.args.self.now.lp.now c.args.self.now.shift.now c.args.theta c.args.basis.now (Some c.in-Some.leaver)
-    = subst (λ (o : Option Leaver). IsFaceLeaver c.args.self.now.lp.now c.args.self.now.shift.now c.args.theta c.args.basis.now o) c.in-Some.is c.in-Ok.ensures.leaver in
+    = subst (λ (o : Option Leaver). IsFaceLeaver c.args.self.now.lp.now c.args.self.now.shift.now c.args.theta c.args.basis.now o) c.in-Some.is
+    c.in-Ok.ensures.leaver in
     basic c.args.self.now.lp.now c.args.self.now.shift.now c.requires.fits.lawful c.requires.fits.no_change c.args.theta c.args.basis.now at
     (value_at c.args.workspace.now.point.items)
     (value_at c.args.workspace.now.change.items) c.requires.workspace.point c.requires.workspace.change c.in-Some.leaver found
@@ -59,7 +61,8 @@ returns-in_err-chosen-clause-turn g c =
     let at : IsNonsingularBasis c.args.self.now.lp.now c.args.basis.now =
     record { is_basis = c.requires.rates.is_basis; nonsingular = c.requires.rates.nonsingular } in
     let found : IsFaceLeaver c.args.self.now.lp.now c.args.self.now.shift.now c.args.theta c.args.basis.now (Some c.in-Some.leaver)
-    = subst (λ (o : Option Leaver). IsFaceLeaver c.args.self.now.lp.now c.args.self.now.shift.now c.args.theta c.args.basis.now o) c.in-Some.is c.in-Ok.ensures.leaver in
+    = subst (λ (o : Option Leaver). IsFaceLeaver c.args.self.now.lp.now c.args.self.now.shift.now c.args.theta c.args.basis.now o) c.in-Some.is
+    c.in-Ok.ensures.leaver in
     let p = err_from_is_err_and c.from_residual.result c.from_residual.ensures.1 in
     rw (p.1, p.2)
     (λ from. entry_stops c.args.self.now.lp.now c.args.self.now.shift.now c.requires.fits.lawful c.requires.fits.no_change c.args.theta c.args.basis.now at
@@ -73,9 +76,11 @@ returns-in_default-chosen-clause-turn g c =
     let at : IsNonsingularBasis c.args.self.now.lp.now c.args.basis.now =
     record { is_basis = c.requires.rates.is_basis; nonsingular = c.requires.rates.nonsingular } in
     let found : IsFaceLeaver c.args.self.now.lp.now c.args.self.now.shift.now c.args.theta c.args.basis.now (Some c.in-Some.leaver)
-    = subst (λ (o : Option Leaver). IsFaceLeaver c.args.self.now.lp.now c.args.self.now.shift.now c.args.theta c.args.basis.now o) c.in-Some.is c.in-Ok.ensures.leaver in
+    = subst (λ (o : Option Leaver). IsFaceLeaver c.args.self.now.lp.now c.args.self.now.shift.now c.args.theta c.args.basis.now o) c.in-Some.is
+    c.in-Ok.ensures.leaver in
     let read =
-    row_kept (rhs_problem c.args.self.now.lp.now c.args.self.now.shift.now) c.args.basis.now c.args.workspace.now c.entering.new.workspace c.requires.workspace c.in_ok-chosen.ensures.others c.in_ok-chosen.ensures.places in
+    row_kept (rhs_problem c.args.self.now.lp.now c.args.self.now.shift.now) c.args.basis.now c.args.workspace.now c.entering.new.workspace
+    c.requires.workspace c.in_ok-chosen.ensures.others c.in_ok-chosen.ensures.places in
     let is = c.in_ok-end.ensures in
     subst (λ (e : ParaEnd). IsRhsFace c.args.self.now.lp.now c.args.self.now.shift.now c.args.theta c.args.basis.now (FaceEnds (end_of e))) (sym is.is_end)
     (face_ends c.args.self.now.lp.now c.args.self.now.shift.now c.requires.fits.lawful c.requires.fits.no_change c.args.theta c.args.basis.now at
@@ -89,14 +94,24 @@ returns-then-left-eq0-clause-turn g c =
     let at : IsNonsingularBasis c.args.self.now.lp.now c.args.basis.now =
     record { is_basis = c.requires.rates.is_basis; nonsingular = c.requires.rates.nonsingular } in
     let found : IsFaceLeaver c.args.self.now.lp.now c.args.self.now.shift.now c.args.theta c.args.basis.now (Some c.in-Some.leaver)
-    = subst (λ (o : Option Leaver). IsFaceLeaver c.args.self.now.lp.now c.args.self.now.shift.now c.args.theta c.args.basis.now o) c.in-Some.is c.in-Ok.ensures.leaver in
+    = subst (λ (o : Option Leaver). IsFaceLeaver c.args.self.now.lp.now c.args.self.now.shift.now c.args.theta c.args.basis.now o) c.in-Some.is
+    c.in-Ok.ensures.leaver in
     let read =
-    row_kept (rhs_problem c.args.self.now.lp.now c.args.self.now.shift.now) c.args.basis.now c.args.workspace.now c.entering.new.workspace c.requires.workspace c.in_ok-chosen.ensures.others c.in_ok-chosen.ensures.places in
+    row_kept (rhs_problem c.args.self.now.lp.now c.args.self.now.shift.now) c.args.basis.now c.args.workspace.now c.entering.new.workspace
+    c.requires.workspace c.in_ok-chosen.ensures.others c.in_ok-chosen.ensures.places in
     λ from. (
       c.if-left-eq0.true,
       (
         after c.args.basis.now (record { enters = c.in-Some-chosen.q; leaves = c.in-Some.leaver.r; to = goes_to c.in-Some.leaver }),
-        (record { enters = c.in-Some-chosen.q; leaves = c.in-Some.leaver.r; to = goes_to c.in-Some.leaver }, face_moves c.args.self.now.lp.now c.args.self.now.shift.now c.requires.fits.lawful c.requires.fits.no_change c.args.theta c.args.basis.now at (value_at c.args.workspace.now.point.items) (value_at c.args.workspace.now.change.items) c.requires.workspace.point c.requires.workspace.change c.in-Some.leaver found (value_at c.entering.new.workspace.prices.items) (value_at c.entering.new.workspace.row.items) read.prices c.in_ok-chosen.ensures.row c.in-Some-chosen.q (sym c.in_ok-chosen.ensures.chosen ∙ c.in-Some-chosen.is), refl),
+        (
+          record { enters = c.in-Some-chosen.q; leaves = c.in-Some.leaver.r; to = goes_to c.in-Some.leaver },
+          face_moves c.args.self.now.lp.now
+              c.args.self.now.shift.now c.requires.fits.lawful c.requires.fits.no_change c.args.theta c.args.basis.now at
+              (value_at c.args.workspace.now.point.items) (value_at c.args.workspace.now.change.items) c.requires.workspace.point c.requires.workspace.change
+              c.in-Some.leaver found (value_at c.entering.new.workspace.prices.items) (value_at c.entering.new.workspace.row.items) read.prices
+              c.in_ok-chosen.ensures.row c.in-Some-chosen.q (sym c.in_ok-chosen.ensures.chosen ∙ c.in-Some-chosen.is),
+          refl,
+        ),
       ),
     )
 
@@ -105,9 +120,11 @@ return_of-requires-clause-nonbasic g c =
     let at : IsNonsingularBasis c.args.self.now.lp.now c.args.basis.now =
     record { is_basis = c.requires.rates.is_basis; nonsingular = c.requires.rates.nonsingular } in
     let found : IsFaceLeaver c.args.self.now.lp.now c.args.self.now.shift.now c.args.theta c.args.basis.now (Some c.in-Some.leaver)
-    = subst (λ (o : Option Leaver). IsFaceLeaver c.args.self.now.lp.now c.args.self.now.shift.now c.args.theta c.args.basis.now o) c.in-Some.is c.in-Ok.ensures.leaver in
+    = subst (λ (o : Option Leaver). IsFaceLeaver c.args.self.now.lp.now c.args.self.now.shift.now c.args.theta c.args.basis.now o) c.in-Some.is
+    c.in-Ok.ensures.leaver in
     let read =
-    row_kept (rhs_problem c.args.self.now.lp.now c.args.self.now.shift.now) c.args.basis.now c.args.workspace.now c.entering.new.workspace c.requires.workspace c.in_ok-chosen.ensures.others c.in_ok-chosen.ensures.places in
+    row_kept (rhs_problem c.args.self.now.lp.now c.args.self.now.shift.now) c.args.basis.now c.args.workspace.now c.entering.new.workspace
+    c.requires.workspace c.in_ok-chosen.ensures.others c.in_ok-chosen.ensures.places in
     face_enters c.args.self.now.lp.now c.args.self.now.shift.now c.requires.fits.lawful c.requires.fits.no_change c.args.theta c.args.basis.now at
     (value_at c.args.workspace.now.point.items)
     (value_at c.args.workspace.now.change.items) c.requires.workspace.point c.requires.workspace.change c.in-Some.leaver found
@@ -120,7 +137,8 @@ return_of-requires-clause-basic g c =
     let at : IsNonsingularBasis c.args.self.now.lp.now c.args.basis.now =
     record { is_basis = c.requires.rates.is_basis; nonsingular = c.requires.rates.nonsingular } in
     let found : IsFaceLeaver c.args.self.now.lp.now c.args.self.now.shift.now c.args.theta c.args.basis.now (Some c.in-Some.leaver)
-    = subst (λ (o : Option Leaver). IsFaceLeaver c.args.self.now.lp.now c.args.self.now.shift.now c.args.theta c.args.basis.now o) c.in-Some.is c.in-Ok.ensures.leaver in
+    = subst (λ (o : Option Leaver). IsFaceLeaver c.args.self.now.lp.now c.args.self.now.shift.now c.args.theta c.args.basis.now o) c.in-Some.is
+    c.in-Ok.ensures.leaver in
     basic c.args.self.now.lp.now c.args.self.now.shift.now c.requires.fits.lawful c.requires.fits.no_change c.args.theta c.args.basis.now at
     (value_at c.args.workspace.now.point.items)
     (value_at c.args.workspace.now.change.items) c.requires.workspace.point c.requires.workspace.change c.in-Some.leaver found
@@ -130,9 +148,11 @@ return_of-requires-clause-limit g c =
     let at : IsNonsingularBasis c.args.self.now.lp.now c.args.basis.now =
     record { is_basis = c.requires.rates.is_basis; nonsingular = c.requires.rates.nonsingular } in
     let found : IsFaceLeaver c.args.self.now.lp.now c.args.self.now.shift.now c.args.theta c.args.basis.now (Some c.in-Some.leaver)
-    = subst (λ (o : Option Leaver). IsFaceLeaver c.args.self.now.lp.now c.args.self.now.shift.now c.args.theta c.args.basis.now o) c.in-Some.is c.in-Ok.ensures.leaver in
+    = subst (λ (o : Option Leaver). IsFaceLeaver c.args.self.now.lp.now c.args.self.now.shift.now c.args.theta c.args.basis.now o) c.in-Some.is
+    c.in-Ok.ensures.leaver in
     let read =
-    row_kept (rhs_problem c.args.self.now.lp.now c.args.self.now.shift.now) c.args.basis.now c.args.workspace.now c.entering.new.workspace c.requires.workspace c.in_ok-chosen.ensures.others c.in_ok-chosen.ensures.places in
+    row_kept (rhs_problem c.args.self.now.lp.now c.args.self.now.shift.now) c.args.basis.now c.args.workspace.now c.entering.new.workspace
+    c.requires.workspace c.in_ok-chosen.ensures.others c.in_ok-chosen.ensures.places in
     let limit =
     face_limit c.args.self.now.lp.now c.args.self.now.shift.now c.requires.fits.lawful c.requires.fits.no_change c.args.theta c.args.basis.now at
     (value_at c.args.workspace.now.point.items)
@@ -147,9 +167,11 @@ return_of-requires-clause-pivot g c =
     let at : IsNonsingularBasis c.args.self.now.lp.now c.args.basis.now =
     record { is_basis = c.requires.rates.is_basis; nonsingular = c.requires.rates.nonsingular } in
     let found : IsFaceLeaver c.args.self.now.lp.now c.args.self.now.shift.now c.args.theta c.args.basis.now (Some c.in-Some.leaver)
-    = subst (λ (o : Option Leaver). IsFaceLeaver c.args.self.now.lp.now c.args.self.now.shift.now c.args.theta c.args.basis.now o) c.in-Some.is c.in-Ok.ensures.leaver in
+    = subst (λ (o : Option Leaver). IsFaceLeaver c.args.self.now.lp.now c.args.self.now.shift.now c.args.theta c.args.basis.now o) c.in-Some.is
+    c.in-Ok.ensures.leaver in
     let read =
-    row_kept (rhs_problem c.args.self.now.lp.now c.args.self.now.shift.now) c.args.basis.now c.args.workspace.now c.entering.new.workspace c.requires.workspace c.in_ok-chosen.ensures.others c.in_ok-chosen.ensures.places in
+    row_kept (rhs_problem c.args.self.now.lp.now c.args.self.now.shift.now) c.args.basis.now c.args.workspace.now c.entering.new.workspace
+    c.requires.workspace c.in_ok-chosen.ensures.others c.in_ok-chosen.ensures.places in
     face_pivot c.args.self.now.lp.now c.args.self.now.shift.now c.requires.fits.lawful c.requires.fits.no_change c.args.theta c.args.basis.now at
     (value_at c.args.workspace.now.point.items)
     (value_at c.args.workspace.now.change.items) c.requires.workspace.point c.requires.workspace.change c.in-Some.leaver found
@@ -162,24 +184,35 @@ returns-in_err-by-clause-turn g c =
     let at : IsNonsingularBasis c.args.self.now.lp.now c.args.basis.now =
     record { is_basis = c.requires.rates.is_basis; nonsingular = c.requires.rates.nonsingular } in
     let found : IsFaceLeaver c.args.self.now.lp.now c.args.self.now.shift.now c.args.theta c.args.basis.now (Some c.in-Some.leaver)
-    = subst (λ (o : Option Leaver). IsFaceLeaver c.args.self.now.lp.now c.args.self.now.shift.now c.args.theta c.args.basis.now o) c.in-Some.is c.in-Ok.ensures.leaver in
+    = subst (λ (o : Option Leaver). IsFaceLeaver c.args.self.now.lp.now c.args.self.now.shift.now c.args.theta c.args.basis.now o) c.in-Some.is
+    c.in-Ok.ensures.leaver in
     let read =
-    row_kept (rhs_problem c.args.self.now.lp.now c.args.self.now.shift.now) c.args.basis.now c.args.workspace.now c.entering.new.workspace c.requires.workspace c.in_ok-chosen.ensures.others c.in_ok-chosen.ensures.places in
+    row_kept (rhs_problem c.args.self.now.lp.now c.args.self.now.shift.now) c.args.basis.now c.args.workspace.now c.entering.new.workspace
+    c.requires.workspace c.in_ok-chosen.ensures.others c.in_ok-chosen.ensures.places in
     let p = err_from_is_err_and c.from_residual-in_err-by.result c.from_residual-in_err-by.ensures.1 in
     rw (p.1, p.2)
-    (λ from. return_stops c.args.self.now.lp.now c.args.self.now.shift.now c.requires.fits.lawful c.requires.fits.no_change c.args.theta c.args.basis.now from c.args.left (g.R.Rates.state c.args.rates.now).waypoints (g.R.Rates.state c.return_of.new.rates).waypoints at (value_at c.entering.new.workspace.point.items) (value_at c.entering.new.workspace.change.items) read.point read.change (g.R.Rates.state c.entering.new.rates).waypoints c.in_ok-chosen.ensures.rates.1
+    (λ from. return_stops c.args.self.now.lp.now c.args.self.now.shift.now c.requires.fits.lawful c.requires.fits.no_change c.args.theta c.args.basis.now from
+    c.args.left (g.R.Rates.state c.args.rates.now).waypoints (g.R.Rates.state c.return_of.new.rates).waypoints at
+    (value_at c.entering.new.workspace.point.items) (value_at c.entering.new.workspace.change.items) read.point read.change
+    (g.R.Rates.state c.entering.new.rates).waypoints c.in_ok-chosen.ensures.rates.1
     c.in-Some-chosen.q c.in-Some.leaver.r (goes_to c.in-Some.leaver)
     (basic c.args.self.now.lp.now c.args.self.now.shift.now c.requires.fits.lawful c.requires.fits.no_change c.args.theta c.args.basis.now at
     (value_at c.args.workspace.now.point.items)
     (value_at c.args.workspace.now.change.items) c.requires.workspace.point c.requires.workspace.change c.in-Some.leaver found)
-    (face_enters c.args.self.now.lp.now c.args.self.now.shift.now c.requires.fits.lawful c.requires.fits.no_change c.args.theta c.args.basis.now at (value_at c.args.workspace.now.point.items) (value_at c.args.workspace.now.change.items) c.requires.workspace.point c.requires.workspace.change c.in-Some.leaver found (value_at c.entering.new.workspace.prices.items) (value_at c.entering.new.workspace.row.items) read.prices c.in_ok-chosen.ensures.row c.in-Some-chosen.q (sym c.in_ok-chosen.ensures.chosen ∙ c.in-Some-chosen.is) c.requires.optimal)
+    (face_enters c.args.self.now.lp.now c.args.self.now.shift.now c.requires.fits.lawful c.requires.fits.no_change c.args.theta c.args.basis.now at
+    (value_at c.args.workspace.now.point.items) (value_at c.args.workspace.now.change.items) c.requires.workspace.point c.requires.workspace.change
+    c.in-Some.leaver found (value_at c.entering.new.workspace.prices.items) (value_at c.entering.new.workspace.row.items) read.prices
+    c.in_ok-chosen.ensures.row c.in-Some-chosen.q (sym c.in_ok-chosen.ensures.chosen ∙ c.in-Some-chosen.is) c.requires.optimal)
     (face_moves c.args.self.now.lp.now c.args.self.now.shift.now c.requires.fits.lawful c.requires.fits.no_change c.args.theta c.args.basis.now at
     (value_at c.args.workspace.now.point.items)
     (value_at c.args.workspace.now.change.items) c.requires.workspace.point c.requires.workspace.change c.in-Some.leaver found
     (value_at c.entering.new.workspace.prices.items)
     (value_at c.entering.new.workspace.row.items) read.prices c.in_ok-chosen.ensures.row c.in-Some-chosen.q
     (sym c.in_ok-chosen.ensures.chosen ∙ c.in-Some-chosen.is))
-    (face_pivot c.args.self.now.lp.now c.args.self.now.shift.now c.requires.fits.lawful c.requires.fits.no_change c.args.theta c.args.basis.now at (value_at c.args.workspace.now.point.items) (value_at c.args.workspace.now.change.items) c.requires.workspace.point c.requires.workspace.change c.in-Some.leaver found (value_at c.entering.new.workspace.prices.items) (value_at c.entering.new.workspace.row.items) read.prices c.in_ok-chosen.ensures.row c.in-Some-chosen.q (sym c.in_ok-chosen.ensures.chosen ∙ c.in-Some-chosen.is) c.requires.optimal)
+    (face_pivot c.args.self.now.lp.now c.args.self.now.shift.now c.requires.fits.lawful c.requires.fits.no_change c.args.theta c.args.basis.now at
+    (value_at c.args.workspace.now.point.items) (value_at c.args.workspace.now.change.items) c.requires.workspace.point c.requires.workspace.change
+    c.in-Some.leaver found (value_at c.entering.new.workspace.prices.items) (value_at c.entering.new.workspace.row.items) read.prices
+    c.in_ok-chosen.ensures.row c.in-Some-chosen.q (sym c.in_ok-chosen.ensures.chosen ∙ c.in-Some-chosen.is) c.requires.optimal)
     c.in_err-by.field-0.0 c.in_err-by.ensures.overflow)
 
 pub returns-in_err-by-clause-rates : goal.returns-in_err-by-clause-rates
@@ -191,12 +224,15 @@ returns-clause-turn g c =
     let at : IsNonsingularBasis c.args.self.now.lp.now c.args.basis.now =
     record { is_basis = c.requires.rates.is_basis; nonsingular = c.requires.rates.nonsingular } in
     let found : IsFaceLeaver c.args.self.now.lp.now c.args.self.now.shift.now c.args.theta c.args.basis.now (Some c.in-Some.leaver)
-    = subst (λ (o : Option Leaver). IsFaceLeaver c.args.self.now.lp.now c.args.self.now.shift.now c.args.theta c.args.basis.now o) c.in-Some.is c.in-Ok.ensures.leaver in
+    = subst (λ (o : Option Leaver). IsFaceLeaver c.args.self.now.lp.now c.args.self.now.shift.now c.args.theta c.args.basis.now o) c.in-Some.is
+    c.in-Ok.ensures.leaver in
     let read =
-    row_kept (rhs_problem c.args.self.now.lp.now c.args.self.now.shift.now) c.args.basis.now c.args.workspace.now c.entering.new.workspace c.requires.workspace c.in_ok-chosen.ensures.others c.in_ok-chosen.ensures.places in
+    row_kept (rhs_problem c.args.self.now.lp.now c.args.self.now.shift.now) c.args.basis.now c.args.workspace.now c.entering.new.workspace
+    c.requires.workspace c.in_ok-chosen.ensures.others c.in_ok-chosen.ensures.places in
     let last =
     direction_kept
-    (rhs_problem c.args.self.now.lp.now c.args.self.now.shift.now) c.args.basis.now c.entering.new.workspace c.return_of.new.workspace read c.in_ok-by.ensures.others c.in_ok-by.ensures.places in
+    (rhs_problem c.args.self.now.lp.now c.args.self.now.shift.now) c.args.basis.now c.entering.new.workspace c.return_of.new.workspace read
+    c.in_ok-by.ensures.others c.in_ok-by.ensures.places in
     let left = c.if-left-eq0.false in
     let by_is : c.in_ok-by.by ≡ return_by c.args.self.now.lp.now (value_at c.return_of.new.workspace.point.items)
     (value_at c.return_of.new.workspace.direction) c.in-Some.leaver.r (goes_to c.in-Some.leaver) = c.in_ok-by.ensures.blocking_variable in
@@ -240,7 +276,16 @@ returns-clause-turn g c =
           (value_at c.entering.new.workspace.row.items) read.prices c.in_ok-chosen.ensures.row c.in-Some-chosen.q
           (sym c.in_ok-chosen.ensures.chosen ∙ c.in-Some-chosen.is) c.requires.optimal);
       ready =
-          record { nonbasic = face_enters c.args.self.now.lp.now c.args.self.now.shift.now c.requires.fits.lawful c.requires.fits.no_change c.args.theta c.args.basis.now at (value_at c.return_of.new.workspace.point.items) (value_at c.return_of.new.workspace.change.items) last.point last.change c.in-Some.leaver found (value_at c.entering.new.workspace.prices.items) (value_at c.entering.new.workspace.row.items) read.prices c.in_ok-chosen.ensures.row c.in-Some-chosen.q (sym c.in_ok-chosen.ensures.chosen ∙ c.in-Some-chosen.is) c.requires.optimal; direction = c.in_ok-by.ensures.direction; pivot = pivot; step = step };
+          record {
+            nonbasic = face_enters c.args.self.now.lp.now c.args.self.now.shift.now c.requires.fits.lawful c.requires.fits.no_change c.args.theta
+                c.args.basis.now at (value_at c.return_of.new.workspace.point.items) (value_at c.return_of.new.workspace.change.items) last.point last.change
+                c.in-Some.leaver found (value_at c.entering.new.workspace.prices.items) (value_at c.entering.new.workspace.row.items) read.prices
+                c.in_ok-chosen.ensures.row c.in-Some-chosen.q (sym c.in_ok-chosen.ensures.chosen ∙ c.in-Some-chosen.is) c.requires.optimal;
+            direction =
+                c.in_ok-by.ensures.direction;
+            pivot = pivot;
+            step = step;
+          };
       is_left = omega (arith, left);
       refused = λ from before now e h.
           of_step c.args.self.now.lp.now c.args.self.now.shift.now c.requires.fits.lawful c.requires.fits.no_change c.args.theta c.args.basis.now at
@@ -252,13 +297,16 @@ returns-clause-turn g c =
 pub returns-clause-workspace : goal.returns-clause-workspace
 returns-clause-workspace g c =
     let read =
-    row_kept (rhs_problem c.args.self.now.lp.now c.args.self.now.shift.now) c.args.basis.now c.args.workspace.now c.entering.new.workspace c.requires.workspace c.in_ok-chosen.ensures.others c.in_ok-chosen.ensures.places in
+    row_kept (rhs_problem c.args.self.now.lp.now c.args.self.now.shift.now) c.args.basis.now c.args.workspace.now c.entering.new.workspace
+    c.requires.workspace c.in_ok-chosen.ensures.others c.in_ok-chosen.ensures.places in
     direction_kept
-    (rhs_problem c.args.self.now.lp.now c.args.self.now.shift.now) c.args.basis.now c.entering.new.workspace c.return_of.new.workspace read c.in_ok-by.ensures.others c.in_ok-by.ensures.places
+    (rhs_problem c.args.self.now.lp.now c.args.self.now.shift.now) c.args.basis.now c.entering.new.workspace c.return_of.new.workspace read
+    c.in_ok-by.ensures.others c.in_ok-by.ensures.places
 
 pub returns-in_default-chosen-clause-workspace : goal.returns-in_default-chosen-clause-workspace
 returns-in_default-chosen-clause-workspace g c =
-    row_kept (rhs_problem c.args.self.now.lp.now c.args.self.now.shift.now) c.args.basis.now c.args.workspace.now c.entering.new.workspace c.requires.workspace c.in_ok-chosen.ensures.others c.in_ok-chosen.ensures.places
+    row_kept (rhs_problem c.args.self.now.lp.now c.args.self.now.shift.now) c.args.basis.now c.args.workspace.now c.entering.new.workspace
+    c.requires.workspace c.in_ok-chosen.ensures.others c.in_ok-chosen.ensures.places
 
 pub returns-clause-rates : goal.returns-clause-rates
 returns-clause-rates g c =

@@ -7,7 +7,8 @@ use Rattle.ranging.proofs.limit_ends.TableauEntry.with_distance.Goals as goal
 pub returns-in-Ok-clause-ends : goal.returns-in-Ok-clause-ends
 returns-in-Ok-clause-ends c =
     let is : c.args.far ≡ Some c.in-Some.number = cc in
-    one_distance c.args.at_most c.args.far c.in-Some.number c.args.self.now.rate c.args.self.now.basic c.args.which c.args.ends c.in-Ok.now is c.in-Ok.ensures.tightened
+    one_distance c.args.at_most c.args.far c.in-Some.number c.args.self.now.rate c.args.self.now.basic c.args.which c.args.ends c.in-Ok.now is
+    c.in-Ok.ensures.tightened
 
 pub returns-in-Err-clause-refused : goal.returns-in-Err-clause-refused
 returns-in-Err-clause-refused c =
@@ -17,7 +18,8 @@ returns-in-Err-clause-refused c =
       is_distance = is;
       refused =
           refused_quotient
-          (record { at_most = c.args.at_most; slope = c.args.self.now.rate; number = c.in-Some.number; by = c.args.self.now.basic; which = c.args.which }) c.in-Err.refused c.evidence.result (reach_formula 7 c.args.self.now.nonbasic c.args.self.now.basic c.args.which)
+          (record { at_most = c.args.at_most; slope = c.args.self.now.rate; number = c.in-Some.number; by = c.args.self.now.basic; which = c.args.which })
+          c.in-Err.refused c.evidence.result (reach_formula 7 c.args.self.now.nonbasic c.args.self.now.basic c.args.which)
           (rw c.length_formula.ensures at c.evidence.ensures.names) c.evidence.ensures.no_way
           (c.evidence.ensures.theta ∙ ap (λ (f : Formula). f.theta) c.length_formula.ensures) c.evidence.ensures.refused c.in-Err.ensures.refused;
     }

@@ -17,7 +17,8 @@ returns-clause-ends c =
     (λ now h. both_bounds c.args.lp.now c.args.basis.now c.args.self.now.price c.args.self.now.rate c.args.self.now.nonbasic c.args.ends c.in_ok-risen.risen now
     (λ e. clash (sym (c.is_zero.ensures.1 e) ∙ c.if-is_zero.false))
     (subst₂ (λ m s. IsTightenedIf m c.args.ends
-    (rate_bound s true c.args.self.now.price c.args.self.now.rate c.args.self.now.nonbasic) c.in_ok-risen.risen) c.ways_of-ways.ensures.up sense c.in_ok-risen.ensures.tightened)
+    (rate_bound s true c.args.self.now.price c.args.self.now.rate c.args.self.now.nonbasic) c.in_ok-risen.risen) c.ways_of-ways.ensures.up sense
+    c.in_ok-risen.ensures.tightened)
     (subst₂ (λ m s. IsTightenedIf m c.in_ok-risen.risen
     (rate_bound s false c.args.self.now.price c.args.self.now.rate c.args.self.now.nonbasic) now) c.ways_of-ways.ensures.down sense h))
     c.with_bound-2.ensures.tightened

@@ -10,5 +10,6 @@ returns-clause-turn c =
 
 pub returns-clause-waypoints : goal.returns-clause-waypoints
 returns-clause-waypoints c =
-    keeps_through c.args.self.now.file c.reinvert_if_due.new.self.file c.exchange_in_file_along.new.self.file c.in_ok-reinvert_if_due.ensures.same_matrix c.in_ok-reinvert_if_due.ensures.same_basics
+    keeps_through c.args.self.now.file c.reinvert_if_due.new.self.file c.exchange_in_file_along.new.self.file c.in_ok-reinvert_if_due.ensures.same_matrix
+    c.in_ok-reinvert_if_due.ensures.same_basics
     c.in_ok-reinvert_if_due.ensures.waypoints c.exchange_in_file_along.ensures.waypoints

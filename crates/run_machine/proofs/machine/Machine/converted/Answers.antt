@@ -9,6 +9,7 @@ returns-in_default g c =
 pub returns : goal.returns
 returns g c =
     rw c.described_as.ensures
-    (finds_a_deck g.S.Kept.shows c.args.card c.args.cards.now c.args.self.now c.name-wanted.result c.name-wanted.ensures c.convert-given.result _ c.in-Some.deck.last c.next_card.result c.in-Some.ensures.taken
+    (finds_a_deck g.S.Kept.shows c.args.card c.args.cards.now c.args.self.now c.name-wanted.result c.name-wanted.ensures c.convert-given.result _
+    c.in-Some.deck.last c.next_card.result c.in-Some.ensures.taken
     (rw c.name-named.ensures at c.convert-given.ensures.problem)
     (rw c.name-named.ensures at c.convert-given.ensures.stop) c.in-Some.ensures.within.2 c.next_card.ensures)

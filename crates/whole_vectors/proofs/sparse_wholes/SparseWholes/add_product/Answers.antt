@@ -32,7 +32,8 @@ invariant_of-self-in_err-enlist c =
     let a = c.self.inside in
     record {
       listed =
-          more_listed a.numbers.items a.listed.items a.ranks.items c.deref_mut.result.now c.enlist.new.listed.items c.enlist.new.ranks _ c.deref_mut.ensures.value (with_items_is a.ranks c.enlist.new.ranks (search rules))
+          more_listed a.numbers.items a.listed.items a.ranks.items c.deref_mut.result.now c.enlist.new.listed.items c.enlist.new.ranks _
+          c.deref_mut.ensures.value (with_items_is a.ranks c.enlist.new.ranks (search rules))
           c.enlist.auto.ranks c.enlist.ensures.ranked c.enlist.ensures.others c.self.invariant.listed;
       fit = c.self.invariant.fit;
     }
@@ -45,7 +46,8 @@ invariant_of-self-2 c =
     record {
       listed =
           put_listed a.numbers.items (c.args.k - 1) n c.enlist.new.listed.items c.enlist.new.ranks _ ranks_are c.in_ok-enlist.ensures.own
-          (more_listed a.numbers.items a.listed.items a.ranks.items c.deref_mut.result.now c.enlist.new.listed.items c.enlist.new.ranks _ c.deref_mut.ensures.value ranks_are
+          (more_listed a.numbers.items a.listed.items a.ranks.items c.deref_mut.result.now c.enlist.new.listed.items c.enlist.new.ranks _
+          c.deref_mut.ensures.value ranks_are
           c.enlist.auto.ranks c.enlist.ensures.ranked c.enlist.ensures.others c.self.invariant.listed);
       fit =
           All-set Fits a.numbers.items (c.args.k - 1) n

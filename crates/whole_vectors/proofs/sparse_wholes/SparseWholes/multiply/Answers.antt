@@ -23,7 +23,8 @@ returns-then-factor-eq1-clause-products c =
 pub multiply_listed-requires-clause-within : goal.multiply_listed-requires-clause-within
 multiply_listed-requires-clause-within c =
     let a = c.self.inside in
-    listed_within a.numbers.items c.deref_mut.result.now a.listed.items c.deref.result.now a.ranks.items c.deref_mut.ensures.value c.deref.ensures.value c.self.invariant.listed
+    listed_within a.numbers.items c.deref_mut.result.now a.listed.items c.deref.result.now a.ranks.items c.deref_mut.ensures.value c.deref.ensures.value
+    c.self.invariant.listed
 
 pub invariant_of-self : goal.invariant_of-self
 invariant_of-self c =

@@ -13,7 +13,8 @@ invariant_of-result c =
     let nought : Fits (pos 0) = omega arith in
     record {
       listed =
-          zeros_listed c.args.size c.in_ok-vec.field-0.items c.in_ok-with_capacity.field-0.items c.in_ok-vec-2.field-0.items numbers c.in_ok-with_capacity.ensures.items (search rules);
+          zeros_listed c.args.size c.in_ok-vec.field-0.items c.in_ok-with_capacity.field-0.items c.in_ok-vec-2.field-0.items numbers
+          c.in_ok-with_capacity.ensures.items (search rules);
       fit = subst (λ ns. All Fits ns) (sym numbers) (All-replicate Fits c.args.size (pos 0) nought);
     }
 

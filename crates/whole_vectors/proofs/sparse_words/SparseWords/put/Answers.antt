@@ -19,7 +19,8 @@ invariant_of-self-2 c =
     let a = c.self.inside in
     let ranks_are = with_items_is a.ranks c.enlist.new.ranks (search rules) in
     put_listed a.numbers.items (c.args.k - 1) (to_z w64 (of_z w64 c.args.n)) c.enlist.new.listed.items c.enlist.new.ranks _ ranks_are c.in_ok-enlist.ensures.own
-    (more_listed a.numbers.items a.listed.items a.ranks.items c.deref_mut.result.now c.enlist.new.listed.items c.enlist.new.ranks _ c.deref_mut.ensures.value ranks_are
+    (more_listed a.numbers.items a.listed.items a.ranks.items c.deref_mut.result.now c.enlist.new.listed.items c.enlist.new.ranks _ c.deref_mut.ensures.value
+    ranks_are
     c.enlist.auto.ranks c.enlist.ensures.ranked c.enlist.ensures.others c.self.invariant)
 
 pub returns-clause-number : goal.returns-clause-number
