@@ -1,8 +1,8 @@
 // Sources and sinks over std's readers and writers. They tell nothing of the bytes.
-ghost use Rattle.std.specs.Prelude.{◌≡◌, ◌≤◌, None, take, length, MatchOption, MatchResult, IfSome, IfOk, is_ok, if◌then◌else◌};
-ghost use Rattle.std.specs.Io.{ReadsAtMost, WritesAtMost};
-ghost use Rattle.std.specs.Io.KnownBytes.{Appends, ReadConsumes, WriteAppends};
+ghost use Rattle.std.specs.Prelude.{◌≡◌, ◌≤◌, None, take, length, MatchOption, MatchResult, IfSome, is_ok, if◌then◌else◌};
+ghost use Rattle.std.specs.Io.KnownBytes.{Appends, ReadConsumes};
 ghost use Rattle.job_devices.specs.Text.{AppendsPrefix};
+ghost use Rattle.job_devices.specs.Calls.{IsRead, IsWrite};
 
 use crate::{Failed, Sink, Source, WriteStop};
 use std::io::{Read, Write};
@@ -27,17 +27,15 @@ impl<R: Read> StreamSource<R> {
 }
 
 impl<R: Read> Source for StreamSource<R> {
-    ghost use Rattle.job_devices.specs.Causes.{HasReadCause, next_count};
+    ghost use Rattle.job_devices.specs.Causes.{next_count};
     ghost use Rattle.job_devices.specs.States.{untold_source};
     ghost use Rattle.job_devices.specs.Stream.{stream_reader, stream_read_faults};
 
     ghost given = { λ s. untold_source (stream_read_faults s) };
 
     fn read(&mut self, buf: &mut [u8]) -> Result<usize, Failed>
-        ensures bound { ReadsAtMost result buf.new }
-        ensures bytes { ReadConsumes None None result buf.new }
-        ensures cause { HasReadCause (untold_source (stream_read_faults self.old))
-            (untold_source (stream_read_faults self.new)) result }
+        ensures read { IsRead (untold_source (stream_read_faults self.old))
+            (untold_source (stream_read_faults self.new)) result buf.new }
 
         // The reader has given these bytes, 0 only at its end, and none where the read failed.
         ensures reader { ReadConsumes (R.remaining (stream_reader self.old))
@@ -76,20 +74,15 @@ impl<W: Write> StreamSink<W> {
 }
 
 impl<W: Write> Sink for StreamSink<W> {
-    ghost use Rattle.job_devices.specs.Causes.{HasWriteCause, KeepsStop, next_count};
+    ghost use Rattle.job_devices.specs.Causes.{next_count};
     ghost use Rattle.job_devices.specs.States.{untold_sink};
     ghost use Rattle.job_devices.specs.Stream.{stream_writer, stream_write_faults};
 
     ghost taken = { λ s. untold_sink (stream_write_faults s) };
 
     fn write(&mut self, piece: &[u8]) -> Result<usize, WriteStop>
-        ensures bound { WritesAtMost result piece.now }
-        ensures some { IfOk result (λ taken. taken ≡ 0 → length piece.now ≡ 0) }
-        ensures bytes { WriteAppends None None result piece.now }
-        ensures cause { HasWriteCause (untold_sink (stream_write_faults self.old))
-            (untold_sink (stream_write_faults self.new)) result }
-        ensures stopped { KeepsStop (untold_sink (stream_write_faults self.old))
-            (untold_sink (stream_write_faults self.new)) result }
+        ensures write { IsWrite (untold_sink (stream_write_faults self.old))
+            (untold_sink (stream_write_faults self.new)) result piece.now }
 
         // The writer holds the bytes that were taken. After a fault it may hold some too, where its flush failed.
         ensures writer { MatchResult result
