@@ -3,8 +3,8 @@ ghost use Rattle.std.specs.Prelude.{◌≡◌, ◌≤◌, false, length, bytes_e
 ghost use Rattle.problem_definitions.specs.Kinds.{takes_value};
 ghost use Rattle.card_definitions.specs.Words.{is_empty, named};
 ghost use Rattle.deck_definitions.specs.DataCards.{row_kinds, combination_kinds, combination_text, is_row_type, bound_kinds};
-ghost use Rattle.deck_definitions.specs.Sections.{section_word, section_words, is_section};
-ghost use Rattle.deck_definitions.specs.declared.Section.TheVariants.{Columns, Ranges};
+ghost use Rattle.deck_definitions.specs.Sections.{section_word, section_words};
+ghost use Rattle.deck_definitions.specs.Written.{row_kind_text, bound_kind_text};
 
 use crate::blanks::first_blank;
 use deck_definitions::Section;
@@ -57,6 +57,19 @@ pub fn combination_kind(word: &[u8]) -> Option<RowKind>
     }
 }
 
+/// The word that is the type of a row.
+pub fn row_kind_word(kind: RowKind) -> &'static [u8]
+    ensures word { result.now ≡ row_kind_text kind }
+    ensures short { length result.now ≤ 2 }
+{
+    match kind {
+        RowKind::N => b"N",
+        RowKind::G => b"G",
+        RowKind::L => b"L",
+        RowKind::E => b"E",
+    }
+}
+
 /// The word that is the type of a combination.
 pub fn combination_word(kind: RowKind) -> &'static [u8]
     ensures word { result.now ≡ combination_text kind }
@@ -99,6 +112,21 @@ pub fn bound_kind(word: &[u8]) -> Option<BoundKind>
     }
 }
 
+/// The word that is the type of a bound.
+pub fn bound_kind_word(kind: BoundKind) -> &'static [u8]
+    ensures word { result.now ≡ bound_kind_text kind }
+    ensures short { length result.now ≤ 2 }
+{
+    match kind {
+        BoundKind::Up => b"UP",
+        BoundKind::Lo => b"LO",
+        BoundKind::Fx => b"FX",
+        BoundKind::Fr => b"FR",
+        BoundKind::Mi => b"MI",
+        BoundKind::Pl => b"PL",
+    }
+}
+
 // Whether a word names a type of bounds that takes a number.
 pub fn takes_number(word: &[u8]) -> bool
     ensures { result ≡ unwrap_or (option_map takes_value (named bound_kinds word.now)) false }
@@ -133,16 +161,4 @@ pub fn section_named(word: &[u8]) -> Option<Section>
         b"ENDATA" => Some(Section::Endata),
         _ => None,
     }
-}
-
-pub fn is_columns(section: Section) -> bool
-    ensures { result ≡ is_section Columns section }
-{
-    matches!(section, Section::Columns)
-}
-
-pub fn is_ranges(section: Section) -> bool
-    ensures { result ≡ is_section Ranges section }
-{
-    matches!(section, Section::Ranges)
 }
