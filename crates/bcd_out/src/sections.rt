@@ -197,10 +197,10 @@ fn put_column<P: Sink>(
     ensures { Writes (P.taken punch.old) (P.taken punch.new) result
         (column_lines rows.now column.now) }
 {
-    if column.entries.is_empty() {
+    if column.items.is_empty() {
         put_zero(punch, rows, column.name)
     } else {
-        put_items(punch, rows, b"", column.name, &column.entries)
+        put_items(punch, rows, b"", column.name, &column.items)
     }
 }
 
@@ -208,7 +208,7 @@ fn put_value_set<P: Sink>(punch: &mut P, rows: &[RowDecl], set: &ValueSet) -> Re
     ensures { Writes (P.taken punch.old) (P.taken punch.new) result
         (entry_lines (map (λ row. row.name) rows.now) set.now) }
 {
-    put_items(punch, rows, b"", set.name, &set.entries)
+    put_items(punch, rows, b"", set.name, &set.items)
 }
 
 fn put_bound<P: Sink>(
