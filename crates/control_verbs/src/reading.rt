@@ -27,58 +27,6 @@ fn moved(cell: Cell, argument: &[u8]) -> Option<Verb<Name>>
     }
 }
 
-// TITLE with the arguments between its parentheses.
-#[tactic(auto, using(crate::proofs::Forms::of_title))]
-fn title_with(text: &[u8]) -> Option<Verb<Name>>
-    ensures verb { option_map viewed result ≡ verbs.verb_with verbs.TakesTitle
-        (TheParts (split_outside is_comma text.now)) }
-    ensures lawful { IfSome result (λ verb. IsLawful (viewed verb)) }
-{
-    Some(Verb::Title(title_in(one_argument(text)?)?))
-}
-
-// MOVE with the arguments between its parentheses.
-#[tactic(auto, using(crate::proofs::Forms::of_cell))]
-fn move_with(text: &[u8]) -> Option<Verb<Name>>
-    ensures verb { option_map viewed result ≡ verbs.verb_with verbs.TakesCell
-        (TheParts (split_outside is_comma text.now)) }
-    ensures lawful { IfSome result (λ verb. IsLawful (viewed verb)) }
-{
-    let (cell, argument) = two_arguments(text)?;
-    moved(cell_of(cell)?, argument)
-}
-
-// MVADR with the arguments between its parentheses.
-#[tactic(auto, using(crate::proofs::Forms::of_demand))]
-fn mvadr_with(text: &[u8]) -> Option<Verb<Name>>
-    ensures verb { option_map viewed result ≡ verbs.verb_with verbs.TakesDemand
-        (TheParts (split_outside is_comma text.now)) }
-    ensures lawful { IfSome result (λ verb. IsLawful (viewed verb)) }
-{
-    let (demand, label) = two_arguments(text)?;
-    let demand = demand_of(demand)?;
-    Some(Verb::Mvadr(demand, label_in(label)?))
-}
-
-// GOTO with the arguments between its parentheses.
-#[tactic(auto, using(crate::proofs::Forms::of_label))]
-fn goto_with(text: &[u8]) -> Option<Verb<Name>>
-    ensures verb { option_map viewed result ≡ verbs.verb_with verbs.TakesLabel
-        (TheParts (split_outside is_comma text.now)) }
-    ensures lawful { IfSome result (λ verb. IsLawful (viewed verb)) }
-{
-    Some(Verb::Goto(label_in(one_argument(text)?)?))
-}
-
-// SETUP with the arguments between its parentheses.
-fn setup_with(text: &[u8]) -> Option<Verb<Name>>
-    ensures verb { option_map viewed result ≡ verbs.verb_with verbs.TakesOptions
-        (TheParts (split_outside is_comma text.now)) }
-    ensures lawful { IfSome result (λ verb. IsLawful (viewed verb)) }
-{
-    Some(Verb::Setup(options_in(text)?))
-}
-
 // SETUP without parentheses: no set, and the least objective.
 fn plain_setup() -> Verb<Name>
     ensures verb { Some (viewed result) ≡ verbs.verb_with verbs.TakesOptions NoParts }
@@ -92,17 +40,25 @@ fn plain_setup() -> Verb<Name>
 }
 
 // The verb of a word with the arguments between its parentheses.
+#[tactic(auto, using(crate::proofs::Forms::of_title, crate::proofs::Forms::of_cell, crate::proofs::Forms::of_demand, crate::proofs::Forms::of_label))]
 fn verb_with(word: VerbWord, text: &[u8]) -> Option<Verb<Name>>
     ensures verb { option_map viewed result ≡ verbs.verb_with (word_view word)
         (TheParts (split_outside is_comma text.now)) }
     ensures lawful { IfSome result (λ verb. IsLawful (viewed verb)) }
 {
     match word {
-        VerbWord::TakesTitle => title_with(text),
-        VerbWord::TakesCell => move_with(text),
-        VerbWord::TakesDemand => mvadr_with(text),
-        VerbWord::TakesLabel => goto_with(text),
-        VerbWord::TakesOptions => setup_with(text),
+        VerbWord::TakesTitle => Some(Verb::Title(title_in(one_argument(text)?)?)),
+        VerbWord::TakesCell => {
+            let (cell, argument) = two_arguments(text)?;
+            moved(cell_of(cell)?, argument)
+        }
+        VerbWord::TakesDemand => {
+            let (demand, label) = two_arguments(text)?;
+            let demand = demand_of(demand)?;
+            Some(Verb::Mvadr(demand, label_in(label)?))
+        }
+        VerbWord::TakesLabel => Some(Verb::Goto(label_in(one_argument(text)?)?)),
+        VerbWord::TakesOptions => Some(Verb::Setup(options_in(text)?)),
         VerbWord::Alone(_) | VerbWord::EndsProgram => None,
     }
 }
