@@ -11,9 +11,7 @@ ghost use Rattle.named_problem.specs.Views.{rows_alone};
 ghost use Rattle.revise_definitions.specs.Tests.{puts_fault};
 ghost use Rattle.revise_edits.specs.EditTests.{put_test, pair_test, part_test};
 
-use deck_fields::{
-    DataCard, PairText, first_pair, first_part, is_blank, is_section, second_pair,
-};
+use deck_fields::{DataCard, PairText, first_pair, first_part, is_blank, is_section, second_pair};
 use name_table::Name;
 use named_problem::{DeckFaultKind, Entries, NamedProblem, Rows, Section, number_in, row_of};
 use problem_definitions::MAX_ENTRIES;
