@@ -10,7 +10,7 @@ use basis_deck_definitions::Code;
 use card_reader::Card;
 use deck_definitions::{DeckFaultKind, Section};
 use deck_fields::{
-    CardStop, DataCard, Draft, SectionOrder, begins_section, is_header, is_last, next_section,
+    CardStop, DataCard, Draft, SectionOrder, begins_section, is_section, next_section,
     read_fixed_card,
 };
 use lp_model::{Basis, Lp, NoMemory, Status};
@@ -255,7 +255,7 @@ impl<'a> BasisDraft<'a> {
         let Some(section) = self.section else {
             return Err(CardStop::Fault(DeckFaultKind::SectionOrder));
         };
-        if !is_header(section) {
+        if !is_section(Section::Header, section) {
             return Err(CardStop::Fault(DeckFaultKind::SectionOrder));
         }
         match read_fixed_card(card) {
@@ -291,7 +291,7 @@ impl SectionOrder for NameToEndata {
     ghost follows = { ends_after };
 
     fn may_follow(before: Section, section: Section) -> bool {
-        is_header(before) && is_last(section)
+        is_section(Section::Header, before) && is_section(Section::Endata, section)
     }
 }
 

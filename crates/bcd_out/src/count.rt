@@ -75,10 +75,10 @@ fn zero_cards(rows: &[RowDecl]) -> usize
 fn column_cards(rows: &[RowDecl], column: &ColumnDecl) -> usize
     ensures { result ≡ column_count rows.now column.now }
 {
-    if column.entries.is_empty() {
+    if column.items.is_empty() {
         zero_cards(rows)
     } else {
-        column.entries.len()
+        column.items.len()
     }
 }
 
@@ -91,7 +91,7 @@ fn with_columns(count: u32, rows: &[RowDecl], columns: &[ColumnDecl]) -> u32
 fn with_values(count: u32, sets: &[ValueSet]) -> u32
     ensures { result ≡ min (count + section_count sets.now) max_counted }
 {
-    with_section(count, sets, |set| set.entries.len())
+    with_section(count, sets, |set| set.items.len())
 }
 
 fn with_bounds(count: u32, sets: &[BoundSet]) -> u32

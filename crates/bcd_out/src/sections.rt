@@ -5,46 +5,15 @@ ghost use Rattle.std.specs.List.{flat_map};
 ghost use Rattle.std.specs.Option.{option_copied, option_to_list};
 ghost use Rattle.problem_definitions.specs.Names.{name_at};
 ghost use Rattle.problem_definitions.specs.Problem.{group_names};
-ghost use Rattle.deck_definitions.specs.Written.{row_kind_text, bound_kind_text};
 ghost use Rattle.job_devices.specs.Text.{Writes, text_of_pieces};
 ghost use Rattle.bcd_out.specs.Lines.{WritesEach, line, bare_line, item_line, combination_lines, row_lines, first_plain, zero_line, entry_lines, column_lines};
 ghost use Rattle.bcd_out.specs.Lines.{bound_line, number_text, bound_lines, section_lines};
 
 use crate::card::{WrittenCard, put_card};
-use deck_fields::combination_word;
+use deck_fields::{bound_kind_word, combination_word, row_kind_word};
 use job_devices::{Sink, WriteStop, put_all, put_each};
 use name_table::Name;
-use problem_file::{
-    BoundItem, BoundKind, BoundSet, ColumnDecl, DeckEntry, RowDecl, RowKind, ValueSet,
-};
-
-// The word of a row's type.
-fn row_kind_word(kind: RowKind) -> &'static [u8]
-    ensures word { result.now ≡ row_kind_text kind }
-    ensures short { length result.now ≤ 2 }
-{
-    match kind {
-        RowKind::N => b"N",
-        RowKind::G => b"G",
-        RowKind::L => b"L",
-        RowKind::E => b"E",
-    }
-}
-
-// The word of a bound's type.
-fn bound_kind_word(kind: BoundKind) -> &'static [u8]
-    ensures word { result.now ≡ bound_kind_text kind }
-    ensures short { length result.now ≤ 2 }
-{
-    match kind {
-        BoundKind::Up => b"UP",
-        BoundKind::Lo => b"LO",
-        BoundKind::Fx => b"FX",
-        BoundKind::Fr => b"FR",
-        BoundKind::Mi => b"MI",
-        BoundKind::Pl => b"PL",
-    }
-}
+use problem_file::{BoundItem, BoundSet, ColumnDecl, DeckEntry, RowDecl, RowKind, ValueSet};
 
 /// The name of the row with this number.
 pub fn row_name(rows: &[RowDecl], number: u32) -> &[u8]
@@ -228,10 +197,10 @@ fn put_column<P: Sink>(
     ensures { Writes (P.taken punch.old) (P.taken punch.new) result
         (column_lines rows.now column.now) }
 {
-    if column.entries.is_empty() {
+    if column.items.is_empty() {
         put_zero(punch, rows, column.name)
     } else {
-        put_items(punch, rows, b"", column.name, &column.entries)
+        put_items(punch, rows, b"", column.name, &column.items)
     }
 }
 
@@ -239,7 +208,7 @@ fn put_value_set<P: Sink>(punch: &mut P, rows: &[RowDecl], set: &ValueSet) -> Re
     ensures { Writes (P.taken punch.old) (P.taken punch.new) result
         (entry_lines (map (λ row. row.name) rows.now) set.now) }
 {
-    put_items(punch, rows, b"", set.name, &set.entries)
+    put_items(punch, rows, b"", set.name, &set.items)
 }
 
 fn put_bound<P: Sink>(

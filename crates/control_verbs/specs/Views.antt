@@ -12,8 +12,6 @@ use Rattle.control_verbs.specs.declared.tables.Cell.{Cell}
 use Rattle.control_verbs.specs.declared.tables.Cell.TheVariants.{OfName, OfNumber, OfLimit}
 use Rattle.control_verbs.specs.declared.tables.VerbWord.{VerbWord}
 use Rattle.control_verbs.specs.declared.tables.VerbWord.TheVariants.{Alone, TakesTitle, TakesCell, TakesDemand, TakesLabel, TakesOptions, EndsProgram}
-use Rattle.control_verbs.specs.declared.tables.Plain.{Plain}
-use Rattle.control_verbs.specs.declared.tables.Plain.TheVariants as plain
 
 abbrev pub viewed : {L : Type 0} → Verb L → program.Verb L
 viewed Initialz = program.Initialz
@@ -54,23 +52,8 @@ cell_view (OfName cell) = table.OfName cell
 cell_view (OfNumber cell) = table.OfNumber cell
 cell_view OfLimit = table.OfLimit
 
-abbrev pub plain_view : {L : Type 0} → Plain → program.Verb L
-plain_view plain.Initialz = program.Initialz
-plain_view plain.Convert = program.Convert
-plain_view plain.Primal = program.Primal
-plain_view plain.Dual = program.Dual
-plain_view plain.Revise = program.Revise
-plain_view plain.Ranging = program.Ranging
-plain_view plain.Paraobj = program.Paraobj
-plain_view plain.Pararhs = program.Pararhs
-plain_view plain.Solution = program.Solution
-plain_view plain.Bcdout = program.Bcdout
-plain_view plain.Punch = program.Punch
-plain_view plain.Insert = program.Insert
-plain_view plain.Exit = program.Exit
-
 abbrev pub word_view : VerbWord → table.VerbWord
-word_view (Alone verb) = table.Alone (plain_view verb)
+word_view (Alone verb) = table.Alone (viewed verb)
 word_view TakesTitle = table.TakesTitle
 word_view TakesCell = table.TakesCell
 word_view TakesDemand = table.TakesDemand
@@ -78,8 +61,13 @@ word_view TakesLabel = table.TakesLabel
 word_view TakesOptions = table.TakesOptions
 word_view EndsProgram = table.EndsProgram
 
-abbrev pub alone_view : Plain → table.VerbWord
-alone_view verb = table.Alone (plain_view verb)
+abbrev pub alone_view : Verb (List ℕ) → table.VerbWord
+alone_view verb = table.Alone (viewed verb)
+
+-- a verb that stands alone is lawful
+abbrev pub IsLawfulWord : table.VerbWord → Type 0
+IsLawfulWord (table.Alone verb) = IsLawful verb
+IsLawfulWord _ = Unit {0}
 
 -- the table of verbs begins with the words of those that stand alone
 abbrev pub alone_words : List (List ℕ × table.VerbWord)

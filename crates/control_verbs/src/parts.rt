@@ -4,7 +4,7 @@ ghost use Rattle.std.specs.Option.{option_copied};
 ghost use Rattle.std.specs.List.{list_any};
 ghost use Rattle.control_definitions.specs.Statements.{split_outside, is_comma, is_quote};
 ghost use Rattle.control_definitions.specs.Arguments.{quotation};
-ghost use Rattle.control_verbs.specs.Pieces.{parts_after, only_part, two_parts, pair_view, after_quote, before_quote};
+ghost use Rattle.control_verbs.specs.Pieces.{parts_after, only_part, two_parts, pair_view, after_quote};
 
 use crate::quotes::place_outside;
 
@@ -60,21 +60,11 @@ fn after_quote(text: &[u8]) -> Option<&[u8]>
     }
 }
 
-// A text without the quote at its end.
-fn before_quote(text: &[u8]) -> Option<&[u8]>
-    ensures { option_copied result ≡ before_quote text.now }
-{
-    match text.split_last() {
-        Some((b'\'', front)) => Some(front),
-        _ => None,
-    }
-}
-
 /// What stands between two quotes, where no other quote does.
 #[tactic(auto, using(crate::proofs::Quoted::quotation_is))]
 pub fn quotation(argument: &[u8]) -> Option<&[u8]>
     ensures { option_copied result ≡ quotation argument.now }
 {
-    let inner = before_quote(after_quote(argument)?)?;
+    let inner = after_quote(argument)?.strip_suffix(b"'")?;
     if has_quote(inner) { None } else { Some(inner) }
 }

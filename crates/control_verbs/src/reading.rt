@@ -3,41 +3,17 @@ ghost use Rattle.std.specs.Prelude.{◌≡◌, option_map, IfSome};
 ghost use Rattle.control_definitions.specs.Statements.{With as TheParts, Without as NoParts, split_outside, is_comma};
 ghost use Rattle.control_definitions.specs.Verbs as verbs;
 ghost use Rattle.control_verbs.specs.Pieces.{arguments_view};
-ghost use Rattle.control_verbs.specs.Views.{viewed, IsLawful, cell_view, word_view, plain_view};
+ghost use Rattle.control_verbs.specs.Views.{viewed, IsLawful, IsLawfulWord, cell_view, word_view};
 
 use crate::columns::statement;
 use crate::given::{label_in, limit_in, name_in, number_in, title_in};
 use crate::options::options_in;
 use crate::parts::{one_argument, two_arguments};
-use crate::tables::{Cell, Plain, VerbWord, cell_of, demand_of, verb_word_of};
+use crate::tables::{Cell, VerbWord, cell_of, demand_of, verb_word_of};
 use crate::verb::{SetupOptions, Verb};
 use crate::words::{Arguments, arguments_of, verb_word};
 use lp_definitions::Sense;
 use name_table::Name;
-
-impl Plain {
-    // The verb.
-    fn verb(self) -> Verb<Name>
-        ensures verb { viewed result ≡ plain_view self }
-        ensures lawful { IsLawful (viewed result) }
-    {
-        match self {
-            Plain::Initialz => Verb::Initialz,
-            Plain::Convert => Verb::Convert,
-            Plain::Primal => Verb::Primal,
-            Plain::Dual => Verb::Dual,
-            Plain::Revise => Verb::Revise,
-            Plain::Ranging => Verb::Ranging,
-            Plain::Paraobj => Verb::Paraobj,
-            Plain::Pararhs => Verb::Pararhs,
-            Plain::Solution => Verb::Solution,
-            Plain::Bcdout => Verb::Bcdout,
-            Plain::Punch => Verb::Punch,
-            Plain::Insert => Verb::Insert,
-            Plain::Exit => Verb::Exit,
-        }
-    }
-}
 
 // MOVE of a cell to an argument of its kind.
 fn moved(cell: Cell, argument: &[u8]) -> Option<Verb<Name>>
@@ -49,58 +25,6 @@ fn moved(cell: Cell, argument: &[u8]) -> Option<Verb<Name>>
         Cell::OfNumber(cell) => Some(Verb::MoveNumber(cell, number_in(argument)?)),
         Cell::OfLimit => Some(Verb::MoveLimit(limit_in(argument)?)),
     }
-}
-
-// TITLE with the arguments between its parentheses.
-#[tactic(auto, using(crate::proofs::Forms::of_title))]
-fn title_with(text: &[u8]) -> Option<Verb<Name>>
-    ensures verb { option_map viewed result ≡ verbs.verb_with verbs.TakesTitle
-        (TheParts (split_outside is_comma text.now)) }
-    ensures lawful { IfSome result (λ verb. IsLawful (viewed verb)) }
-{
-    Some(Verb::Title(title_in(one_argument(text)?)?))
-}
-
-// MOVE with the arguments between its parentheses.
-#[tactic(auto, using(crate::proofs::Forms::of_cell))]
-fn move_with(text: &[u8]) -> Option<Verb<Name>>
-    ensures verb { option_map viewed result ≡ verbs.verb_with verbs.TakesCell
-        (TheParts (split_outside is_comma text.now)) }
-    ensures lawful { IfSome result (λ verb. IsLawful (viewed verb)) }
-{
-    let (cell, argument) = two_arguments(text)?;
-    moved(cell_of(cell)?, argument)
-}
-
-// MVADR with the arguments between its parentheses.
-#[tactic(auto, using(crate::proofs::Forms::of_demand))]
-fn mvadr_with(text: &[u8]) -> Option<Verb<Name>>
-    ensures verb { option_map viewed result ≡ verbs.verb_with verbs.TakesDemand
-        (TheParts (split_outside is_comma text.now)) }
-    ensures lawful { IfSome result (λ verb. IsLawful (viewed verb)) }
-{
-    let (demand, label) = two_arguments(text)?;
-    let demand = demand_of(demand)?;
-    Some(Verb::Mvadr(demand, label_in(label)?))
-}
-
-// GOTO with the arguments between its parentheses.
-#[tactic(auto, using(crate::proofs::Forms::of_label))]
-fn goto_with(text: &[u8]) -> Option<Verb<Name>>
-    ensures verb { option_map viewed result ≡ verbs.verb_with verbs.TakesLabel
-        (TheParts (split_outside is_comma text.now)) }
-    ensures lawful { IfSome result (λ verb. IsLawful (viewed verb)) }
-{
-    Some(Verb::Goto(label_in(one_argument(text)?)?))
-}
-
-// SETUP with the arguments between its parentheses.
-fn setup_with(text: &[u8]) -> Option<Verb<Name>>
-    ensures verb { option_map viewed result ≡ verbs.verb_with verbs.TakesOptions
-        (TheParts (split_outside is_comma text.now)) }
-    ensures lawful { IfSome result (λ verb. IsLawful (viewed verb)) }
-{
-    Some(Verb::Setup(options_in(text)?))
 }
 
 // SETUP without parentheses: no set, and the least objective.
@@ -116,35 +40,39 @@ fn plain_setup() -> Verb<Name>
 }
 
 // The verb of a word with the arguments between its parentheses.
+#[tactic(auto, using(crate::proofs::Forms::of_title, crate::proofs::Forms::of_cell, crate::proofs::Forms::of_demand, crate::proofs::Forms::of_label))]
 fn verb_with(word: VerbWord, text: &[u8]) -> Option<Verb<Name>>
     ensures verb { option_map viewed result ≡ verbs.verb_with (word_view word)
         (TheParts (split_outside is_comma text.now)) }
     ensures lawful { IfSome result (λ verb. IsLawful (viewed verb)) }
 {
     match word {
-        VerbWord::Alone(_) => None,
-        VerbWord::TakesTitle => title_with(text),
-        VerbWord::TakesCell => move_with(text),
-        VerbWord::TakesDemand => mvadr_with(text),
-        VerbWord::TakesLabel => goto_with(text),
-        VerbWord::TakesOptions => setup_with(text),
-        VerbWord::EndsProgram => None,
+        VerbWord::TakesTitle => Some(Verb::Title(title_in(one_argument(text)?)?)),
+        VerbWord::TakesCell => {
+            let (cell, argument) = two_arguments(text)?;
+            moved(cell_of(cell)?, argument)
+        }
+        VerbWord::TakesDemand => {
+            let (demand, label) = two_arguments(text)?;
+            let demand = demand_of(demand)?;
+            Some(Verb::Mvadr(demand, label_in(label)?))
+        }
+        VerbWord::TakesLabel => Some(Verb::Goto(label_in(one_argument(text)?)?)),
+        VerbWord::TakesOptions => Some(Verb::Setup(options_in(text)?)),
+        VerbWord::Alone(_) | VerbWord::EndsProgram => None,
     }
 }
 
 // The verb of a word without parentheses.
 fn verb_without(word: VerbWord) -> Option<Verb<Name>>
+    requires { IsLawfulWord (word_view word) }
     ensures verb { option_map viewed result ≡ verbs.verb_with (word_view word) NoParts }
     ensures lawful { IfSome result (λ verb. IsLawful (viewed verb)) }
 {
     match word {
-        VerbWord::Alone(plain) => Some(plain.verb()),
+        VerbWord::Alone(verb) => Some(verb),
         VerbWord::TakesOptions => Some(plain_setup()),
-        VerbWord::TakesTitle => None,
-        VerbWord::TakesCell => None,
-        VerbWord::TakesDemand => None,
-        VerbWord::TakesLabel => None,
-        VerbWord::EndsProgram => None,
+        _ => None,
     }
 }
 

@@ -1,8 +1,7 @@
 // The verb and the arguments of a statement.
 ghost use Rattle.std.specs.Prelude.{◌≡◌, ◌≤◌, length};
 ghost use Rattle.std.specs.List.{list_any};
-ghost use Rattle.std.specs.Option.{option_copied};
-ghost use Rattle.control_definitions.specs.Statements.{verb_word, after_parenthesis, first_argument, arguments_of, without_close, is_open_parenthesis};
+ghost use Rattle.control_definitions.specs.Statements.{verb_word, after_parenthesis, first_argument, arguments_of, is_open_parenthesis};
 ghost use Rattle.control_verbs.specs.Pieces.{arguments_view};
 
 use crate::places::parenthesis_place;
@@ -42,16 +41,6 @@ fn has_parenthesis(statement: &[u8]) -> bool
     statement.iter().any(|byte| *byte == b'(')
 }
 
-// The text without the parenthesis that ends it.
-fn without_close(text: &[u8]) -> Option<&[u8]>
-    ensures { option_copied result ≡ without_close text.now }
-{
-    match text.split_last() {
-        Some((b')', front)) => Some(front),
-        _ => None,
-    }
-}
-
 /// The arguments of a statement.
 pub fn arguments_of(statement: &[u8]) -> Arguments<'_>
     ensures { arguments_view result ≡ arguments_of statement.now }
@@ -59,7 +48,7 @@ pub fn arguments_of(statement: &[u8]) -> Arguments<'_>
     if !has_parenthesis(statement) {
         return Arguments::Without;
     }
-    match without_close(after_parenthesis(statement)) {
+    match after_parenthesis(statement).strip_suffix(b")") {
         Some(text) => Arguments::With(text),
         None => Arguments::Malformed,
     }

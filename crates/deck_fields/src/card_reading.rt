@@ -64,25 +64,6 @@ pub fn read_fixed_card<'a>(card: Card<'a>) -> Result<DataCard<'a>, DeckFaultKind
     }
 }
 
-// Reads a data card of a free deck.
-fn read_free_card<'a>(
-    card: Card<'a>,
-    section: Section,
-    deletes: bool,
-) -> Result<DataCard<'a>, DeckFaultKind>
-    ensures reading { IfOk result (λ d. viewed d ≡ reading_of
-        (form_on FreeFields section deletes (card_bytes card.entry)) (card_bytes card.entry)) }
-    ensures no_fault { OnOk result
-        (form_fault FreeFields section deletes (card_bytes card.entry) ≡ None) }
-    ensures fault { IfErr result
-        (λ kind. form_fault FreeFields section deletes (card_bytes card.entry) ≡ Some kind) }
-{
-    match free_fields(card, section, deletes) {
-        Ok(f) => Ok(card_with(f)),
-        Err(kind) => Err(kind),
-    }
-}
-
 /// Reads a data card of this section in a deck of this style, where it may name what is to be deleted.
 pub fn read_data_card<'a>(
     card: Card<'a>,
@@ -99,7 +80,10 @@ pub fn read_data_card<'a>(
 {
     match style {
         Style::FixedFields => read_fixed_card(card),
-        Style::FreeFields => read_free_card(card, section, deletes),
+        Style::FreeFields => {
+            let f = free_fields(card, section, deletes)?;
+            Ok(card_with(f))
+        }
     }
 }
 

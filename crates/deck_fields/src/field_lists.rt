@@ -1,191 +1,79 @@
 // The fields that the words of a free data card are.
-ghost use Rattle.std.specs.Prelude.{◌≡◌, ◌≤◌, ◌==◌, ◌++◌, ◌∷◌, [], true, false, length, IfSome, option_map};
+ghost use Rattle.std.specs.Prelude.{◌≡◌, ◌≤◌, All, length, map, IfSome, option_map};
 ghost use Rattle.card_definitions.specs.Fields.{fields_for};
-ghost use Rattle.deck_definitions.specs.DataCards.{named_pairs, bare_pairs, row_words, bound_words, words_given, words_deleted, words_on};
+ghost use Rattle.deck_definitions.specs.DataCards.{words_given, words_deleted, words_on};
 
 use crate::keywords::{combines, takes_number};
 use deck_definitions::Section;
 
-const TYPE_NAME: &[u8] = &[1, 2];
+const PLAIN_ROW: &[&[u8]] = &[&[1, 2]];
 
-const TYPE_NAME_PART: &[u8] = &[1, 2, 3, 4];
+const COMBINATION: &[&[u8]] = &[&[1, 2], &[1, 2, 3, 4], &[1, 2, 3, 4, 5, 6]];
 
-const TYPE_NAME_PARTS: &[u8] = &[1, 2, 3, 4, 5, 6];
+const COLUMN: &[&[u8]] = &[&[2, 3, 4], &[2, 3, 4, 5, 6]];
 
-const NAME_PAIR: &[u8] = &[2, 3, 4];
+const SET: &[&[u8]] = &[&[2, 3, 4], &[2, 3, 4, 5, 6], &[3, 4], &[3, 4, 5, 6]];
 
-const NAME_PAIRS: &[u8] = &[2, 3, 4, 5, 6];
+const BARE_BOUND: &[&[u8]] = &[&[1, 3], &[1, 2, 3]];
 
-const PAIR: &[u8] = &[3, 4];
+const VALUED_BOUND: &[&[u8]] = &[&[1, 3, 4], &[1, 2, 3, 4]];
 
-const PAIRS: &[u8] = &[3, 4, 5, 6];
+const DELETED_ROW: &[&[u8]] = &[&[2]];
 
-const TYPE_COLUMN: &[u8] = &[1, 3];
+const DELETED_ITEM: &[&[u8]] = &[&[2], &[2, 3]];
 
-const TYPE_SET_COLUMN: &[u8] = &[1, 2, 3];
-
-const TYPE_COLUMN_NUMBER: &[u8] = &[1, 3, 4];
-
-const TYPE_SET_COLUMN_NUMBER: &[u8] = &[1, 2, 3, 4];
-
-const NAME: &[u8] = &[2];
-
-const NAMES: &[u8] = &[2, 3];
-
-// Whether a list has so many fields.
-fn has_count(fields: &[u8], count: u8) -> bool
-    ensures { result ≡ (length fields.now == count) }
-{
-    fields.len() == usize::from(count)
-}
-
-// What a card of a plain row has.
-fn plain_row_fields(count: u8) -> Option<&'static [u8]>
-    ensures fields { option_map (λ f. f.now) result ≡ fields_for (row_words false) count }
-    ensures few { IfSome result (λ f. length f.now ≤ 6) }
-{
-    if has_count(TYPE_NAME, count) {
-        Some(TYPE_NAME)
-    } else {
-        None
-    }
-}
-
-// What a card of a combination has.
-fn combination_fields(count: u8) -> Option<&'static [u8]>
-    ensures fields { option_map (λ f. f.now) result ≡ fields_for (row_words true) count }
-    ensures few { IfSome result (λ f. length f.now ≤ 6) }
-{
-    if has_count(TYPE_NAME, count) {
-        Some(TYPE_NAME)
-    } else if has_count(TYPE_NAME_PART, count) {
-        Some(TYPE_NAME_PART)
-    } else if has_count(TYPE_NAME_PARTS, count) {
-        Some(TYPE_NAME_PARTS)
-    } else {
-        None
-    }
-}
-
-// What a card of ROWS has, whose type is that of a combination or isn't.
-fn row_fields(combines: bool, count: u8) -> Option<&'static [u8]>
-    ensures fields { option_map (λ f. f.now) result ≡ fields_for (row_words combines) count }
-    ensures few { IfSome result (λ f. length f.now ≤ 6) }
-{
-    if combines {
-        combination_fields(count)
-    } else {
-        plain_row_fields(count)
-    }
-}
-
-// What a card of COLUMNS has.
-fn column_fields(count: u8) -> Option<&'static [u8]>
-    ensures fields { option_map (λ f. f.now) result ≡ fields_for named_pairs count }
-    ensures few { IfSome result (λ f. length f.now ≤ 6) }
-{
-    if has_count(NAME_PAIR, count) {
-        Some(NAME_PAIR)
-    } else if has_count(NAME_PAIRS, count) {
-        Some(NAME_PAIRS)
-    } else {
-        None
-    }
-}
-
-// What a card of RHS or RANGES has.
-fn set_fields(count: u8) -> Option<&'static [u8]>
-    ensures fields { option_map (λ f. f.now) result ≡ fields_for (named_pairs ++ bare_pairs) count }
-    ensures few { IfSome result (λ f. length f.now ≤ 6) }
-{
-    if has_count(NAME_PAIR, count) {
-        Some(NAME_PAIR)
-    } else if has_count(NAME_PAIRS, count) {
-        Some(NAME_PAIRS)
-    } else if has_count(PAIR, count) {
-        Some(PAIR)
-    } else if has_count(PAIRS, count) {
-        Some(PAIRS)
-    } else {
-        None
-    }
-}
-
-// What a card of BOUNDS has, whose type takes a number or doesn't.
-fn bound_fields(takes_number: bool, count: u8) -> Option<&'static [u8]>
-    ensures fields { option_map (λ f. f.now) result ≡ fields_for (bound_words takes_number) count }
-    ensures few { IfSome result (λ f. length f.now ≤ 6) }
-{
-    let bare = if takes_number {
-        TYPE_COLUMN_NUMBER
-    } else {
-        TYPE_COLUMN
-    };
-    let named = if takes_number {
-        TYPE_SET_COLUMN_NUMBER
-    } else {
-        TYPE_SET_COLUMN
-    };
-    if has_count(bare, count) {
-        Some(bare)
-    } else if has_count(named, count) {
-        Some(named)
-    } else {
-        None
-    }
-}
-
-// The fields of a card that gives something.
-fn fields_given(section: Section, word: &[u8], count: u8) -> Option<&'static [u8]>
-    ensures fields { option_map (λ f. f.now) result ≡
-        fields_for (words_given section word.now) count }
-    ensures few { IfSome result (λ f. length f.now ≤ 6) }
+// What a card that gives something may have, a list of fields for each number of words.
+fn lists_given(section: Section, word: &[u8]) -> &'static [&'static [u8]]
+    ensures lists { map (λ fields. fields.now) result.now ≡ words_given section word.now }
+    ensures few { All (λ fields. length fields.now ≤ 6) result.now }
 {
     match section {
-        Section::Rows => row_fields(combines(word), count),
-        Section::Columns => column_fields(count),
-        Section::Rhs | Section::Ranges => set_fields(count),
-        Section::Bounds => bound_fields(takes_number(word), count),
-        Section::Header | Section::Endata => None,
+        Section::Rows if combines(word) => COMBINATION,
+        Section::Rows => PLAIN_ROW,
+        Section::Columns => COLUMN,
+        Section::Rhs | Section::Ranges => SET,
+        Section::Bounds if takes_number(word) => VALUED_BOUND,
+        Section::Bounds => BARE_BOUND,
+        Section::Header | Section::Endata => &[],
     }
 }
 
-// What a card of ROWS has that names a row to be deleted.
-fn deleted_row_fields(count: u8) -> Option<&'static [u8]>
-    ensures fields { option_map (λ f. f.now) result ≡ fields_for ((2 ∷ []) ∷ []) count }
-    ensures few { IfSome result (λ f. length f.now ≤ 6) }
-{
-    if has_count(NAME, count) {
-        Some(NAME)
-    } else {
-        None
-    }
-}
-
-// What a card of another section has that names something to be deleted.
-fn deleted_item_fields(count: u8) -> Option<&'static [u8]>
-    ensures fields { option_map (λ f. f.now) result ≡
-        fields_for ((2 ∷ []) ∷ (2 ∷ 3 ∷ []) ∷ []) count }
-    ensures few { IfSome result (λ f. length f.now ≤ 6) }
-{
-    if has_count(NAME, count) {
-        Some(NAME)
-    } else if has_count(NAMES, count) {
-        Some(NAMES)
-    } else {
-        None
-    }
-}
-
-// The fields of a card that names something to be deleted.
-fn fields_deleted(section: Section, count: u8) -> Option<&'static [u8]>
-    ensures fields { option_map (λ f. f.now) result ≡ fields_for (words_deleted section) count }
-    ensures few { IfSome result (λ f. length f.now ≤ 6) }
+// What a card that names something to be deleted may have.
+fn lists_deleted(section: Section) -> &'static [&'static [u8]]
+    ensures lists { map (λ fields. fields.now) result.now ≡ words_deleted section }
+    ensures few { All (λ fields. length fields.now ≤ 6) result.now }
 {
     match section {
-        Section::Rows => deleted_row_fields(count),
-        _ => deleted_item_fields(count),
+        Section::Rows => DELETED_ROW,
+        _ => DELETED_ITEM,
     }
+}
+
+// What a card of this section with this first word may have.
+fn lists_on(section: Section, deletes: bool, word: &[u8]) -> &'static [&'static [u8]]
+    ensures lists { map (λ fields. fields.now) result.now ≡ words_on section deletes word.now }
+    ensures few { All (λ fields. length fields.now ≤ 6) result.now }
+{
+    if deletes {
+        lists_deleted(section)
+    } else {
+        lists_given(section, word)
+    }
+}
+
+// The list with so many fields.
+fn fields_for(lists: &'static [&'static [u8]], count: u8) -> Option<&'static [u8]>
+    ensures fields { option_map (λ f. f.now) result ≡
+        fields_for (map (λ fields. fields.now) lists.now) count }
+    ensures few { All (λ fields. length fields.now ≤ 6) lists.now →
+        IfSome result (λ f. length f.now ≤ 6) }
+{
+    for fields in lists {
+        if fields.len() == usize::from(count) {
+            return Some(fields);
+        }
+    }
+    None
 }
 
 /// The fields that so many words are in order, on a card of this section with this first word, if it takes so many.
@@ -194,8 +82,5 @@ pub fn fields_on(section: Section, deletes: bool, word: &[u8], count: u8) -> Opt
         fields_for (words_on section deletes word.now) count }
     ensures few { IfSome result (λ f. length f.now ≤ 6) }
 {
-    if deletes {
-        return fields_deleted(section, count);
-    }
-    fields_given(section, word, count)
+    fields_for(lists_on(section, deletes, word), count)
 }

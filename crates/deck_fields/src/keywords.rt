@@ -3,8 +3,8 @@ ghost use Rattle.std.specs.Prelude.{◌≡◌, ◌≤◌, false, length, bytes_e
 ghost use Rattle.problem_definitions.specs.Kinds.{takes_value};
 ghost use Rattle.card_definitions.specs.Words.{is_empty, named};
 ghost use Rattle.deck_definitions.specs.DataCards.{row_kinds, combination_kinds, combination_text, is_row_type, bound_kinds};
-ghost use Rattle.deck_definitions.specs.Sections.{section_word, section_words, is_section};
-ghost use Rattle.deck_definitions.specs.declared.Section.TheVariants.{Columns, Ranges};
+ghost use Rattle.deck_definitions.specs.Sections.{section_word, section_words};
+ghost use Rattle.deck_definitions.specs.Written.{row_kind_text, bound_kind_text};
 
 use crate::blanks::first_blank;
 use deck_definitions::Section;
@@ -35,16 +35,12 @@ pub fn first_word(card: &[u8]) -> &[u8]
 pub fn row_kind(word: &[u8]) -> Option<RowKind>
     ensures { result ≡ named row_kinds word.now }
 {
-    if is_word(b"N", word) {
-        Some(RowKind::N)
-    } else if is_word(b"G", word) {
-        Some(RowKind::G)
-    } else if is_word(b"L", word) {
-        Some(RowKind::L)
-    } else if is_word(b"E", word) {
-        Some(RowKind::E)
-    } else {
-        None
+    match word {
+        b"N" => Some(RowKind::N),
+        b"G" => Some(RowKind::G),
+        b"L" => Some(RowKind::L),
+        b"E" => Some(RowKind::E),
+        _ => None,
     }
 }
 
@@ -52,16 +48,25 @@ pub fn row_kind(word: &[u8]) -> Option<RowKind>
 pub fn combination_kind(word: &[u8]) -> Option<RowKind>
     ensures { result ≡ named combination_kinds word.now }
 {
-    if is_word(b"DN", word) {
-        Some(RowKind::N)
-    } else if is_word(b"DG", word) {
-        Some(RowKind::G)
-    } else if is_word(b"DL", word) {
-        Some(RowKind::L)
-    } else if is_word(b"DE", word) {
-        Some(RowKind::E)
-    } else {
-        None
+    match word {
+        b"DN" => Some(RowKind::N),
+        b"DG" => Some(RowKind::G),
+        b"DL" => Some(RowKind::L),
+        b"DE" => Some(RowKind::E),
+        _ => None,
+    }
+}
+
+/// The word that is the type of a row.
+pub fn row_kind_word(kind: RowKind) -> &'static [u8]
+    ensures word { result.now ≡ row_kind_text kind }
+    ensures short { length result.now ≤ 2 }
+{
+    match kind {
+        RowKind::N => b"N",
+        RowKind::G => b"G",
+        RowKind::L => b"L",
+        RowKind::E => b"E",
     }
 }
 
@@ -96,20 +101,29 @@ pub fn is_row_type(word: &[u8]) -> bool
 pub fn bound_kind(word: &[u8]) -> Option<BoundKind>
     ensures { result ≡ named bound_kinds word.now }
 {
-    if is_word(b"UP", word) {
-        Some(BoundKind::Up)
-    } else if is_word(b"LO", word) {
-        Some(BoundKind::Lo)
-    } else if is_word(b"FX", word) {
-        Some(BoundKind::Fx)
-    } else if is_word(b"FR", word) {
-        Some(BoundKind::Fr)
-    } else if is_word(b"MI", word) {
-        Some(BoundKind::Mi)
-    } else if is_word(b"PL", word) {
-        Some(BoundKind::Pl)
-    } else {
-        None
+    match word {
+        b"UP" => Some(BoundKind::Up),
+        b"LO" => Some(BoundKind::Lo),
+        b"FX" => Some(BoundKind::Fx),
+        b"FR" => Some(BoundKind::Fr),
+        b"MI" => Some(BoundKind::Mi),
+        b"PL" => Some(BoundKind::Pl),
+        _ => None,
+    }
+}
+
+/// The word that is the type of a bound.
+pub fn bound_kind_word(kind: BoundKind) -> &'static [u8]
+    ensures word { result.now ≡ bound_kind_text kind }
+    ensures short { length result.now ≤ 2 }
+{
+    match kind {
+        BoundKind::Up => b"UP",
+        BoundKind::Lo => b"LO",
+        BoundKind::Fx => b"FX",
+        BoundKind::Fr => b"FR",
+        BoundKind::Mi => b"MI",
+        BoundKind::Pl => b"PL",
     }
 }
 
@@ -137,33 +151,14 @@ pub fn has_value(kind: BoundKind) -> bool
 pub fn section_named(word: &[u8]) -> Option<Section>
     ensures { result ≡ named section_words word.now }
 {
-    if is_word(b"NAME", word) {
-        Some(Section::Header)
-    } else if is_word(b"ROWS", word) {
-        Some(Section::Rows)
-    } else if is_word(b"COLUMNS", word) {
-        Some(Section::Columns)
-    } else if is_word(b"RHS", word) {
-        Some(Section::Rhs)
-    } else if is_word(b"RANGES", word) {
-        Some(Section::Ranges)
-    } else if is_word(b"BOUNDS", word) {
-        Some(Section::Bounds)
-    } else if is_word(b"ENDATA", word) {
-        Some(Section::Endata)
-    } else {
-        None
+    match word {
+        b"NAME" => Some(Section::Header),
+        b"ROWS" => Some(Section::Rows),
+        b"COLUMNS" => Some(Section::Columns),
+        b"RHS" => Some(Section::Rhs),
+        b"RANGES" => Some(Section::Ranges),
+        b"BOUNDS" => Some(Section::Bounds),
+        b"ENDATA" => Some(Section::Endata),
+        _ => None,
     }
-}
-
-pub fn is_columns(section: Section) -> bool
-    ensures { result ≡ is_section Columns section }
-{
-    matches!(section, Section::Columns)
-}
-
-pub fn is_ranges(section: Section) -> bool
-    ensures { result ≡ is_section Ranges section }
-{
-    matches!(section, Section::Ranges)
 }

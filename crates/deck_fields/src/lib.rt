@@ -29,10 +29,10 @@ pub use data_card::{DataCard, PairText};
 pub use decimal::Decimal;
 pub use deck_definitions::{DeckFault, DeckFaultKind};
 pub use keywords::{
-    bound_kind, combination_kind, combination_word, first_word, has_value, is_blank, is_columns,
-    is_ranges, is_word, row_kind,
+    bound_kind, bound_kind_word, combination_kind, combination_word, first_word, has_value,
+    is_blank, is_word, row_kind, row_kind_word,
 };
 pub use reader::{Draft, read_cards};
 pub use reading::number;
-pub use sections::{SectionOrder, begins_section, is_header, is_last, next_section, rank_of};
+pub use sections::{SectionOrder, begins_section, is_section, next_section, rank_of};
 pub use style::{header_style, style_begun};

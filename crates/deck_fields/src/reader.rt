@@ -10,7 +10,7 @@ ghost use Rattle.deck_definitions.specs.Readings.{ArePrintableCards};
 ghost use Rattle.deck_fields.specs.Reported.{ReportsDeckFault};
 ghost use Rattle.deck_fields.specs.Stops.{Stops, StopsAt};
 
-use crate::sections::is_last;
+use crate::sections::is_section;
 use card_reader::{Card, CardStop, Cards};
 use deck_definitions::{DeckFault, DeckFaultKind, Section};
 
@@ -44,7 +44,7 @@ fn is_ended<D: Draft>(draft: &D) -> bool
         is_section_after Endata seen }
 {
     match draft.section() {
-        Some(section) => is_last(section),
+        Some(section) => is_section(Section::Endata, section),
         None => false,
     }
 }

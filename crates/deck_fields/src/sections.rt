@@ -2,7 +2,6 @@
 ghost use Rattle.std.specs.Prelude.{◌≡◌, Bool, Some, IfOk, OnOk, IfErr};
 ghost use Rattle.card_definitions.specs.Words.{named};
 ghost use Rattle.deck_definitions.specs.declared.Section.{Section as TheSection};
-ghost use Rattle.deck_definitions.specs.declared.Section.TheVariants.{Header, Endata};
 ghost use Rattle.deck_definitions.specs.Sections.{is_section, is_section_card, rank, section_word, section_words};
 ghost use Rattle.deck_definitions.specs.Conversion.{section_card_fault};
 ghost use Rattle.deck_fields.specs.Reported.{ReportsDeckFault};
@@ -21,20 +20,6 @@ pub fn begins_section(card: &[u8]) -> bool
     }
 }
 
-/// Whether this is the section of the NAME card.
-pub fn is_header(section: Section) -> bool
-    ensures { result ≡ is_section Header section }
-{
-    matches!(section, Section::Header)
-}
-
-/// Whether this is the section of the ENDATA card.
-pub fn is_last(section: Section) -> bool
-    ensures { result ≡ is_section Endata section }
-{
-    matches!(section, Section::Endata)
-}
-
 /// How far along a section stands.
 pub fn rank_of(section: Section) -> u8
     ensures { result ≡ rank section }
@@ -48,6 +33,13 @@ pub fn rank_of(section: Section) -> u8
         Section::Bounds => 5,
         Section::Endata => 6,
     }
+}
+
+/// Whether two sections are the same.
+pub fn is_section(this: Section, that: Section) -> bool
+    ensures { result ≡ is_section this that }
+{
+    this == that
 }
 
 /// The order in which the sections of a kind of decks come.

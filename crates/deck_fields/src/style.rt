@@ -6,9 +6,9 @@ ghost use Rattle.deck_definitions.specs.Sections.{is_section, section_begun};
 ghost use Rattle.deck_definitions.specs.DataCards.{header_style, style_begun};
 
 use crate::keywords::{first_word, is_word, section_named};
-use crate::sections::{begins_section, is_header};
+use crate::sections::{begins_section, is_section};
 use card_reader::Card;
-use deck_definitions::Style;
+use deck_definitions::{Section, Style};
 
 /// The style that a NAME card gives.
 pub fn header_style(card: Card<'_>) -> Style
@@ -29,7 +29,7 @@ fn is_name_card(card: &[u8]) -> bool
         return false;
     }
     match section_named(first_word(card)) {
-        Some(section) => is_header(section),
+        Some(section) => is_section(Section::Header, section),
         None => false,
     }
 }

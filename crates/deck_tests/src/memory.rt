@@ -35,9 +35,9 @@ fn counts(problem: &Problem) -> (usize, usize, usize) {
     (
         columns.fold(
             0usize,
-            |count, column| count.saturating_add(column.entries.len()),
+            |count, column| count.saturating_add(column.items.len()),
         ),
-        sides.fold(0usize, |count, set| count.saturating_add(set.entries.len())),
+        sides.fold(0usize, |count, set| count.saturating_add(set.items.len())),
         bounds.fold(0usize, |count, set| count.saturating_add(set.items.len())),
     )
 }

@@ -28,7 +28,7 @@ fn testprob_is_numbered(rt: HostRuntime) -> Result<(), Fail> {
     assert_eq!(rt; problem.row_count(), 4);
     assert_eq!(rt; problem.column_count(), 3);
     let column = problem.columns().last().ok_or("a column")?;
-    let entry = column.entries.last().ok_or("an entry")?;
+    let entry = column.items.last().ok_or("an entry")?;
     assert_eq!(rt; (entry.row, entry.value.value()), (4, Frac::whole(1)));
     Ok(())
 }
@@ -40,7 +40,7 @@ fn the_sets_of_testprob_are_numbered(rt: HostRuntime) -> Result<(), Fail> {
     let bound = set.items.last().ok_or("a bound")?;
     assert_eq!(rt; (set.items.len(), bound.column), (3, 2));
     let side = problem.rhs().first().ok_or("a set")?;
-    assert_eq!(rt; (problem.rhs().len(), side.entries.len()), (1, 3));
+    assert_eq!(rt; (problem.rhs().len(), side.items.len()), (1, 3));
     Ok(())
 }
 
@@ -74,7 +74,7 @@ ENDATA
     assert_eq!(rt; column.name.bytes(), b" X".as_slice());
     let set = problem.rhs().first().ok_or("a set")?;
     assert_eq!(rt; set.name.bytes(), b"".as_slice());
-    let item = set.entries.first().ok_or("an item")?;
+    let item = set.items.first().ok_or("an item")?;
     assert_eq!(rt; item.row, 2);
     Ok(())
 }

@@ -1,9 +1,7 @@
 // Sources and sinks as the layers above see them.
-ghost use Rattle.std.specs.Prelude.{◌≡◌, ◌<◌, ◌≤◌, List, ℕ, Option, [], length, IfOk, OnOk, OnErr, IsErrOf};
-ghost use Rattle.std.specs.Io.{ReadsAtMost, WritesAtMost};
-ghost use Rattle.std.specs.Io.KnownBytes.{ReadConsumes, WriteAppends};
-ghost use Rattle.job_devices.specs.Causes.{HasReadCause, HasWriteCause, KeepsStop};
+ghost use Rattle.std.specs.Prelude.{◌≡◌, ◌<◌, ◌≤◌, [], length};
 ghost use Rattle.job_devices.specs.Text.{Writes, text_of_pieces};
+ghost use Rattle.job_devices.specs.Calls.{IsRead, IsWrite};
 ghost use Rattle.job_devices.specs.States.{SourceState, SinkState};
 
 use thiserror::Error;
@@ -34,9 +32,7 @@ pub trait Source {
     /// A read that fails moves nothing: the bytes that are left stay, and the count of faults has risen.
     fn read(&mut self, buf: &mut [u8]) -> Result<usize, Failed>
         requires { 0 < length buf.old }
-        ensures bound { ReadsAtMost result buf.new }
-        ensures bytes { ReadConsumes (given self.old).left (given self.new).left result buf.new }
-        ensures cause { HasReadCause (given self.old) (given self.new) result };
+        ensures { IsRead (given self.old) (given self.new) result buf.new };
 }
 
 /// Takes bytes, each after those that came before, and counts its faults.
@@ -49,12 +45,7 @@ pub trait Sink {
     ///
     /// A write that stops appends nothing, and the count of its cause has risen.
     fn write(&mut self, piece: &[u8]) -> Result<usize, WriteStop>
-        ensures bound { WritesAtMost result piece.now }
-        ensures some { IfOk result (λ count. count ≡ 0 → length piece.now ≡ 0) }
-        ensures bytes { WriteAppends (taken self.old).written (taken self.new).written result
-            piece.now }
-        ensures cause { HasWriteCause (taken self.old) (taken self.new) result }
-        ensures stopped { KeepsStop (taken self.old) (taken self.new) result };
+        ensures { IsWrite (taken self.old) (taken self.new) result piece.now };
 }
 
 /// Writes the whole piece, in as many writes as the sink wants. At a stop a prefix of it is written.

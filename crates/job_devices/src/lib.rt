@@ -16,4 +16,4 @@ pub use memory::{MemorySink, MemorySource, SureSink, SureSource};
 pub use punch::PunchFile;
 pub use reading::{SourceStop, read_up_to};
 pub use std::alloc::AllocError as NoMemory;
-pub use stream::{StreamSink, StreamSource};
+pub use stream::{Stream, StreamSink, StreamSource};

@@ -1,8 +1,7 @@
 // The source that reads the listing file.
 ghost use Rattle.std.specs.Prelude.{◌≡◌, ◌<◌, ◌≤◌, length, None, IfSome, IsSome, OnOk, is_ok, if◌then◌else◌};
 ghost use Rattle.std.specs.Result.{result_ok};
-ghost use Rattle.std.specs.Io.{ReadsAtMost};
-ghost use Rattle.std.specs.Io.KnownBytes.{ReadConsumes};
+ghost use Rattle.job_devices.specs.Calls.{IsRead};
 
 use crate::{Failed, Source, StreamSource};
 use std::fs::File;
@@ -56,7 +55,7 @@ impl<R: Files> ListingFile<R> {
 }
 
 impl<R: Files> Source for ListingFile<R> {
-    ghost use Rattle.job_devices.specs.Causes.{HasReadCause, next_count};
+    ghost use Rattle.job_devices.specs.Causes.{next_count};
     ghost use Rattle.job_devices.specs.States.{untold_source};
     ghost use Rattle.job_devices.specs.Listing.{listing_file, listing_faults, FileGives};
 
@@ -64,10 +63,8 @@ impl<R: Files> Source for ListingFile<R> {
 
     fn read(&mut self, buf: &mut [u8]) -> Result<usize, Failed>
         requires { 0 < length buf.old }
-        ensures bound { ReadsAtMost result buf.new }
-        ensures bytes { ReadConsumes None None result buf.new }
-        ensures cause { HasReadCause (untold_source (listing_faults self.old))
-            (untold_source (listing_faults self.new)) result }
+        ensures read { IsRead (untold_source (listing_faults self.old))
+            (untold_source (listing_faults self.new)) result buf.new }
 
         // A byte is given only where the file is open, and once opened it stays so.
         ensures file { OnOk result (IsSome (listing_file self.new)) }

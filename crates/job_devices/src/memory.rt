@@ -1,9 +1,8 @@
 // Sources and sinks in memory, for tests and for whoever has the whole job at hand.
-ghost use Rattle.std.specs.Prelude.{◌≡◌, ◌↔◌, ◌<◌, ◌≤◌, ◌-◌, ◌^◌, [], ◌++◌, List, Option, Some, length, take, min, if◌then◌else◌, is_err, Contains, IfOk, IsOk};
-ghost use Rattle.std.specs.Prelude.{OnOk, OnErr, IsErr, IsErrOf};
+ghost use Rattle.std.specs.Prelude.{◌≡◌, ◌↔◌, ◌<◌, ◌≤◌, ◌-◌, ◌^◌, [], ◌++◌, Option, Some, length, take, min, if◌then◌else◌, is_err, Contains, IfOk, IsOk};
+ghost use Rattle.std.specs.Prelude.{IsErr, IsErrOf};
 ghost use Rattle.std.specs.Option.{ForSome};
-ghost use Rattle.std.specs.Io.{ReadsAtMost, WritesAtMost};
-ghost use Rattle.std.specs.Io.KnownBytes.{ReadConsumes, WriteAppends};
+ghost use Rattle.job_devices.specs.Calls.{IsRead, IsWrite};
 
 use crate::{Failed, NoMemory, Sink, Source, WriteStop};
 use std::alloc::Global;
@@ -102,16 +101,13 @@ impl MemorySource {
 }
 
 impl Source for MemorySource {
-    ghost use Rattle.job_devices.specs.Causes.{HasReadCause, next_count};
+    ghost use Rattle.job_devices.specs.Causes.{next_count};
     ghost use Rattle.job_devices.specs.Memory.{source_state, source_left, failing_reads, reads_made, reads_failed, piece_limit};
 
     ghost given = { λ s. source_state s };
 
     fn read(&mut self, buf: &mut [u8]) -> Result<usize, Failed>
-        ensures bound { ReadsAtMost result buf.new }
-        ensures bytes { ReadConsumes (Some (source_left self.old)) (Some (source_left self.new))
-            result buf.new }
-        ensures cause { HasReadCause (source_state self.old) (source_state self.new) result }
+        ensures read { IsRead (source_state self.old) (source_state self.new) result buf.new }
 
         // All that is left is given, as far as the buffer has room for it and a piece may have so many bytes.
         ensures size { IfOk result (λ count.
@@ -193,18 +189,13 @@ impl MemorySink {
 }
 
 impl Sink for MemorySink {
-    ghost use Rattle.job_devices.specs.Causes.{HasWriteCause, KeepsStop, next_count};
+    ghost use Rattle.job_devices.specs.Causes.{next_count};
     ghost use Rattle.job_devices.specs.Memory.{sink_bytes, failing_writes, writes_made, writes_failed, writes_refused, sink_state};
 
     ghost taken = { λ s. sink_state s };
 
     fn write(&mut self, piece: &[u8]) -> Result<usize, WriteStop>
-        ensures bound { WritesAtMost result piece.now }
-        ensures some { IfOk result (λ taken. taken ≡ 0 → length piece.now ≡ 0) }
-        ensures bytes { WriteAppends (Some (sink_bytes self.old)) (Some (sink_bytes self.new))
-            result piece.now }
-        ensures cause { HasWriteCause (sink_state self.old) (sink_state self.new) result }
-        ensures stopped { KeepsStop (sink_state self.old) (sink_state self.new) result }
+        ensures write { IsWrite (sink_state self.old) (sink_state self.new) result piece.now }
 
         // The listed writes fail, and no others.
         ensures listed { IsErrOf result WriteStop.Failed ↔ Contains (failing_writes self.old)

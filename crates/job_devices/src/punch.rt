@@ -1,8 +1,7 @@
 // The sink that makes the punch file.
-ghost use Rattle.std.specs.Prelude.{◌≡◌, ◌≤◌, length, take, None, IfOk, IfSome, IsSome, OnOk, is_ok, if◌then◌else◌};
+ghost use Rattle.std.specs.Prelude.{◌≡◌, ◌≤◌, length, take, None, IfSome, IsSome, OnOk, is_ok, if◌then◌else◌};
 ghost use Rattle.std.specs.Result.{result_ok};
-ghost use Rattle.std.specs.Io.{WritesAtMost};
-ghost use Rattle.std.specs.Io.KnownBytes.{WriteAppends};
+ghost use Rattle.job_devices.specs.Calls.{IsWrite};
 
 use crate::{Sink, StreamSink, WriteStop};
 use std::fs::File;
@@ -56,20 +55,15 @@ impl<R: Files> PunchFile<R> {
 }
 
 impl<R: Files> Sink for PunchFile<R> {
-    ghost use Rattle.job_devices.specs.Causes.{HasWriteCause, KeepsStop, next_count};
+    ghost use Rattle.job_devices.specs.Causes.{next_count};
     ghost use Rattle.job_devices.specs.States.{untold_sink};
     ghost use Rattle.job_devices.specs.Punch.{punch_file, punch_faults, FileTakes};
 
     ghost taken = { λ s. untold_sink (punch_faults s) };
 
     fn write(&mut self, piece: &[u8]) -> Result<usize, WriteStop>
-        ensures bound { WritesAtMost result piece.now }
-        ensures some { IfOk result (λ taken. taken ≡ 0 → length piece.now ≡ 0) }
-        ensures bytes { WriteAppends None None result piece.now }
-        ensures cause { HasWriteCause (untold_sink (punch_faults self.old))
-            (untold_sink (punch_faults self.new)) result }
-        ensures stopped { KeepsStop (untold_sink (punch_faults self.old))
-            (untold_sink (punch_faults self.new)) result }
+        ensures write { IsWrite (untold_sink (punch_faults self.old))
+            (untold_sink (punch_faults self.new)) result piece.now }
 
         // A byte is taken only where the file is there, and once created it stays.
         ensures file { OnOk result (IsSome (punch_file self.new)) }

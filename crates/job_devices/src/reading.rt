@@ -3,8 +3,8 @@ ghost use Rattle.std.specs.Prelude.{◌≡◌, ◌<◌, length, take, IfOk, IfSo
 ghost use Rattle.std.specs.Io.KnownBytes.{IsAtEnd};
 ghost use Rattle.job_devices.specs.Reading.{ReadsUpTo, ReadsWhole, HasSourceCause};
 
-use crate::{Failed, Source};
-use std::alloc::{AllocError, Global};
+use crate::Source;
+use std::alloc::Global;
 use thiserror::Error;
 
 const PIECE: usize = 65_536;
@@ -18,28 +18,6 @@ pub enum SourceStop {
     /// Memory ran out.
     #[error("out of memory")]
     NoMemory,
-}
-
-impl From<Failed> for SourceStop {
-    ghost use Rattle.std.specs.Prelude.{◌≡◌};
-    ghost use Rattle.job_devices.specs.declared.reading.SourceStop.TheVariants as stops;
-
-    ghost from_gives = { λ _ stop. stop ≡ stops.Failed };
-
-    fn from(_: Failed) -> Self {
-        SourceStop::Failed
-    }
-}
-
-impl From<AllocError> for SourceStop {
-    ghost use Rattle.std.specs.Prelude.{◌≡◌};
-    ghost use Rattle.job_devices.specs.declared.reading.SourceStop.TheVariants as stops;
-
-    ghost from_gives = { λ _ stop. stop ≡ stops.NoMemory };
-
-    fn from(_: AllocError) -> Self {
-        SourceStop::NoMemory
-    }
 }
 
 /// Reads the source to its end, or as far as `most` bytes, in pieces. At a stop no more has been read either.
@@ -61,11 +39,15 @@ pub fn read_up_to<S: Source>(
     let mut piece = [0; PIECE];
     while bytes.len() < most {
         let room = PIECE.min(most - bytes.len());
-        let count = source.read(&mut piece[..room])?;
+        let Ok(count) = source.read(&mut piece[..room]) else {
+            return Err(SourceStop::Failed);
+        };
         if count == 0 {
             return Ok(bytes);
         }
-        bytes.extend_from_slice(&piece[..count])?;
+        if bytes.extend_from_slice(&piece[..count]).is_err() {
+            return Err(SourceStop::NoMemory);
+        }
     }
     Ok(bytes)
 }

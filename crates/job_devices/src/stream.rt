@@ -1,49 +1,54 @@
 // Sources and sinks over std's readers and writers. They tell nothing of the bytes.
-ghost use Rattle.std.specs.Prelude.{◌≡◌, ◌≤◌, None, take, length, MatchOption, MatchResult, IfSome, IfOk, is_ok, if◌then◌else◌};
-ghost use Rattle.std.specs.Io.{ReadsAtMost, WritesAtMost};
-ghost use Rattle.std.specs.Io.KnownBytes.{Appends, ReadConsumes, WriteAppends};
+ghost use Rattle.std.specs.Prelude.{◌≡◌, ◌≤◌, None, take, length, MatchOption, MatchResult, IfSome, is_ok, if◌then◌else◌};
+ghost use Rattle.std.specs.Io.KnownBytes.{Appends, ReadConsumes};
 ghost use Rattle.job_devices.specs.Text.{AppendsPrefix};
+ghost use Rattle.job_devices.specs.Calls.{IsRead, IsWrite};
 
 use crate::{Failed, Sink, Source, WriteStop};
 use std::io::{Read, Write};
 
-/// Reads from a reader, and counts each `Err` as a fault, an interrupted call too.
+/// A reader or a writer, with the number of its faults.
 #[derive(Drop)]
-pub struct StreamSource<R> {
-    inner: R,
+pub struct Stream<T> {
+    inner: T,
     faults: u64,
 }
 
-impl<R: Read> StreamSource<R> {
-    ghost use Rattle.job_devices.specs.Stream.{stream_reader, stream_read_faults};
+/// Reads from a reader, and counts each `Err` as a fault, an interrupted call too.
+pub type StreamSource<R> = Stream<R>;
 
-    /// A source over this reader, with no fault yet.
-    pub fn new(inner: R) -> StreamSource<R>
-        ensures reader { stream_reader result ≡ inner }
-        ensures faults { stream_read_faults result ≡ 0 }
+/// Writes to a writer, with a flush after each write. It counts as a fault each `Err` of these two, an interrupted
+/// call too, and a write that takes nothing of a piece that has bytes.
+pub type StreamSink<W> = Stream<W>;
+
+impl<T> Stream<T> {
+    ghost use Rattle.job_devices.specs.Stream.{stream_inner, stream_faults};
+
+    /// A source over this reader, or a sink over this writer, with no fault yet.
+    pub fn new(inner: T) -> Stream<T>
+        ensures inner { stream_inner result ≡ inner }
+        ensures faults { stream_faults result ≡ 0 }
     {
-        StreamSource { inner, faults: 0 }
+        Stream { inner, faults: 0 }
     }
 }
 
-impl<R: Read> Source for StreamSource<R> {
-    ghost use Rattle.job_devices.specs.Causes.{HasReadCause, next_count};
+impl<R: Read> Source for Stream<R> {
+    ghost use Rattle.job_devices.specs.Causes.{next_count};
     ghost use Rattle.job_devices.specs.States.{untold_source};
-    ghost use Rattle.job_devices.specs.Stream.{stream_reader, stream_read_faults};
+    ghost use Rattle.job_devices.specs.Stream.{stream_inner, stream_faults};
 
-    ghost given = { λ s. untold_source (stream_read_faults s) };
+    ghost given = { λ s. untold_source (stream_faults s) };
 
     fn read(&mut self, buf: &mut [u8]) -> Result<usize, Failed>
-        ensures bound { ReadsAtMost result buf.new }
-        ensures bytes { ReadConsumes None None result buf.new }
-        ensures cause { HasReadCause (untold_source (stream_read_faults self.old))
-            (untold_source (stream_read_faults self.new)) result }
+        ensures read { IsRead (untold_source (stream_faults self.old))
+            (untold_source (stream_faults self.new)) result buf.new }
 
         // The reader has given these bytes, 0 only at its end, and none where the read failed.
-        ensures reader { ReadConsumes (R.remaining (stream_reader self.old))
-            (R.remaining (stream_reader self.new)) result buf.new }
-        ensures count { stream_read_faults self.new ≡ (if is_ok result then stream_read_faults
-            self.old else next_count (stream_read_faults self.old)) }
+        ensures reader { ReadConsumes (R.remaining (stream_inner self.old))
+            (R.remaining (stream_inner self.new)) result buf.new }
+        ensures count { stream_faults self.new ≡ (if is_ok result then stream_faults
+            self.old else next_count (stream_faults self.old)) }
     {
         match self.inner.read(buf) {
             Ok(count) => Ok(count),
@@ -55,50 +60,25 @@ impl<R: Read> Source for StreamSource<R> {
     }
 }
 
-/// Writes to a writer, with a flush after each write. It counts as a fault each `Err` of these two, an interrupted
-/// call too, and a write that takes nothing of a piece that has bytes.
-#[derive(Drop)]
-pub struct StreamSink<W> {
-    inner: W,
-    faults: u64,
-}
-
-impl<W: Write> StreamSink<W> {
-    ghost use Rattle.job_devices.specs.Stream.{stream_writer, stream_write_faults};
-
-    /// A sink over this writer, with no fault yet.
-    pub fn new(inner: W) -> StreamSink<W>
-        ensures writer { stream_writer result ≡ inner }
-        ensures faults { stream_write_faults result ≡ 0 }
-    {
-        StreamSink { inner, faults: 0 }
-    }
-}
-
-impl<W: Write> Sink for StreamSink<W> {
-    ghost use Rattle.job_devices.specs.Causes.{HasWriteCause, KeepsStop, next_count};
+impl<W: Write> Sink for Stream<W> {
+    ghost use Rattle.job_devices.specs.Causes.{next_count};
     ghost use Rattle.job_devices.specs.States.{untold_sink};
-    ghost use Rattle.job_devices.specs.Stream.{stream_writer, stream_write_faults};
+    ghost use Rattle.job_devices.specs.Stream.{stream_inner, stream_faults};
 
-    ghost taken = { λ s. untold_sink (stream_write_faults s) };
+    ghost taken = { λ s. untold_sink (stream_faults s) };
 
     fn write(&mut self, piece: &[u8]) -> Result<usize, WriteStop>
-        ensures bound { WritesAtMost result piece.now }
-        ensures some { IfOk result (λ taken. taken ≡ 0 → length piece.now ≡ 0) }
-        ensures bytes { WriteAppends None None result piece.now }
-        ensures cause { HasWriteCause (untold_sink (stream_write_faults self.old))
-            (untold_sink (stream_write_faults self.new)) result }
-        ensures stopped { KeepsStop (untold_sink (stream_write_faults self.old))
-            (untold_sink (stream_write_faults self.new)) result }
+        ensures write { IsWrite (untold_sink (stream_faults self.old))
+            (untold_sink (stream_faults self.new)) result piece.now }
 
         // The writer holds the bytes that were taken. After a fault it may hold some too, where its flush failed.
         ensures writer { MatchResult result
-            (λ taken. Appends (W.contents (stream_writer self.old))
-            (W.contents (stream_writer self.new)) (take taken piece.now))
-            (λ _. AppendsPrefix (W.contents (stream_writer self.old))
-            (W.contents (stream_writer self.new)) piece.now) }
-        ensures count { stream_write_faults self.new ≡ (if is_ok result then stream_write_faults
-            self.old else next_count (stream_write_faults self.old)) }
+            (λ taken. Appends (W.contents (stream_inner self.old))
+            (W.contents (stream_inner self.new)) (take taken piece.now))
+            (λ _. AppendsPrefix (W.contents (stream_inner self.old))
+            (W.contents (stream_inner self.new)) piece.now) }
+        ensures count { stream_faults self.new ≡ (if is_ok result then stream_faults
+            self.old else next_count (stream_faults self.old)) }
     {
         match write_once(&mut self.inner, piece) {
             Some(taken) => Ok(taken),

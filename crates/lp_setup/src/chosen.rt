@@ -105,7 +105,7 @@ pub fn values_named<'a>(sets: &'a [ValueSet], name: &Name) -> Option<&'a [DeckEn
         (items.now ≡ items_of name.now sets.now)) }
 {
     let set = value_set(sets, name)?;
-    Some(&set.entries)
+    Some(&set.items)
 }
 
 /// The items of the first set of right-hand sides, or none.
@@ -113,7 +113,7 @@ fn first_rhs(sets: &[ValueSet]) -> &[DeckEntry]
     ensures { result.now ≡ items_of_rhs sets.now None }
 {
     match sets {
-        [set, ..] => &set.entries,
+        [set, ..] => &set.items,
         [] => &[],
     }
 }

@@ -19,7 +19,7 @@ fn given_numbers(alloc: Global, column: &ColumnDecl) -> Result<Vec<Entry>, NoMem
 {
     Ok(
         column
-            .entries
+            .items
             .iter()
             .map(|entry| Entry {
                 row: entry.row,
@@ -54,7 +54,7 @@ fn coefficients(
     ensures overflow { IfErr result (IsColumnOverflow rows.now column.now.items number) }
 {
     let given = given_numbers(alloc, column)?;
-    let combined = combined_numbers(alloc, rows, &column.entries, number)?;
+    let combined = combined_numbers(alloc, rows, &column.items, number)?;
     let all = joined(alloc, &given, &combined)?;
     Ok(all)
 }

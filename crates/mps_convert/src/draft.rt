@@ -12,7 +12,7 @@ use crate::problem_draft::ProblemDraft;
 use card_reader::Card;
 use deck_definitions::Style;
 use deck_fields::{
-    CardStop, DataCard, Draft, SectionOrder, begins_section, is_blank as is_empty_text, is_header,
+    CardStop, DataCard, Draft, SectionOrder, begins_section, is_blank as is_empty_text, is_section,
     next_section, read_data_card, style_begun,
 };
 use name_table::Name;
@@ -175,7 +175,7 @@ impl DeckDraft {
         let Some(section) = self.section else {
             return Err(CardStop::Fault(DeckFaultKind::SectionOrder));
         };
-        if is_header(section) {
+        if is_section(Section::Header, section) {
             return Err(CardStop::Fault(DeckFaultKind::SectionOrder));
         }
         match read_data_card(card, self.style, section, false) {

@@ -13,3 +13,4 @@ pub mod Retained
 pub mod Slots
 mod Settled
 mod NamedRows
+mod MadeOf

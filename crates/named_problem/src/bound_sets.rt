@@ -20,7 +20,7 @@ ghost use Rattle.named_problem.specs.Changes.{bounds_changed};
 use crate::bounds::Bounds;
 use crate::changes::BoundChange;
 use crate::groups::Groups;
-use crate::named::insert_new;
+use crate::named::{insert_new, made_of_each};
 use crate::pairs::number_in;
 use crate::parts::NamedBound;
 use deck_definitions::DeckFaultKind;
@@ -28,7 +28,7 @@ use deck_fields::{CardStop, DataCard, Decimal, bound_kind, has_value, is_blank};
 use indexmap::IndexMap;
 use name_table::Name;
 use problem_definitions::{BoundKind, MAX_COLUMNS};
-use problem_file::{BoundSet, NoMemory};
+use problem_file::{BoundSet, Group, NoMemory};
 use std::alloc::{AllocError, Global};
 use std::marker::Model;
 
@@ -174,7 +174,12 @@ impl BoundSets {
         ensures { IfOk result (λ list. list.items ≡ map
             (group_by (bound_by (column_number columns.now))) self.now) }
     {
-        numbered_sets(alloc, columns, &self.sets)
+        made_of_each(alloc, &self.sets, |name, bounds| {
+            Ok(Group {
+                name: *name,
+                items: bounds.numbered(alloc, columns)?,
+            })
+        })
     }
 
     /// Adds a set of a new name at the end.
@@ -281,27 +286,6 @@ impl BoundSets {
         self.remove_empty();
         Ok(())
     }
-}
-
-// Sets with the numbers of their columns.
-fn numbered_sets(
-    alloc: Global,
-    columns: &Groups,
-    sets: &IndexMap<Name, Bounds>,
-) -> Result<Vec<BoundSet>, NoMemory>
-    requires { length columns.now ≤ MAX_COLUMNS }
-    ensures { IfOk result (λ list. list.items ≡ map
-        (group_by (bound_by (column_number columns.now))) (map group_at sets.now.entries)) }
-{
-    let mut list = Vec::new(alloc);
-    for (name, bounds) in sets {
-        let set = BoundSet {
-            name: *name,
-            items: bounds.numbered(alloc, columns)?,
-        };
-        list.push(set).map_err(|_| NoMemory)?;
-    }
-    Ok(list)
 }
 
 /// Takes a card of BOUNDS.

@@ -15,7 +15,7 @@ ghost use Rattle.named_problem.specs.Changes.{entries_changed};
 ghost use Rattle.named_problem.specs.Views.{entry_at, row_number};
 
 use crate::changes::EntryChange;
-use crate::named::add_new;
+use crate::named::{add_new, made_of_each};
 use crate::on_row::OnRow;
 use crate::pairs::number_in;
 use crate::rows::Rows;
@@ -137,7 +137,12 @@ impl Entries {
         ensures { IfOk result (λ list. list.items ≡ map (entry_by
             (row_number rows.now)) self.now) }
     {
-        numbered_entries(alloc, rows, &self.values)
+        made_of_each(alloc, &self.values, |row, number| {
+            Ok(DeckEntry {
+                row: rows.number_at(number.place, row),
+                value: number.value,
+            })
+        })
     }
 
     // Puts the entry of a pair in, if there is one.
@@ -216,25 +221,4 @@ impl Entries {
             }
         }
     }
-}
-
-// Numbers on the numbers of their rows.
-fn numbered_entries(
-    alloc: Global,
-    rows: &Rows,
-    values: &IndexMap<Name, OnRow>,
-) -> Result<Vec<DeckEntry>, NoMemory>
-    requires { length rows.now ≤ MAX_ROWS }
-    ensures { IfOk result (λ entries. entries.items ≡ map (entry_by (row_number rows.now))
-        (map entry_at values.now.entries)) }
-{
-    let mut entries = Vec::new(alloc);
-    for (row, number) in values {
-        let entry = DeckEntry {
-            row: rows.number_at(number.place, row),
-            value: number.value,
-        };
-        entries.push(entry).map_err(|_| NoMemory)?;
-    }
-    Ok(entries)
 }

@@ -23,7 +23,7 @@ ghost use Rattle.named_problem.specs.Changes.{entries_changed};
 
 use crate::changes::EntryChange;
 use crate::entries::Entries;
-use crate::named::insert_new;
+use crate::named::{insert_new, made_of_each};
 use crate::numbers::{number_among, number_from};
 use crate::pairs::take_pairs;
 use crate::rows::Rows;
@@ -32,7 +32,7 @@ use deck_fields::{CardStop, DataCard, is_blank};
 use indexmap::IndexMap;
 use name_table::Name;
 use problem_definitions::{MAX_COLUMNS, MAX_ROWS};
-use problem_file::{EntryGroup, NoMemory};
+use problem_file::{DeckEntry, Group, NoMemory};
 use std::alloc::{AllocError, Global};
 use std::marker::Model;
 
@@ -367,12 +367,17 @@ impl Groups {
     }
 
     /// The groups with the numbers of their rows.
-    pub fn numbered(&self, alloc: Global, rows: &Rows) -> Result<Vec<EntryGroup>, NoMemory>
+    pub fn numbered(&self, alloc: Global, rows: &Rows) -> Result<Vec<Group<DeckEntry>>, NoMemory>
         requires { length rows.now ≤ MAX_ROWS }
         ensures { IfOk result (λ list. list.items ≡ map
             (group_by (entry_by (row_number rows.now))) self.now) }
     {
-        numbered_groups(alloc, rows, &self.groups)
+        made_of_each(alloc, &self.groups, |name, entries| {
+            Ok(Group {
+                name: *name,
+                items: entries.numbered(alloc, rows)?,
+            })
+        })
     }
 
     /// Puts a group of a new name at this place, or at the end where there are fewer.
@@ -505,25 +510,4 @@ impl Groups {
         self.remove_empty();
         Ok(())
     }
-}
-
-// Groups with the numbers of their rows.
-fn numbered_groups(
-    alloc: Global,
-    rows: &Rows,
-    groups: &IndexMap<Name, Entries>,
-) -> Result<Vec<EntryGroup>, NoMemory>
-    requires { length rows.now ≤ MAX_ROWS }
-    ensures { IfOk result (λ list. list.items ≡ map (group_by (entry_by (row_number rows.now)))
-        (map group_at groups.now.entries)) }
-{
-    let mut list = Vec::new(alloc);
-    for (name, entries) in groups {
-        let group = EntryGroup {
-            name: *name,
-            entries: entries.numbered(alloc, rows)?,
-        };
-        list.push(group).map_err(|_| NoMemory)?;
-    }
-    Ok(list)
 }

@@ -1,13 +1,15 @@
 // Lists of things with different names, in which a name is looked up by its hash.
-ghost use Rattle.std.specs.Prelude.{◌≡◌, ◌++◌, ◌∷◌, [], true, false, not, insert, is_some, IfOk, OnOk, OnErr};
+ghost use Rattle.std.specs.Prelude.{◌≡◌, ◌++◌, ◌∷◌, [], true, false, not, insert, is_some, map, IfOk, OnOk, OnErr};
 ghost use Rattle.std.specs.List.{IsDistinct};
 ghost use Rattle.std.specs.Map.{keys_of, lookup};
-ghost use Rattle.problem_definitions.specs.Names.{same};
+ghost use Rattle.problem_definitions.specs.Names.{Name as Text, same};
+ghost use Rattle.named_problem.specs.Made.{MakesEach};
 
 use indexmap::IndexMap;
 use indexmap::map::Entry;
 use name_table::Name;
-use std::alloc::AllocError;
+use problem_file::NoMemory;
+use std::alloc::{AllocError, Global};
 
 // Puts a value under a name that has none at this place, or at the end where there are fewer.
 pub fn insert_new<V: Drop>(
@@ -47,4 +49,22 @@ pub fn add_new<V: Drop>(
             Ok(true)
         }
     }
+}
+
+// What a function makes of each name and its value, in order.
+pub fn made_of_each<V, T: Drop, F: Fn(&Name, &V) -> Result<T, NoMemory>>(
+    alloc: Global,
+    values: &IndexMap<Name, V>,
+    make: F,
+) -> Result<Vec<T>, NoMemory>
+    requires { F.IsAlwaysCallable make }
+    ensures { (made : Text × V → T) → MakesEach (F.post make) made →
+        IfOk result (λ list. list.items ≡ map made values.now.entries) }
+{
+    let mut list = Vec::new(alloc);
+    for (name, value) in values {
+        let item = make(name, value)?;
+        list.push(item).map_err(|_| NoMemory)?;
+    }
+    Ok(list)
 }

@@ -17,8 +17,8 @@ use crate::rows::{FoundRow, Rows, is_free};
 use card_definitions::NumberFault;
 use deck_definitions::{DeckFaultKind, Section};
 use deck_fields::{
-    CardStop, DataCard, Decimal, PairText, first_pair, first_part, is_blank, is_columns, is_ranges,
-    number, second_pair,
+    CardStop, DataCard, Decimal, PairText, first_pair, first_part, is_blank, is_section, number,
+    second_pair,
 };
 use name_table::Name;
 use problem_definitions::MAX_ENTRIES;
@@ -35,10 +35,10 @@ pub fn row_of(rows: &Rows, section: Section, row: &Name) -> Result<FoundRow, Dec
     let Some(found) = rows.find(row) else {
         return Err(DeckFaultKind::UnknownRow);
     };
-    if is_columns(section) && found.is_combination {
+    if is_section(Section::Columns, section) && found.is_combination {
         return Err(DeckFaultKind::EntryOnCombination);
     }
-    if is_ranges(section) && is_free(found.kind) {
+    if is_section(Section::Ranges, section) && is_free(found.kind) {
         return Err(DeckFaultKind::RangeOnFree);
     }
     Ok(found)
@@ -84,7 +84,7 @@ fn decimal_of(section: Section, count: u32, pair: &PairText<'_>) -> Result<Decim
         ≡ Some kind) }
 {
     let value = number_in(pair.column, pair.value)?;
-    if is_columns(section) && MAX_ENTRIES <= count as usize {
+    if is_section(Section::Columns, section) && MAX_ENTRIES <= count as usize {
         return Err(DeckFaultKind::TooManyEntries);
     }
     Ok(value)

@@ -18,7 +18,7 @@ ghost use Rattle.named_problem.specs.Bodies.{row_at, body_with, body_retyped};
 
 use crate::entries::Entries;
 use crate::kinds::kind_on;
-use crate::named::insert_new;
+use crate::named::{insert_new, made_of_each};
 use crate::numbers::{number_among, number_from};
 use deck_fields::{DataCard, is_card_of};
 use indexmap::IndexMap;
@@ -213,7 +213,13 @@ impl Rows {
         requires { length self.now ≤ MAX_ROWS }
         ensures { IfOk result (λ decls. decls.items ≡ map (row_by (row_number self.now)) self.now) }
     {
-        row_decls(alloc, self, &self.rows)
+        made_of_each(alloc, &self.rows, |name, body| {
+            Ok(RowDecl {
+                kind: body.kind,
+                name: *name,
+                parts: numbered_parts(alloc, self, &body.parts)?,
+            })
+        })
     }
 
     /// Puts a row of a new name at this place, or at the end where there are fewer.
@@ -351,28 +357,6 @@ fn numbered_parts(
         Some(parts) => Ok(Some(parts.numbered(alloc, rows)?)),
         None => Ok(None),
     }
-}
-
-// The rows of these names, with the numbers of the rows that parts stand on.
-fn row_decls(
-    alloc: Global,
-    rows: &Rows,
-    bodies: &IndexMap<Name, RowBody>,
-) -> Result<Vec<RowDecl>, NoMemory>
-    requires { length rows.now ≤ MAX_ROWS }
-    ensures { IfOk result (λ decls. decls.items ≡ map (row_by (row_number rows.now))
-        (map row_at bodies.now.entries)) }
-{
-    let mut decls = Vec::new(alloc);
-    for (name, body) in bodies {
-        let row = RowDecl {
-            kind: body.kind,
-            name: *name,
-            parts: numbered_parts(alloc, rows, &body.parts)?,
-        };
-        decls.push(row).map_err(|_| NoMemory)?;
-    }
-    Ok(decls)
 }
 
 /// Whether a row of this type has no limits.

@@ -8,6 +8,6 @@ mod problem;
 pub use deck_fields::Decimal;
 pub use file::ProblemFile;
 pub use job_devices::NoMemory;
-pub use parts::{BoundItem, BoundSet, ColumnDecl, DeckEntry, EntryGroup, RowDecl, ValueSet};
+pub use parts::{BoundItem, BoundSet, ColumnDecl, DeckEntry, Group, RowDecl, ValueSet};
 pub use problem::Problem;
 pub use problem_definitions::{BoundKind, RowKind};

@@ -56,27 +56,29 @@ impl Model for DeckEntry {
     ghost inverse = { λ entry. record { row = entry.row; value = entry.value } };
 }
 
-/// A name with its entries, in deck order: a column, or a set of right-hand sides or of ranges.
+/// A name with its items, in deck order.
 #[derive(Debug, Drop)]
-pub struct EntryGroup {
+pub struct Group<T> {
     pub name: Name,
-    pub entries: Vec<DeckEntry>,
+    pub items: Vec<T>,
 }
 
-impl Model for EntryGroup {
-    ghost use Rattle.std.specs.Prelude.{ℕ};
-    ghost use Rattle.problem_definitions.specs.Problem.{Entry, Group};
+impl<T> Model for Group<T> {
+    ghost use Rattle.problem_definitions.specs.Problem.{Group as Stated};
 
-    ghost Value = { Group (Entry ℕ) };
+    ghost Value = { Stated T };
 
-    ghost view = { λ group. record { name = group.name; items = group.entries.items } };
+    ghost view = { λ group. record { name = group.name; items = group.items.items } };
 }
 
 /// A column with its entries.
-pub type ColumnDecl = EntryGroup;
+pub type ColumnDecl = Group<DeckEntry>;
 
 /// A set of right-hand sides or of ranges with its entries.
-pub type ValueSet = EntryGroup;
+pub type ValueSet = Group<DeckEntry>;
+
+/// A set of bounds with its items.
+pub type BoundSet = Group<BoundItem>;
 
 /// A bound on a column. The value is there exactly where the type takes one: for `Up`, `Lo` and `Fx`.
 #[derive(Clone, Copy, Debug)]
@@ -95,20 +97,4 @@ impl Model for BoundItem {
     ghost view = { λ bound. record { kind = bound.kind; column = bound.column; value = bound.value } };
 
     ghost inverse = { λ bound. record { kind = bound.kind; column = bound.column; value = bound.value } };
-}
-
-/// A set of bounds with its items, in deck order.
-#[derive(Debug, Drop)]
-pub struct BoundSet {
-    pub name: Name,
-    pub items: Vec<BoundItem>,
-}
-
-impl Model for BoundSet {
-    ghost use Rattle.std.specs.Prelude.{ℕ};
-    ghost use Rattle.problem_definitions.specs.Problem.{Bound, Group};
-
-    ghost Value = { Group (Bound ℕ) };
-
-    ghost view = { λ set. record { name = set.name; items = set.items.items } };
 }

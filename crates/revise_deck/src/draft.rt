@@ -6,7 +6,7 @@ use crate::sections::{action_fault_of, action_of, anchor_of, comes_after, is_act
 use card_reader::Card;
 use deck_definitions::Style;
 use deck_fields::{
-    CardStop, DataCard, Draft, SectionOrder, begins_section, is_header, name_in, next_section,
+    CardStop, DataCard, Draft, SectionOrder, begins_section, is_section, name_in, next_section,
     read_data_card, style_begun,
 };
 use mps_convert::ProblemDraft;
@@ -172,7 +172,7 @@ impl ReviseDraft {
         let Some(section) = self.section else {
             return Err(CardStop::Fault(DeckFaultKind::SectionOrder));
         };
-        if is_header(section) {
+        if is_section(Section::Header, section) {
             return Err(CardStop::Fault(DeckFaultKind::SectionOrder));
         }
         self.take_standing(section, card)

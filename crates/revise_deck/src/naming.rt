@@ -8,7 +8,7 @@ ghost use Rattle.revise_deck.specs.Different.{AreDifferentEntries, AreDifferentB
 use deck_fields::name_in;
 use name_table::Name;
 use named_problem::{BoundSets, Bounds, Entries, Groups, NamedBound, NamedProblem, OnRow, Rows};
-use problem_file::{BoundItem, BoundSet, ColumnDecl, DeckEntry, EntryGroup, Problem, RowDecl};
+use problem_file::{BoundItem, BoundSet, ColumnDecl, DeckEntry, Group, Problem, RowDecl};
 use std::alloc::{AllocError, Global};
 
 // The name of the row of this number, from 1, or the empty name.
@@ -94,7 +94,7 @@ fn named_bounds(
 fn named_groups(
     alloc: Global,
     rows: &[RowDecl],
-    groups: &[EntryGroup],
+    groups: &[Group<DeckEntry>],
 ) -> Result<Groups, AllocError>
     requires { AreDifferentGroups AreDifferentEntries (map (group_by
         (entry_by (name_at (map (λ row. row.name) rows.now)))) groups.now) }
@@ -103,7 +103,7 @@ fn named_groups(
 {
     let mut list = Groups::new(alloc);
     for group in groups {
-        list.add(group.name, named_entries(alloc, rows, &group.entries)?)?;
+        list.add(group.name, named_entries(alloc, rows, &group.items)?)?;
     }
     Ok(list)
 }

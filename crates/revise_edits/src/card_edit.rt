@@ -5,7 +5,7 @@ ghost use Rattle.revise_edits.specs.Summary.{edited_by};
 ghost use Rattle.revise_edits.specs.EditTests.{edit_test};
 
 use crate::edits::{edit_bounds_of, edit_columns_of, edit_rows_of, edit_sets_of};
-use crate::under::UnderAction;
+use crate::under::{CardUnder, UnderAction};
 use deck_fields::DataCard;
 use named_problem::{NamedProblem, Section};
 use revise_definitions::Action;
@@ -24,9 +24,14 @@ pub fn edit(
     ensures { OnOk result (problem.new ≡ edited_by section action under.now (viewed card.now)
         problem.old) }
 {
+    let at = CardUnder {
+        action,
+        under,
+        card,
+    };
     match section {
-        Section::Rows => edit_rows_of(alloc, action, under, card, problem),
-        Section::Columns => edit_columns_of(alloc, action, under, card, problem),
+        Section::Rows => edit_rows_of(alloc, &at, problem),
+        Section::Columns => edit_columns_of(alloc, &at, problem),
         Section::Rhs => edit_sets_of(alloc, action, card, &mut problem.rhs),
         Section::Ranges => edit_sets_of(alloc, action, card, &mut problem.ranges),
         Section::Bounds => edit_bounds_of(alloc, action, card, &mut problem.bounds),

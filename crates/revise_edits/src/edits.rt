@@ -10,7 +10,7 @@ ghost use Rattle.revise_edits.specs.Needs.{IsNewRow, IsNewColumn, HasBound, CanE
 ghost use Rattle.revise_edits.specs.Summary.{row_inserted, column_inserted, rows_edited, columns_edited, edited_by};
 
 use crate::places::{next_column_place, next_row_place};
-use crate::under::UnderAction;
+use crate::under::CardUnder;
 use deck_fields::{DataCard, bound_kind, combination_kind, is_blank, row_kind};
 use name_table::Name;
 use named_problem::{BoundChange, BoundSets, Entries, EntryChange, Groups, NamedProblem, Rows};
@@ -86,21 +86,16 @@ fn insert_row_at(
 }
 
 // Puts the row of a card next to the anchor, or goes on with the combination of the card before.
-fn insert_row_of(
-    alloc: Global,
-    action: Action,
-    under: &UnderAction,
-    card: &DataCard<'_>,
-    rows: &mut Rows,
-) -> Result<(), AllocError>
-    requires { IsNewRow under.now (viewed card.now) rows.old }
-    ensures { OnOk result (rows.new ≡ row_inserted action under.now (viewed card.now) rows.old) }
+fn insert_row_of(alloc: Global, at: &CardUnder<'_>, rows: &mut Rows) -> Result<(), AllocError>
+    requires { IsNewRow at.now.under.now (viewed at.now.card.now) rows.old }
+    ensures { OnOk result (rows.new ≡ row_inserted at.now.action at.now.under.now
+        (viewed at.now.card.now) rows.old) }
 {
-    if under.goes_on_row(card) {
-        return rows.append_parts(card);
+    if at.under.goes_on_row(at.card) {
+        return rows.append_parts(at.card);
     }
-    let place = next_row_place(action, under, rows);
-    insert_row_at(alloc, rows, place, card)
+    let place = next_row_place(at.action, at.under, rows);
+    insert_row_at(alloc, rows, place, at.card)
 }
 
 // Puts a new column with the entries of a card at a place.
@@ -123,42 +118,38 @@ fn insert_new_column(
 // Puts the column of a card next to the anchor, or goes on with that of the card before.
 fn insert_column_of(
     alloc: Global,
-    action: Action,
-    under: &UnderAction,
-    card: &DataCard<'_>,
+    at: &CardUnder<'_>,
     columns: &mut Groups,
 ) -> Result<(), AllocError>
-    requires { IsNewColumn under.now (viewed card.now) columns.old }
-    ensures { OnOk result (columns.new ≡ column_inserted action under.now (viewed card.now)
-        columns.old) }
+    requires { IsNewColumn at.now.under.now (viewed at.now.card.now) columns.old }
+    ensures { OnOk result (columns.new ≡ column_inserted at.now.action at.now.under.now
+        (viewed at.now.card.now) columns.old) }
 {
-    if under.goes_on(card) {
-        return columns.change(alloc, EntryChange::Append, card);
+    if at.under.goes_on(at.card) {
+        return columns.change(alloc, EntryChange::Append, at.card);
     }
-    let place = next_column_place(action, under, columns);
-    insert_new_column(alloc, place, card, columns)
+    let place = next_column_place(at.action, at.under, columns);
+    insert_new_column(alloc, place, at.card, columns)
 }
 
 /// The edit of a card of ROWS.
 pub fn edit_rows_of(
     alloc: Global,
-    action: Action,
-    under: &UnderAction,
-    card: &DataCard<'_>,
+    at: &CardUnder<'_>,
     problem: &mut NamedProblem,
 ) -> Result<(), AllocError>
-    requires { CanEditRows action under.now (viewed card.now) problem.old.rows }
-    ensures { OnOk result (problem.new ≡ rows_edited action under.now (viewed card.now)
-        problem.old) }
+    requires { CanEditRows at.now.action at.now.under.now (viewed at.now.card.now)
+        problem.old.rows }
+    ensures { OnOk result (problem.new ≡ rows_edited at.now.action at.now.under.now
+        (viewed at.now.card.now) problem.old) }
 {
-    match action {
-        Action::Modify => problem.rows.modify(card),
+    match at.action {
+        Action::Modify => problem.rows.modify(at.card),
         Action::Delete => {
-            remove_row(card.name1, problem);
+            remove_row(at.card.name1, problem);
             Ok(())
         }
-        Action::Before => insert_row_of(alloc, Action::Before, under, card, &mut problem.rows),
-        Action::After => insert_row_of(alloc, Action::After, under, card, &mut problem.rows),
+        Action::Before | Action::After => insert_row_of(alloc, at, &mut problem.rows),
     }
 }
 
@@ -182,22 +173,18 @@ fn delete_column_of(
 /// The edit of a card of COLUMNS.
 pub fn edit_columns_of(
     alloc: Global,
-    action: Action,
-    under: &UnderAction,
-    card: &DataCard<'_>,
+    at: &CardUnder<'_>,
     problem: &mut NamedProblem,
 ) -> Result<(), AllocError>
-    requires { CanEditColumns action under.now (viewed card.now) problem.old.columns }
-    ensures { OnOk result (problem.new ≡ columns_edited action under.now (viewed card.now)
-        problem.old) }
+    requires { CanEditColumns at.now.action at.now.under.now (viewed at.now.card.now)
+        problem.old.columns }
+    ensures { OnOk result (problem.new ≡ columns_edited at.now.action at.now.under.now
+        (viewed at.now.card.now) problem.old) }
 {
-    match action {
-        Action::Modify => problem.columns.change(alloc, EntryChange::Put, card),
-        Action::Delete => delete_column_of(alloc, card, problem),
-        Action::Before => {
-            insert_column_of(alloc, Action::Before, under, card, &mut problem.columns)
-        }
-        Action::After => insert_column_of(alloc, Action::After, under, card, &mut problem.columns),
+    match at.action {
+        Action::Modify => problem.columns.change(alloc, EntryChange::Put, at.card),
+        Action::Delete => delete_column_of(alloc, at.card, problem),
+        Action::Before | Action::After => insert_column_of(alloc, at, &mut problem.columns),
     }
 }
 

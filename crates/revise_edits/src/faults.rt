@@ -203,25 +203,6 @@ fn column_head_fault(card: &DataCard<'_>) -> Option<DeckFaultKind>
     None
 }
 
-// The fault of the pairs of a card that are put into one of these columns.
-fn put_pairs_fault(
-    seen: &NamedProblem,
-    columns: &Groups,
-    card: &DataCard<'_>,
-) -> Option<DeckFaultKind>
-    ensures { result ≡ puts_fault seen.now Columns (items_of card.now.name1 columns.now)
-        (sum_by (λ column. length column.items) columns.now) (pairs_of (viewed card.now)) }
-{
-    let count = columns.item_count();
-    puts_fault_of(
-        seen,
-        Section::Columns,
-        columns.items(&card.name1),
-        count,
-        card,
-    )
-}
-
 // The fault of a card's column that is to be modified, and then of its pairs.
 fn put_column_fault(
     seen: &NamedProblem,
@@ -236,7 +217,14 @@ fn put_column_fault(
     if !columns.has(&card.name1) {
         return Some(DeckFaultKind::ModifyMissing);
     }
-    put_pairs_fault(seen, columns, card)
+    let count = columns.item_count();
+    puts_fault_of(
+        seen,
+        Section::Columns,
+        columns.items(&card.name1),
+        count,
+        card,
+    )
 }
 
 /// The fault of a card of COLUMNS under MODIFY.
@@ -329,19 +317,6 @@ fn new_column_fault(columns: &Groups, goes_on: bool, name: &Name) -> Option<Deck
     None
 }
 
-// The fault of the pairs of a card that are added to one of these columns.
-fn added_pairs_fault(
-    seen: &NamedProblem,
-    columns: &Groups,
-    card: &DataCard<'_>,
-) -> Option<DeckFaultKind>
-    ensures { result ≡ pairs_fault seen.now Columns (items_of card.now.name1 columns.now)
-        (sum_by (λ column. length column.items) columns.now) (pairs_of (viewed card.now)) }
-{
-    let count = columns.item_count();
-    pairs_fault_of(seen, columns.items(&card.name1), count, card)
-}
-
 // The fault of a card's column that is inserted or goes on, and then of its pairs.
 fn insert_column_fault(
     seen: &NamedProblem,
@@ -356,9 +331,10 @@ fn insert_column_fault(
         (items_of card.now.name1 columns.now) (sum_by (λ column. length column.items) columns.now)
         (pairs_of (viewed card.now)) ∷ []) }
 {
+    let count = columns.item_count();
     first_of(
         new_column_fault(columns, goes_on, &card.name1),
-        added_pairs_fault(seen, columns, card),
+        pairs_fault_of(seen, columns.items(&card.name1), count, card),
     )
 }
 

@@ -11,9 +11,7 @@ ghost use Rattle.named_problem.specs.Views.{rows_alone};
 ghost use Rattle.revise_definitions.specs.Tests.{puts_fault};
 ghost use Rattle.revise_edits.specs.EditTests.{put_test, pair_test, part_test};
 
-use deck_fields::{
-    DataCard, PairText, first_pair, first_part, is_blank, is_columns, is_ranges, second_pair,
-};
+use deck_fields::{DataCard, PairText, first_pair, first_part, is_blank, is_section, second_pair};
 use name_table::Name;
 use named_problem::{DeckFaultKind, Entries, NamedProblem, Rows, Section, number_in, row_of};
 use problem_definitions::MAX_ENTRIES;
@@ -54,7 +52,7 @@ fn put_fault_at(
     if let Some(kind) = number_fault(pair) {
         return Some(kind);
     }
-    if is_columns(section) && !is_there && MAX_ENTRIES as u128 <= count {
+    if is_section(Section::Columns, section) && !is_there && MAX_ENTRIES as u128 <= count {
         return Some(DeckFaultKind::TooManyEntries);
     }
     None

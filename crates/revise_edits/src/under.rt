@@ -32,6 +32,14 @@ impl Model for UnderAction {
     ghost view = { λ under. record { anchor = under.anchor; there = under.there; names = under.names.keys; last = under.last; combination = under.combination } };
 }
 
+/// A data card under an action, after those that came before it under the same.
+#[derive(Clone, Copy)]
+pub struct CardUnder<'a> {
+    pub action: Action,
+    pub under: &'a UnderAction,
+    pub card: &'a DataCard<'a>,
+}
+
 // The type and the name on a card of ROWS, if it makes a combination or goes on with one.
 fn combination_on(card: &DataCard<'_>) -> Option<(RowKind, Name)>
     ensures { result ≡ combination_on (viewed card.now) }

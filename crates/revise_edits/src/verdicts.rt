@@ -14,74 +14,59 @@ use crate::faults::{
     modified_row_fault, modified_set_fault,
 };
 use crate::places::next_row_place;
-use crate::under::UnderAction;
+use crate::under::{CardUnder, UnderAction};
 use deck_fields::DataCard;
 use named_problem::{DeckFaultKind, Groups, NamedProblem, Rows, Section};
 use revise_definitions::Action;
 
 // How many rows are the earlier ones of a card under BEFORE or AFTER.
-fn earlier_count(
-    rows: &Rows,
-    action: Action,
-    under: &UnderAction,
-    goes_on: bool,
-    card: &DataCard<'_>,
-) -> usize
-    requires { goes_on ≡ goes_on_row_from under.now (viewed card.now) }
-    ensures { take result rows.now ≡ earlier_among action under.now (viewed card.now) rows.now }
+fn earlier_count(rows: &Rows, at: &CardUnder<'_>, goes_on: bool) -> usize
+    requires { goes_on ≡ goes_on_row_from at.now.under.now (viewed at.now.card.now) }
+    ensures { take result rows.now ≡ earlier_among at.now.action at.now.under.now
+        (viewed at.now.card.now) rows.now }
 {
     if goes_on {
-        return rows.place_of(&card.name1);
+        return rows.place_of(&at.card.name1);
     }
-    next_row_place(action, under, rows)
+    next_row_place(at.action, at.under, rows)
 }
 
 // The fault of a card of ROWS under BEFORE or AFTER.
-fn added_row_fault(
-    rows: &Rows,
-    action: Action,
-    under: &UnderAction,
-    card: &DataCard<'_>,
-) -> Option<DeckFaultKind>
-    ensures { result ≡
-        rows_fault (rows_alone rows.now) (goes_on_row_from under.now (viewed card.now))
-        (earlier_among action under.now (viewed card.now) rows.now) (viewed card.now) }
+fn added_row_fault(rows: &Rows, at: &CardUnder<'_>) -> Option<DeckFaultKind>
+    ensures { result ≡ rows_fault (rows_alone rows.now)
+        (goes_on_row_from at.now.under.now (viewed at.now.card.now))
+        (earlier_among at.now.action at.now.under.now (viewed at.now.card.now) rows.now)
+        (viewed at.now.card.now) }
 {
-    let goes_on = under.goes_on_row(card);
-    let limit = earlier_count(rows, action, under, goes_on, card);
-    inserted_row_fault(rows, goes_on, limit, card)
+    let goes_on = at.under.goes_on_row(at.card);
+    let limit = earlier_count(rows, at, goes_on);
+    inserted_row_fault(rows, goes_on, limit, at.card)
 }
 
 // The fault of a card of ROWS.
-fn rows_fault_of(
-    seen: &NamedProblem,
-    action: Action,
-    under: &UnderAction,
-    card: &DataCard<'_>,
-) -> Option<DeckFaultKind>
-    ensures { result ≡ edit_test seen.now Section.Rows action under.now (viewed card.now) }
+fn rows_fault_of(seen: &NamedProblem, at: &CardUnder<'_>) -> Option<DeckFaultKind>
+    ensures { result ≡ edit_test seen.now Section.Rows at.now.action at.now.under.now
+        (viewed at.now.card.now) }
 {
-    match action {
-        Action::Modify => modified_row_fault(seen, card),
-        Action::Delete => deleted_row_fault(seen, card),
-        Action::Before => added_row_fault(&seen.rows, Action::Before, under, card),
-        Action::After => added_row_fault(&seen.rows, Action::After, under, card),
+    match at.action {
+        Action::Modify => modified_row_fault(seen, at.card),
+        Action::Delete => deleted_row_fault(seen, at.card),
+        Action::Before => added_row_fault(&seen.rows, at),
+        Action::After => added_row_fault(&seen.rows, at),
     }
 }
 
 // The fault of a card of COLUMNS.
-fn columns_fault_of(
-    seen: &NamedProblem,
-    action: Action,
-    under: &UnderAction,
-    card: &DataCard<'_>,
-) -> Option<DeckFaultKind>
-    ensures { result ≡ edit_test seen.now Columns action under.now (viewed card.now) }
+fn columns_fault_of(seen: &NamedProblem, at: &CardUnder<'_>) -> Option<DeckFaultKind>
+    ensures { result ≡ edit_test seen.now Columns at.now.action at.now.under.now
+        (viewed at.now.card.now) }
 {
-    match action {
-        Action::Modify => modified_column_fault(seen, card),
-        Action::Delete => deleted_column_fault(seen, card),
-        Action::Before | Action::After => inserted_column_fault(seen, under.goes_on(card), card),
+    match at.action {
+        Action::Modify => modified_column_fault(seen, at.card),
+        Action::Delete => deleted_column_fault(seen, at.card),
+        Action::Before | Action::After => {
+            inserted_column_fault(seen, at.under.goes_on(at.card), at.card)
+        }
     }
 }
 
@@ -125,9 +110,14 @@ pub fn edit_fault_of(
 ) -> Option<DeckFaultKind>
     ensures { result ≡ edit_test seen.now section action under.now (viewed card.now) }
 {
+    let at = CardUnder {
+        action,
+        under,
+        card,
+    };
     match section {
-        Section::Rows => rows_fault_of(seen, action, under, card),
-        Section::Columns => columns_fault_of(seen, action, under, card),
+        Section::Rows => rows_fault_of(seen, &at),
+        Section::Columns => columns_fault_of(seen, &at),
         Section::Rhs => sets_fault_of(seen, Section::Rhs, &seen.rhs, action, card),
         Section::Ranges => sets_fault_of(seen, Section::Ranges, &seen.ranges, action, card),
         Section::Bounds => bounds_fault_of(seen, action, card),

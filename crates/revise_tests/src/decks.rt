@@ -2,7 +2,7 @@ use card_reader::{Cards, read_job};
 use deck_fields::{CardStop, DeckFault, DeckFaultKind};
 use job_devices::SureSource;
 use mps_convert::convert;
-use problem_file::{BoundSet, DeckEntry, EntryGroup, Problem, RowDecl};
+use problem_file::{BoundSet, DeckEntry, Group, Problem, RowDecl};
 use revise_deck::revise;
 use std::alloc::Global;
 use std::test::Fail;
@@ -99,10 +99,10 @@ fn put_rows(text: &mut Vec<u8>, rows: &[RowDecl]) -> Result<(), Fail> {
     Ok(())
 }
 
-fn put_groups(text: &mut Vec<u8>, groups: &[EntryGroup]) -> Result<(), Fail> {
+fn put_groups(text: &mut Vec<u8>, groups: &[Group<DeckEntry>]) -> Result<(), Fail> {
     for group in groups {
         text.extend_from_slice(group.name.bytes())?;
-        put_entries(text, &group.entries)?;
+        put_entries(text, &group.items)?;
     }
     Ok(())
 }

@@ -42,7 +42,7 @@ fn entry_count(problem: &Problem) -> u32
     problem
         .columns()
         .iter()
-        .map(|column| column.entries.len())
+        .map(|column| column.items.len())
         .sum::<usize>() as u32
 }
 

@@ -1,0 +1,11 @@
+use Rattle.std.proofs.Common.{rules}
+use Rattle.problem_definitions.specs.Numbering.{entry_by, group_by}
+use Rattle.named_problem.specs.Views.{group_at, row_number}
+use Rattle.named_problem.proofs.MadeOf.{made_of_shown}
+use Rattle.named_problem.proofs.groups.Groups.numbered.Goals as goal
+
+pub returns : goal.returns
+returns c =
+    let make = group_by (entry_by (row_number c.args.rows.now)) in
+    made_of_shown c.self.inside.groups.entries group_at make c.args.self.now c.self.view_is c.made_of_each.result
+    (c.made_of_each.ensures (λ e. make (group_at e)) (λ name value result met. search rules))
