@@ -8,6 +8,7 @@ mod spreads;
 
 pub use own::{as_it_is, own_theta, spread_own};
 pub use programs::{
-    ChangeAt, ProgramAt, change_at, compare_to_lower, compare_to_upper, number_on, subtract_cost,
+    ChangeAt, ProgramAt, change_at, compare_to_lower, compare_to_upper, number_on, shift_at,
+    subtract_cost,
 };
 pub use spreads::{Spread, spread_by, top_of};

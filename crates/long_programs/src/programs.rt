@@ -72,8 +72,8 @@ fn compare_with(
     Ok(sum.sign())
 }
 
-// What is added to the limits of variable `k` for each unit of theta.
-fn shift_at(at: &ProgramAt<'_>, k: u32) -> Frac
+/// What is added to the limits of variable `k` for each unit of theta.
+pub fn shift_at(at: &ProgramAt<'_>, k: u32) -> Frac
     requires variable { IsVariable at.now.lp.now.matrix k }
     requires change { IsChangeIn at.now.lp.now at.now.change }
     ensures { result ≡ shift_at at.now.lp.now at.now.change k }

@@ -3,14 +3,14 @@ ghost use Rattle.std.specs.Prelude.{◌≡◌, List, IfOk, true, is_some, option
 ghost use Rattle.exact_values.specs.Rational.{ℚ, whole, zero_ℚ, ◌+ℚ◌, ◌*ℚ◌};
 ghost use Rattle.lp_definitions.specs.LinearProgram.{IsVariable, size, value_at};
 ghost use Rattle.long_vectors.specs.Vectors.{IsOver, IsValue};
-ghost use Rattle.long_programs.specs.Programs.{program_of, IsChangeIn, shift_at};
+ghost use Rattle.long_programs.specs.Programs.{program_of, IsChangeIn};
 ghost use Rattle.long_rays.specs.Tests.{limit_by, IsMet, SumsTo};
 
 use exact_sums::Sum;
 use frac128::Frac;
 use integers::Integer;
 use long_points::sign_of;
-use long_programs::{ChangeAt, ProgramAt, top_of};
+use long_programs::{ProgramAt, shift_at, top_of};
 use long_vectors::{Column, Value};
 use std::alloc::{AllocError, Global};
 use std::cmp::Ordering;
@@ -50,19 +50,6 @@ fn limit_by(sign: Ordering, lower: Option<Frac>, upper: Option<Frac>) -> Option<
     }
 }
 
-// What is added to the limits of variable `k` for each unit of theta.
-fn shift_on(at: &ProgramAt<'_>, k: u32) -> Frac
-    requires variable { IsVariable at.now.lp.now.matrix k }
-    requires change { IsChangeIn at.now.lp.now at.now.change }
-    ensures { result ≡ shift_at at.now.lp.now at.now.change k }
-{
-    let lp = at.lp;
-    match at.change {
-        ChangeAt::Set(shift) if k <= lp.rows => shift[k as usize - 1],
-        _ => Frac::whole(0),
-    }
-}
-
 // Adds the multiplier of variable `k`, if it isn't 0, times the limit at theta that it meets, times both denominators.
 fn add_met(
     alloc: Global,
@@ -86,7 +73,7 @@ fn add_met(
     }
     let lp = at.lp;
     let limit = limit_by(sign, lp.lower_limit(k), lp.upper_limit(k));
-    let shift = shift_on(at, k);
+    let shift = shift_at(at, k);
     let met = add_limit(alloc, sum, limit, shift, top, theta)?;
     Ok(met)
 }

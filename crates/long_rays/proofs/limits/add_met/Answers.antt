@@ -28,6 +28,6 @@ returns c = λ w x over is_theta.
     c.limit_by-limit.ensures ∙ (λ i. limit_by c.sign_of-sign.result (c.lower_limit.ensures i) (c.upper_limit.ensures i))
     ∙ against_by p (value_at w) c.args.k c.sign_of-sign.result signed in
     met_some p c.args.at.now.change x
-    (value_at w) c.args.k c.requires.variable c.in_ok-met.met c.limit_by-limit.result c.shift_on-shift.result c.args.sum.now c.add_limit.new.sum
-    (d *ℚ whole c.args.theta.now.bottom) (sym (ap is_equal signed) ∙ sym c.is_eq.ensures ∙ failed) limit c.shift_on-shift.ensures c.in_ok-met.ensures.met
+    (value_at w) c.args.k c.requires.variable c.in_ok-met.met c.limit_by-limit.result c.shift_at-shift.result c.args.sum.now c.add_limit.new.sum
+    (d *ℚ whole c.args.theta.now.bottom) (sym (ap is_equal signed) ∙ sym c.is_eq.ensures ∙ failed) limit c.shift_at-shift.ensures c.in_ok-met.ensures.met
     (λ m. c.in_ok-met.ensures.sum x y d (c.top_of-top.ensures w over) is_theta m)
