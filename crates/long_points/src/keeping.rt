@@ -11,6 +11,7 @@ ghost use Rattle.long_programs.specs.Places.{IsSpread};
 ghost use Rattle.long_points.specs.Tests.{keep_test};
 ghost use Rattle.long_points.specs.Ends.{Points, IsEnd, keeping_test, kept_steps};
 
+use crate::each::each_holds;
 use crate::limits::{asked_by, both, counted, is_at, sign_of};
 use long_programs::{ProgramAt, Spread, compare_to_lower, compare_to_upper, top_of};
 use long_vectors::Column;
@@ -124,12 +125,7 @@ pub fn all_prices_keep(
         (flat_map (kept_steps (program_of at.now.lp.now at.now.change from)
         (program_of at.now.lp.now at.now.change to) first last) (variables at.now.lp.now.matrix))) }
 {
-    let lp = at.lp;
-    for i in 0..lp.number_of_variables() {
-        let holds = prices_keep(alloc, at, start, end, i + 1)?;
-        if !holds {
-            return Ok(false);
-        }
-    }
-    Ok(true)
+    let variables = at.lp.number_of_variables();
+    let holds = each_holds(variables, |k| prices_keep(alloc, at, start, end, k))?;
+    Ok(holds)
 }

@@ -2,6 +2,7 @@
 //! denominator. Each tells exactly whether all comparisons of its definition hold.
 #![tactic(auto)]
 
+mod each;
 mod keeping;
 mod limits;
 mod prices;
@@ -9,6 +10,7 @@ mod rows;
 mod slacks;
 mod work;
 
+pub use each::each_holds;
 pub use keeping::{End, all_prices_keep};
 pub use limits::{asked_by, both, counted, feasible, limits_hold, optimal, prices_stand, sign_of};
 pub use prices::{column_sum, reduced_costs_hold};

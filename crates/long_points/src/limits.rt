@@ -9,6 +9,7 @@ ghost use Rattle.long_programs.specs.Programs.{program_of, IsChangeIn, IsPlain};
 ghost use Rattle.long_programs.specs.Places.{IsSpread};
 ghost use Rattle.long_points.specs.Tests.{limit_test, price_test, not_below_by, not_above_by, at_by, counted_by};
 
+use crate::each::each_holds;
 use crate::prices::reduced_costs_hold;
 use crate::rows::equations_hold;
 use integers::Integer;
@@ -88,14 +89,9 @@ pub fn limits_hold(alloc: Global, at: &ProgramAt<'_>, point: &Spread) -> Result<
         IsTrue holds ↔ AllHold
         (within_limits (program_of at.now.lp.now at.now.change theta) (value_at values))) }
 {
-    let lp = at.lp;
-    for i in 0..lp.number_of_variables() {
-        let holds = limit_holds(alloc, at, point, i + 1)?;
-        if !holds {
-            return Ok(false);
-        }
-    }
-    Ok(true)
+    let variables = at.lp.number_of_variables();
+    let holds = each_holds(variables, |k| limit_holds(alloc, at, point, k))?;
+    Ok(holds)
 }
 
 /// Whether a point is feasible at theta.
@@ -188,14 +184,9 @@ pub fn prices_stand(
         (standing_prices (program_of at.now.lp.now at.now.change theta)
         (value_at values) (value_at costs))) }
 {
-    let lp = at.lp;
-    for i in 0..lp.number_of_variables() {
-        let holds = price_stands(alloc, at, point, prices, i + 1)?;
-        if !holds {
-            return Ok(false);
-        }
-    }
-    Ok(true)
+    let variables = at.lp.number_of_variables();
+    let holds = each_holds(variables, |k| price_stands(alloc, at, point, prices, k))?;
+    Ok(holds)
 }
 
 /// Whether a point and prices are best at theta.

@@ -9,6 +9,7 @@ ghost use Rattle.long_programs.specs.Programs.{program_of, IsPlain};
 ghost use Rattle.long_programs.specs.Places.{IsSpread};
 ghost use Rattle.long_points.specs.Tests.{cost_test};
 
+use crate::each::each_holds;
 use crate::rows::column_top;
 use exact_sums::Sum;
 use frac128::Frac;
@@ -68,11 +69,6 @@ pub fn reduced_costs_hold(
         (reduced_costs (program_of at.now.lp.now at.now.change theta) (value_at values))) }
 {
     let lp = at.lp;
-    for j in 0..lp.cols {
-        let holds = reduced_cost_holds(alloc, at, prices, j + 1)?;
-        if !holds {
-            return Ok(false);
-        }
-    }
-    Ok(true)
+    let holds = each_holds(lp.cols, |j| reduced_cost_holds(alloc, at, prices, j))?;
+    Ok(holds)
 }
