@@ -17,8 +17,8 @@ ghost use Rattle.checks_of_any_length.specs.Orders.{improves_past};
 
 use listing_claims::Pair;
 use listing_words::{Allowance, Number};
-use long_points::{both, counted, equations_hold, feasible, sign_of, take_spread, take_sums};
-use long_programs::{ChangeAt, ProgramAt, spread_by, top_of};
+use long_points::{both, counted_sign, equations_hold, feasible, take_spread, take_sums};
+use long_programs::{ChangeAt, ProgramAt, SpreadAt, spread_by};
 use long_rays::{direction_is_free, is_value_of, objective_order};
 use long_solutions::is_at_most;
 use long_vectors::{Column, Value, column_of, value_of};
@@ -68,7 +68,11 @@ fn point_holds(
 {
     let point = spread_by(alloc, theta, column, allowance)?;
     take_spread(allowance, at.lp, &point)?;
-    let holds = feasible(alloc, at, &point)?;
+    let at = SpreadAt {
+        program: *at,
+        spread: &point,
+    };
+    let holds = feasible(alloc, &at)?;
     Ok(holds)
 }
 
@@ -123,7 +127,7 @@ fn past_improves(
         change: ChangeAt::Row(row),
     };
     let order = objective_order(alloc, &at, direction, theta)?;
-    let slope = counted(lp.sense, sign_of(alloc, top_of(direction, row)));
+    let slope = counted_sign(alloc, lp, direction, row);
     let stays = is_at_most(order);
     let improves = slope.is_lt();
     Ok(both(stays, improves))

@@ -3,6 +3,7 @@
 #![tactic(auto)]
 
 mod each;
+mod ends;
 mod keeping;
 mod limits;
 mod prices;
@@ -11,8 +12,11 @@ mod slacks;
 mod work;
 
 pub use each::each_holds;
-pub use keeping::{End, all_prices_keep};
-pub use limits::{asked_by, both, counted, feasible, limits_hold, optimal, prices_stand, sign_of};
+pub use ends::{End, Ends};
+pub use keeping::all_prices_keep;
+pub use limits::{
+    asked_by, both, counted, counted_sign, feasible, limits_hold, optimal, prices_stand, sign_of,
+};
 pub use prices::{column_sum, reduced_costs_hold};
 pub use rows::{column_top, equations_hold};
 pub use slacks::slacks_hold;
