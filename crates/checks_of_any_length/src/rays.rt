@@ -29,21 +29,14 @@ use std::cmp::Ordering;
 fn is_negative(order: Option<Ordering>) -> bool
     ensures { result ≡ negative_by order }
 {
-    match order {
-        Some(Ordering::Less) => true,
-        _ => false,
-    }
+    matches!(order, Some(Ordering::Less))
 }
 
 // Whether a sum is there and isn't positive.
 fn is_at_most(order: Option<Ordering>) -> bool
     ensures { result ≡ at_most_by order }
 {
-    match order {
-        Some(Ordering::Less) => true,
-        Some(Ordering::Equal) => true,
-        _ => false,
-    }
+    matches!(order, Some(Ordering::Less | Ordering::Equal))
 }
 
 // Takes from the allowance what the sums of multipliers are, and their products with both numbers of theta.
