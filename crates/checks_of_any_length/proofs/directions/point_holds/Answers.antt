@@ -1,8 +1,8 @@
 use Rattle.std.proofs.Common.{◌∙◌}
 use Rattle.checks_of_any_length.proofs.directions.point_holds.Goals as goal
 
-pub feasible-requires-clause-places : goal.feasible-requires-clause-places
-feasible-requires-clause-places c =
+pub invariant_of-point-clause-places : goal.invariant_of-point-clause-places
+invariant_of-point-clause-places c =
     let point = c.requires.point in
     let number = c.requires.number in
     (c.in_ok-spread.ensures point.0 number.number number.is point.1).is_over.counted ∙ point.2

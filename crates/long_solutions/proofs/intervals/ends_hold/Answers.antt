@@ -17,6 +17,18 @@ optimal-requires-2-clause-places c =
     end_places c.requires.to.number lines.columns c.args.at.now.lp.now lines.counted c.in_ok-end.end
     (c.in_ok-end.ensures c.requires.to.number lines.columns c.requires.to.is lines.over)
 
+pub invariant_of-ends-clause-start_places : goal.invariant_of-ends-clause-start_places
+invariant_of-ends-clause-start_places c =
+    let lines = c.requires.lines in
+    end_places c.requires.from.number lines.columns c.args.at.now.lp.now lines.counted c.in_ok-start.start
+    (c.in_ok-start.ensures c.requires.from.number lines.columns c.requires.from.is lines.over)
+
+pub invariant_of-ends-clause-end_places : goal.invariant_of-ends-clause-end_places
+invariant_of-ends-clause-end_places c =
+    let lines = c.requires.lines in
+    end_places c.requires.to.number lines.columns c.args.at.now.lp.now lines.counted c.in_ok-end.end
+    (c.in_ok-end.ensures c.requires.to.number lines.columns c.requires.to.is lines.over)
+
 pub returns : goal.returns
 returns c = λ sheet changing first last columns family counted is also over.
     let begins = c.in_ok-begins.begins in
