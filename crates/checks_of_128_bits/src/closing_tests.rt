@@ -203,26 +203,33 @@ fn check_unbounded(
     }
 }
 
+// The value past which a run ends, and the ray that is to prove it.
+#[derive(Clone, Copy)]
+struct PastRay<'a> {
+    value: Frac,
+    ray: &'a [Frac],
+}
+
 // It ends past the last end, which is before the last value, and what comes after it is proved by a ray.
 fn check_past_infeasible(
     alloc: Global,
     run: &SheetRun<'_, '_>,
     last: Frac,
     shift: &[Frac],
-    value: Frac,
-    ray: &[Frac],
+    past: &PastRay<'_>,
 ) -> Result<(), Stop>
     requires asked { IsAskedOf run.now.sheet run.now.request.now }
     requires shifts { length shift.now ≡ run.now.sheet.lp.now.matrix.rows }
-    requires places { length ray.now ≡ size run.now.sheet.lp.now.matrix }
+    requires places { length past.now.ray.now ≡ size run.now.sheet.lp.now.matrix }
     ensures { Judges
-        (past_test run.now.request.now.to last value
+        (past_test run.now.request.now.to last past.now.value
         (infeasible_past checker_of_128_bits (sheet_of run.now) (changing_in run.now) shift.now
-        value (value_at ray.now))) result }
+        past.now.value (value_at past.now.ray.now))) result }
 {
+    let value = past.value;
     ask(is_equal(value, last))?;
     ask(value.is_less(run.request.to))?;
-    check_infeasible_past(alloc, run, shift, value, ray)
+    check_infeasible_past(alloc, run, shift, value, past.ray)
 }
 
 // A run of the right-hand side may close so.
@@ -240,7 +247,10 @@ fn check_infeasible(
 {
     match &run.request.change {
         Change::Row(_) => Err(Stop::Wrong),
-        Change::Set(shift) => check_past_infeasible(alloc, run, last, shift, value, ray),
+        Change::Set(shift) => {
+            let past = PastRay { value, ray };
+            check_past_infeasible(alloc, run, last, shift, &past)
+        }
     }
 }
 
