@@ -6,6 +6,7 @@ mod each;
 mod ends;
 mod keeping;
 mod limits;
+mod priced_at;
 mod prices;
 mod rows;
 mod slacks;
@@ -17,6 +18,7 @@ pub use keeping::all_prices_keep;
 pub use limits::{
     asked_by, both, counted, counted_sign, feasible, limits_hold, optimal, prices_stand, sign_of,
 };
+pub use priced_at::PricedAt;
 pub use prices::{column_sum, reduced_costs_hold};
 pub use rows::{column_top, equations_hold};
 pub use slacks::slacks_hold;

@@ -1,7 +1,7 @@
 // The limits of the variables, and the prices that stand at them.
 ghost use Rattle.std.specs.Prelude.{◌≡◌, ◌↔◌, ◌&&◌, ◌≤◌, List, IsTrue, IfOk, length};
 ghost use Rattle.exact_values.specs.Rational.{ℚ, whole, zero_ℚ, compare_ℚ};
-ghost use Rattle.lp_definitions.specs.LinearProgram.{IsVariable, size, value_at, for_min};
+ghost use Rattle.lp_definitions.specs.LinearProgram.{IsVariable, value_at, for_min};
 ghost use Rattle.check_definitions.specs.Steps.{AllHold};
 ghost use Rattle.check_definitions.specs.Checks.{by_sign, within_limits, feasible_point, standing_prices, optimal_steps};
 ghost use Rattle.long_vectors.specs.Vectors.{IsOver};
@@ -13,6 +13,7 @@ ghost use Rattle.long_points.specs.Ends.{Points, IsEnd};
 
 use crate::each::each_holds;
 use crate::ends::End;
+use crate::priced_at::PricedAt;
 use crate::prices::reduced_costs_hold;
 use crate::rows::equations_hold;
 use integers::Integer;
@@ -120,34 +121,24 @@ pub fn asked_by(sign: Ordering, negative: bool, positive: bool) -> bool
 }
 
 // Whether the price of variable `k` stands at the limit at theta that its sign asks for.
-fn price_stands(
-    alloc: Global,
-    point: &SpreadAt<'_>,
-    prices: &Column,
-    k: u32,
-) -> Result<bool, AllocError>
-    requires variable { IsVariable point.now.program.lp.now.matrix k }
-    requires price_places { length prices.now.tops.items ≡ size point.now.program.lp.now.matrix }
-    ensures { IfOk result (PassesPriced price_test point.now prices.now k) }
+fn price_stands(alloc: Global, priced: &PricedAt<'_>, k: u32) -> Result<bool, AllocError>
+    requires { IsVariable priced.now.point.program.lp.now.matrix k }
+    ensures { IfOk result (PassesPriced price_test priced.now k) }
 {
-    let sign = counted_sign(alloc, point.program.lp, prices, k);
-    let orders = compare_to_limits(alloc, point, k)?;
+    let point = priced.point;
+    let sign = counted_sign(alloc, point.program.lp, priced.prices, k);
+    let orders = compare_to_limits(alloc, &point, k)?;
     let at_upper = is_at(orders.upper);
     let at_lower = is_at(orders.lower);
     Ok(asked_by(sign, at_upper, at_lower))
 }
 
 /// Whether each price that is not 0 stands at the limit at theta that its sign asks for.
-pub fn prices_stand(
-    alloc: Global,
-    point: &SpreadAt<'_>,
-    prices: &Column,
-) -> Result<bool, AllocError>
-    requires { length prices.now.tops.items ≡ size point.now.program.lp.now.matrix }
-    ensures { IfOk result (TellsPriced standing_prices point.now prices.now) }
+pub fn prices_stand(alloc: Global, priced: &PricedAt<'_>) -> Result<bool, AllocError>
+    ensures { IfOk result (TellsPriced standing_prices priced.now) }
 {
-    let variables = point.program.lp.number_of_variables();
-    let holds = each_holds(variables, |k| price_stands(alloc, point, prices, k))?;
+    let variables = priced.point.program.lp.number_of_variables();
+    let holds = each_holds(variables, |k| price_stands(alloc, priced, k))?;
     Ok(holds)
 }
 
@@ -172,7 +163,11 @@ pub fn optimal(alloc: Global, program: &ProgramAt<'_>, end: &End) -> Result<bool
     };
     let is_feasible = feasible(alloc, &point)?;
     let are_reduced = reduced_costs_hold(alloc, &prices)?;
-    let stand = prices_stand(alloc, &point, &end.prices.column)?;
+    let priced = PricedAt {
+        point,
+        prices: &end.prices.column,
+    };
+    let stand = prices_stand(alloc, &priced)?;
     let are_prices = both(are_reduced, stand);
     Ok(both(is_feasible, are_prices))
 }

@@ -16,7 +16,8 @@ use listing_claims::Printed;
 use listing_definitions::Mark;
 use listing_words::{Allowance, Number};
 use long_points::{
-    both, equations_hold, limits_hold, prices_stand, reduced_costs_hold, slacks_hold, take_spread,
+    PricedAt, both, equations_hold, limits_hold, prices_stand, reduced_costs_hold, slacks_hold,
+    take_spread,
 };
 use long_programs::{Spread, SpreadAt, as_it_is, spread_own};
 use long_vectors::column_of;
@@ -52,7 +53,11 @@ fn best_holds(
                 spread: point,
             };
             let within = limits_hold(alloc, &at)?;
-            let stand = prices_stand(alloc, &at, &prices.column)?;
+            let priced = PricedAt {
+                point: at,
+                prices: &prices.column,
+            };
+            let stand = prices_stand(alloc, &priced)?;
             let feasible = both(keeps, within);
             let are_prices = both(priced, stand);
             Ok(both(feasible, are_prices))

@@ -11,8 +11,8 @@ use Rattle.long_points.proofs.limits.price_stands.Goals as goal
 
 pub returns : goal.returns
 returns c = λ values costs theta is over.
-    let p = c.args.point.now.program.lp.now in
-    let change = c.args.point.now.program.change in
+    let p = c.args.priced.now.point.program.lp.now in
+    let change = c.args.priced.now.point.program.change in
     let q = program_of p change theta in
     let x = value_at values c.args.k in
     let y = value_at costs c.args.k in
