@@ -57,6 +57,12 @@ module _ (f : ℕ → List Step) (test : ℕ → Bool) (reads : Reads f test) wh
     (λ h. sym failed ∙ (reads (i + 1)).1 (each_hold f 1 n (i + 1) h (omega arith) (omega (arith, below)))),
   )
 
+  pub told : (count n : ℕ) → count ≡ n → (holds : Bool) → IsTrue holds ↔ UpTo test count → IsTrue holds ↔ AllHold (flat_map f (numbers_from 1 n))
+  told count n same holds is = (
+    (λ e. all_hold 1 n (λ k low high. is.0 e k low (omega (arith, high, same)))),
+    (λ h. is.1 (λ k low high. (reads k).1 (each_hold f 1 n k h low (omega (arith, high, same))))),
+  )
+
 -- ---- one part after the other
 
 pub both_hold : (a b : Bool) (xs ys : List Step) → IsTrue a ↔ AllHold xs → IsTrue b ↔ AllHold ys → IsTrue (a && b) ↔ AllHold (xs ++ ys)

@@ -10,7 +10,9 @@
 --     rate_on row by i             a number stands on a row, and 0 on the others
 --     rates_on es i                the numbers of a column that stand on row i, added up
 --     UpTo test i                  the numbers from 1 to i pass
-use Rattle.std.specs.Prelude.{◌≡◌, ℕ, ◌+◌, ◌≤◌, Bool, true, false, ◌&&◌, nat_eq, if◌then◌else◌, List, [], ◌∷◌, Option, Some, None}
+--     AnswersUpTo Post test n      a function of these results answers of each number from 1 to n whether it passes
+use Rattle.std.specs.Prelude.{◌≡◌, ℕ, ◌+◌, ◌≤◌, Bool, true, false, ◌&&◌, nat_eq, if◌then◌else◌, List, [], ◌∷◌, Option, Some, None, Result, Ok}
+use Rattle.std.specs.declared.alloc.AllocError.{AllocError}
 use Rattle.std.specs.declared.cmp.Ordering.{Ordering}
 use Rattle.std.specs.declared.cmp.Ordering.TheVariants.{Less, Equal, Greater}
 use Rattle.exact_values.specs.Rational.{ℚ, zero_ℚ, ◌+ℚ◌, ◌-ℚ◌, compare_ℚ}
@@ -69,6 +71,9 @@ counted_by Max Greater = Less
 
 abbrev pub UpTo : (ℕ → Bool) → ℕ → Type 0
 UpTo test i = (k : ℕ) → 1 ≤ k → k ≤ i → test k ≡ true
+
+abbrev pub AnswersUpTo : (ℕ → Result Bool AllocError → Type 0) → (ℕ → Bool) → ℕ → Type 0
+AnswersUpTo Post test n = (k : ℕ) → (holds : Bool) → 1 ≤ k → k ≤ n → Post k (Ok holds) → holds ≡ test k
 
 abbrev pub rate_on : ℕ → ℚ → ℕ → ℚ
 rate_on row by i = if nat_eq row i then by else zero_ℚ

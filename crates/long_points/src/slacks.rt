@@ -11,6 +11,7 @@ ghost use Rattle.walk_definitions.specs.Tests.{slack_steps};
 ghost use Rattle.long_vectors.specs.Vectors.{IsValue, IsOver};
 ghost use Rattle.long_points.specs.Tests.{slack_test};
 
+use crate::each::each_holds;
 use exact_sums::Sum;
 use frac128::Frac;
 use integers::Integer;
@@ -102,11 +103,6 @@ pub fn slacks_hold(
         (flat_map (slack_steps (record { problem = problem; lp = lp.now }) (value_at values)
         (value_at slacks.now)) (row_numbers lp.now))) }
 {
-    for i in 0..lp.rows {
-        let holds = slack_holds(alloc, lp, point, slacks, i + 1)?;
-        if !holds {
-            return Ok(false);
-        }
-    }
-    Ok(true)
+    let holds = each_holds(lp.rows, |i| slack_holds(alloc, lp, point, slacks, i))?;
+    Ok(holds)
 }

@@ -8,7 +8,7 @@ ghost use Rattle.long_vectors.specs.Vectors.{IsOver};
 ghost use Rattle.long_rays.specs.Tests.{vanish_test};
 
 use frac128::Frac;
-use long_points::{column_sum, column_top};
+use long_points::{column_sum, column_top, each_holds};
 use long_vectors::Column;
 use lp_model::Lp;
 use std::alloc::{AllocError, Global};
@@ -33,11 +33,6 @@ pub fn ray_vanishes(alloc: Global, lp: &Lp, ray: &Column) -> Result<bool, AllocE
         (λ holds. (w : List ℚ) → IsOver w ray.now →
         IsTrue holds ↔ AllHold (ray_columns lp.now (value_at w))) }
 {
-    for i in 0..lp.cols {
-        let holds = vanishes_on(alloc, lp, ray, i + 1)?;
-        if !holds {
-            return Ok(false);
-        }
-    }
-    Ok(true)
+    let holds = each_holds(lp.cols, |j| vanishes_on(alloc, lp, ray, j))?;
+    Ok(holds)
 }

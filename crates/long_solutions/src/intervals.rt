@@ -4,11 +4,9 @@ ghost use Rattle.exact_values.specs.Rational.{ℚ};
 ghost use Rattle.exact_values.specs.Tests.{is_less, is_equal};
 ghost use Rattle.lp_definitions.specs.LinearProgram.{LinearProgram};
 ghost use Rattle.question_definitions.specs.Answers.{Sheet as Views, Changing};
-ghost use Rattle.parametric_request.specs.Asking.{changing_of};
 ghost use Rattle.walk_definitions.specs.Checkers.{checker_of_any_length};
-ghost use Rattle.listing_words.specs.Read.{sheet_view};
 ghost use Rattle.listing_claims.specs.declared.claims.Columns.{Columns as ColumnsView};
-ghost use Rattle.listing_claims.specs.Asked.{IsAskedOf};
+ghost use Rattle.listing_claims.specs.Asked.{IsAskedOf, sheet_of, changing_in};
 ghost use Rattle.listing_claims.specs.Intervals.{AreCounted, part_verdict};
 ghost use Rattle.long_vectors.specs.Vectors.{IsValue, IsOver, list_along};
 ghost use Rattle.long_programs.specs.Programs.{IsChangeIn, IsPlain};
@@ -18,23 +16,27 @@ ghost use Rattle.long_solutions.specs.Answers.{Answers};
 ghost use Rattle.long_solutions.specs.Lines.{AreOver, AreLinesOf, IsNumber, IsFamily, points_at, ends_verdict};
 
 use crate::values::{compare_values, compare_with_fraction, is_at_most};
-use listing_claims::{AskedRun, Columns, Part};
-use listing_tables::Sheet;
-use listing_words::{Allowance, Number};
-use long_points::{End, all_prices_keep, both, check_sums, optimal, take_spread};
+use listing_claims::{Columns, PlacedPart, SheetRun};
+use listing_words::Allowance;
+use long_points::{End, Ends, all_prices_keep, both, check_sums, optimal, take_spread};
 use long_programs::{ProgramAt, Spread, change_at, spread_by};
 use long_vectors::{Column, Value, along, column_of, value_of};
 use lp_model::Lp;
 use std::alloc::{AllocError, Global};
 use std::cmp::Ordering;
 
-/// The lines of an interval, each over one denominator.
+/// Numbers and their rates, each over one denominator.
+#[derive(Drop)]
+pub struct Line {
+    pub value: Column,
+    pub rate: Column,
+}
+
+/// The lines of an interval: the values and the prices of the variables.
 #[derive(Drop)]
 pub struct Lines {
-    pub value: Column,
-    pub value_rate: Column,
-    pub price: Column,
-    pub price_rate: Column,
+    pub values: Line,
+    pub prices: Line,
 }
 
 // The lines of an interval over denominators. Where the sums of the first would be too much work, the others aren't made.
@@ -48,31 +50,31 @@ fn lines_of(
 {
     let value = column_of(alloc, &columns.value, allowance)?;
     check_sums(allowance, lp, &value)?;
-    let value_rate = column_of(alloc, &columns.value_rate, allowance)?;
+    let rate = column_of(alloc, &columns.value_rate, allowance)?;
+    let values = Line { value, rate };
     let price = column_of(alloc, &columns.price, allowance)?;
     let price_rate = column_of(alloc, &columns.price_rate, allowance)?;
-    Ok(Lines {
-        value,
-        value_rate,
-        price,
-        price_rate,
-    })
+    let prices = Line {
+        value: price,
+        rate: price_rate,
+    };
+    Ok(Lines { values, prices })
 }
 
-// The numbers of two lines at theta.
+// The numbers of a line at theta.
 fn numbers_at(
     alloc: Global,
     theta: &Value,
-    value: &Column,
-    rate: &Column,
+    line: &Line,
     allowance: &mut Allowance,
 ) -> Result<Spread, AllocError>
-    requires { length value.now.tops.items ≡ length rate.now.tops.items }
+    requires { length line.now.value.tops.items ≡ length line.now.rate.tops.items }
     ensures { IfOk result
-        (λ made. (x : ℚ) (values rates : List ℚ) → IsValue x theta.now → IsOver values value.now →
-        IsOver rates rate.now → IsSpread (list_along x values rates) x made) }
+        (λ made. (x : ℚ) (values rates : List ℚ) → IsValue x theta.now →
+        IsOver values line.now.value → IsOver rates line.now.rate →
+        IsSpread (list_along x values rates) x made) }
 {
-    let column = along(alloc, theta, value, rate, allowance)?;
+    let column = along(alloc, theta, &line.value, &line.rate, allowance)?;
     let made = spread_by(alloc, theta, &column, allowance)?;
     Ok(made)
 }
@@ -89,42 +91,40 @@ fn end_at(
         (λ end. (x : ℚ) (columns : ColumnsView) → IsValue x theta.now → AreOver columns lines.now →
         IsEnd (points_at x columns) x end) }
 {
-    let point = numbers_at(alloc, theta, &lines.value, &lines.value_rate, allowance)?;
-    let prices = numbers_at(alloc, theta, &lines.price, &lines.price_rate, allowance)?;
+    let point = numbers_at(alloc, theta, &lines.values, allowance)?;
+    let prices = numbers_at(alloc, theta, &lines.prices, allowance)?;
     Ok(End { point, prices })
 }
 
-// Two lines at theta, which are let go.
+// A line at theta, which is let go.
 fn joined(
     alloc: Global,
     theta: &Value,
-    value: Column,
-    rate: Column,
+    line: Line,
     allowance: &mut Allowance,
 ) -> Result<Column, AllocError>
-    requires { length value.tops.items ≡ length rate.tops.items }
+    requires { length line.value.tops.items ≡ length line.rate.tops.items }
     ensures { IfOk result
-        (λ made. (x : ℚ) (values rates : List ℚ) → IsValue x theta.now → IsOver values value →
-        IsOver rates rate → IsOver (list_along x values rates) made) }
+        (λ made. (x : ℚ) (values rates : List ℚ) → IsValue x theta.now → IsOver values line.value →
+        IsOver rates line.rate → IsOver (list_along x values rates) made) }
 {
-    let made = along(alloc, theta, &value, &rate, allowance)?;
+    let made = along(alloc, theta, &line.value, &line.rate, allowance)?;
     Ok(made)
 }
 
-// The numbers of two lines at theta, where the lines are let go before the numbers are spread, so that less stands at once.
+// The numbers of a line at theta, where the line is let go before the numbers are spread, so that less stands at once.
 fn last_numbers(
     alloc: Global,
     theta: &Value,
-    value: Column,
-    rate: Column,
+    line: Line,
     allowance: &mut Allowance,
 ) -> Result<Spread, AllocError>
-    requires { length value.tops.items ≡ length rate.tops.items }
+    requires { length line.value.tops.items ≡ length line.rate.tops.items }
     ensures { IfOk result
-        (λ made. (x : ℚ) (values rates : List ℚ) → IsValue x theta.now → IsOver values value →
-        IsOver rates rate → IsSpread (list_along x values rates) x made) }
+        (λ made. (x : ℚ) (values rates : List ℚ) → IsValue x theta.now → IsOver values line.value →
+        IsOver rates line.rate → IsSpread (list_along x values rates) x made) }
 {
-    let column = joined(alloc, theta, value, rate, allowance)?;
+    let column = joined(alloc, theta, line, allowance)?;
     let made = spread_by(alloc, theta, &column, allowance)?;
     Ok(made)
 }
@@ -141,14 +141,8 @@ fn last_end(
         (λ end. (x : ℚ) (columns : ColumnsView) → IsValue x theta.now → AreOver columns lines →
         IsEnd (points_at x columns) x end) }
 {
-    let Lines {
-        value,
-        value_rate,
-        price,
-        price_rate,
-    } = lines;
-    let point = last_numbers(alloc, theta, value, value_rate, allowance)?;
-    let prices = last_numbers(alloc, theta, price, price_rate, allowance)?;
+    let point = last_numbers(alloc, theta, lines.values, allowance)?;
+    let prices = last_numbers(alloc, theta, lines.prices, allowance)?;
     Ok(End { point, prices })
 }
 
@@ -180,11 +174,16 @@ fn ends_hold(
 {
     let start = end_at(alloc, from, &lines, allowance)?;
     take_end(allowance, at.lp, &start)?;
-    let begins = optimal(alloc, at, &start.point, &start.prices)?;
+    let begins = optimal(alloc, at, &start)?;
     let end = last_end(alloc, to, lines, allowance)?;
     take_end(allowance, at.lp, &end)?;
-    let closes = optimal(alloc, at, &end.point, &end.prices)?;
-    let keeps = all_prices_keep(alloc, at, &start, &end)?;
+    let closes = optimal(alloc, at, &end)?;
+    let ends = Ends {
+        program: *at,
+        start: &start,
+        end: &end,
+    };
+    let keeps = all_prices_keep(alloc, &ends)?;
     let rest = both(closes, keeps);
     Ok(both(begins, rest))
 }
@@ -196,34 +195,33 @@ fn goes_on(order: Ordering, is_first: bool) -> bool
     order.is_lt() || (is_first && order.is_eq())
 }
 
-/// Whether an interval of a parametric run passes that begins at a value.
+/// Whether an interval of a parametric run passes.
 pub fn interval_holds(
     alloc: Global,
-    sheet: Sheet<'_>,
-    request: &AskedRun<'_>,
-    is_first: bool,
-    from: &Number<'_>,
-    part: &Part<'_>,
+    run: &SheetRun<'_, '_>,
+    placed: &PlacedPart<'_, '_>,
     allowance: &mut Allowance,
 ) -> Result<bool, AllocError>
-    requires asked { IsAskedOf sheet request.now }
-    requires counted { AreCounted sheet.lp.now part.now.columns }
+    requires asked { IsAskedOf run.now.sheet run.now.request.now }
+    requires counted { AreCounted run.now.sheet.lp.now placed.now.part.now.columns }
     ensures { IfOk result
         (λ holds. Answers holds
-        (part_verdict checker_of_any_length (sheet_view sheet.entry)
-        (changing_of request.now.name request.now.change)
-        from.now part.now.to part.now.columns is_first request.now.to)) }
+        (part_verdict checker_of_any_length (sheet_of run.now) (changing_in run.now)
+        placed.now.from.now placed.now.part.now.to placed.now.part.now.columns
+        placed.now.is_first run.now.request.now.to)) }
 {
+    let lp = run.sheet.lp;
     let at = ProgramAt {
-        lp: sheet.lp,
-        change: change_at(&request.change),
+        lp,
+        change: change_at(&run.request.change),
     };
-    let first = value_of(alloc, from)?;
+    let part = placed.part;
+    let first = value_of(alloc, placed.from)?;
     let last = value_of(alloc, &part.to)?;
-    let lines = lines_of(alloc, sheet.lp, &part.columns, allowance)?;
+    let lines = lines_of(alloc, lp, &part.columns, allowance)?;
     let order = compare_values(alloc, &first, &last)?;
-    let most = compare_with_fraction(alloc, &last, request.to)?;
-    let goes = goes_on(order, is_first);
+    let most = compare_with_fraction(alloc, &last, run.request.to)?;
+    let goes = goes_on(order, placed.is_first);
     let within = is_at_most(most);
     let ends = ends_hold(alloc, &at, &first, &last, lines, allowance)?;
     let rest = both(within, ends);

@@ -1,36 +1,19 @@
-use Rattle.std.proofs.Common.{◌≡◌, ◌∙◌, sym, ap, true, false, arith, rules}
+use Rattle.std.proofs.Common.{◌∙◌, sym, ap, rules}
 use Rattle.lp_definitions.specs.LinearProgram.{value_at, size}
 use Rattle.check_definitions.specs.Checks.{standing_price}
 use Rattle.long_programs.specs.Programs.{program_of}
 use Rattle.long_programs.proofs.Moves.{matrix_at}
 use Rattle.long_points.specs.Tests.{price_test}
-use Rattle.long_points.proofs.Holds.{all_passed, one_failed, one_more}
+use Rattle.long_points.proofs.Holds.{told}
 use Rattle.long_points.proofs.AtTheta.{reads_price}
 use Rattle.long_points.proofs.limits.prices_stand.Goals as goal
 
-pub returns-then-not-holds : goal.returns-then-not-holds
-returns-then-not-holds c = λ values costs theta is over.
-    let p = c.args.at.now.lp.now in
-    let q = program_of p c.args.at.now.change theta in
-    let same : size q.matrix ≡ size p.matrix = ap size (matrix_at p c.args.at.now.change theta) in
-    let failed : c.in_ok-holds.holds ≡ false = search rules in
-    one_failed (standing_price q (value_at values) (value_at costs)) (price_test q (value_at values) (value_at costs))
-    (reads_price q (value_at values) (value_at costs)) (size q.matrix) c.loop-i.i
-    (omega (arith, same, c.number_of_variables-i-end.ensures.size, c.loop-i-test.true))
-    (sym (c.in_ok-holds.ensures values costs theta is over) ∙ failed)
-
-pub loop-i-preserved : goal.loop-i-preserved
-loop-i-preserved c = λ values costs theta is over.
-    let q = program_of c.args.at.now.lp.now c.args.at.now.change theta in
-    let passed : c.in_ok-holds.holds ≡ true = search rules in
-    one_more (price_test q (value_at values) (value_at costs)) c.loop-i.i (c.loop-i.invariant values costs theta is over)
-    (sym (c.in_ok-holds.ensures values costs theta is over) ∙ passed)
-
 pub returns : goal.returns
 returns c = λ values costs theta is over.
-    let p = c.args.at.now.lp.now in
-    let q = program_of p c.args.at.now.change theta in
-    let same : size q.matrix ≡ size p.matrix = ap size (matrix_at p c.args.at.now.change theta) in
-    all_passed (standing_price q (value_at values) (value_at costs)) (price_test q (value_at values) (value_at costs))
-    (reads_price q (value_at values) (value_at costs)) (size q.matrix) c.loop-i.i
-    (omega (arith, same, c.number_of_variables-i-end.ensures.size, c.loop-i-test.false)) (c.loop-i.invariant values costs theta is over)
+    let p = c.args.priced.now.point.program.lp.now in
+    let q = program_of p c.args.priced.now.point.program.change theta in
+    let z = value_at values in
+    let y = value_at costs in
+    told (standing_price q z y) (price_test q z y) (reads_price q z y) c.number_of_variables-variables.result (size q.matrix)
+    (c.number_of_variables-variables.ensures.size ∙ sym (ap size (matrix_at p c.args.priced.now.point.program.change theta))) c.in_ok-holds.holds
+    (c.in_ok-holds.ensures (price_test q z y) (λ k holds first last met. search rules))
