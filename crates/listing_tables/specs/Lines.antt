@@ -55,17 +55,19 @@ multiplier_values ray k = Number (value_at ray k) ∷ []
 abbrev pub ray_lines : Problem ℕ → LinearProgram → List ℚ → List Line
 ray_lines problem p ray = lines_of problem (multiplier_values ray) (filter (λ k. not (eq_ℚ (value_at ray k) zero_ℚ)) (variables p.matrix))
 
--- Where a row stands, its activity, its slack, its limits and its multiplier.
-abbrev pub row_values : LinearProgram → List Status → List ℚ → List ℚ → List ℚ → ℕ → List Value
-row_values p s point slack prices k =
-    Code (at_of p s (value_at point) k) ∷ Number (value_at point k) ∷ Number (value_at slack k) ∷
+-- Where a variable stands, its activity, a third value, its limits, and its multiplier or reduced cost.
+abbrev pub standing_values : LinearProgram → List Status → List ℚ → List ℚ → ℚ → ℕ → List Value
+standing_values p s point prices third k =
+    Code (at_of p s (value_at point) k) ∷ Number (value_at point k) ∷ Number third ∷
     limit_value (lower_of p k) ∷ limit_value (upper_of p k) ∷ Number (value_at prices k) ∷ []
 
--- Where a column stands, its activity, its cost, its limits and its reduced cost.
+-- the third value of a row is its slack
+abbrev pub row_values : LinearProgram → List Status → List ℚ → List ℚ → List ℚ → ℕ → List Value
+row_values p s point slack prices k = standing_values p s point prices (value_at slack k) k
+
+-- the third value of a column is its cost
 abbrev pub column_values : LinearProgram → List Status → List ℚ → List ℚ → ℕ → List Value
-column_values p s point prices k =
-    Code (at_of p s (value_at point) k) ∷ Number (value_at point k) ∷ Number (cost p (k - p.rows)) ∷
-    limit_value (lower_of p k) ∷ limit_value (upper_of p k) ∷ Number (value_at prices k) ∷ []
+column_values p s point prices k = standing_values p s point prices (cost p (k - p.rows)) k
 
 -- a line for each row, and one for each column
 abbrev pub solution_lines : Problem ℕ → LinearProgram → List Status → List ℚ → List ℚ → List ℚ → SolutionLines

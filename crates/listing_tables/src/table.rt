@@ -1,10 +1,11 @@
 // The tables that are printed of a linear program.
-ghost use Rattle.std.specs.Prelude.{◌≡◌, ◌<◌, ◌≤◌, ◌+◌, ◌-◌, ℕ, length, map};
+ghost use Rattle.std.specs.Prelude.{◌≡◌, ◌<◌, ◌≤◌, ◌+◌, ◌-◌, ℕ, None, length, map};
 ghost use Rattle.std.specs.List.{flat_map};
 ghost use Rattle.job_devices.specs.Text.{Writes};
-ghost use Rattle.lp_definitions.specs.LinearProgram.{numbers_from};
-ghost use Rattle.listing_tables.specs.Lines.{multiplier_values, pair_values};
-ghost use Rattle.listing_tables.specs.Tables.{HasLine, is_printed, line_values, line_view};
+ghost use Rattle.lp_definitions.specs.LinearProgram.{IsVariable, numbers_from};
+ghost use Rattle.listing_tables.specs.Intervals.{ends_at};
+ghost use Rattle.listing_tables.specs.Lines.{multiplier_values, pair_values, standing_values, ranged_values, cost_values};
+ghost use Rattle.listing_tables.specs.Tables.{IsStanding, IsRanging, HasLine, is_printed, line_values, line_view};
 ghost use Rattle.listing_tables.specs.Values.{value_view};
 
 use crate::intervals::{high_end, interval_of, low_end};
@@ -12,7 +13,7 @@ use crate::line::{Value, put_line};
 use crate::sheet::{Sheet, at_in_part, at_of, is_at_limit, is_between, name_of};
 use frac128::Frac;
 use job_devices::{Sink, WriteStop, put_all};
-use lp_model::{Basis, ParaPart, Point, Prices, RangeReport};
+use lp_model::{Basis, Intervals, ParaPart, Point, Prices, RangeReport};
 
 /// A basis with its point and its prices, and the slacks of its rows.
 #[derive(Clone, Copy, Debug)]
@@ -74,10 +75,12 @@ fn pair_values(first: &[Frac], second: &[Frac], k: u32) -> [Value; 2]
     [Value::Number(first[place]), Value::Number(second[place])]
 }
 
-// The values on the line of a row.
-fn row_values(sheet: Sheet<'_>, standing: Standing<'_>, k: u32) -> [Value; 6]
-    requires { HasLine sheet (Table.Rows standing) k }
-    ensures { map value_view result ≡ line_values sheet.entry (Table.Rows standing.entry) k }
+// The values on the line of a variable in SOLUTION, with this one at the third place.
+fn standing_values(sheet: Sheet<'_>, standing: Standing<'_>, third: Frac, k: u32) -> [Value; 6]
+    requires listed { IsStanding sheet standing }
+    requires variable { IsVariable sheet.lp.now.matrix k }
+    ensures { map value_view result ≡ standing_values sheet.entry.lp.now standing.entry.basis.now
+        standing.entry.point.now standing.entry.prices.now third k }
 {
     let place = k as usize - 1;
     let point = standing.point.values();
@@ -85,11 +88,19 @@ fn row_values(sheet: Sheet<'_>, standing: Standing<'_>, k: u32) -> [Value; 6]
     [
         Value::Code(at_of(sheet.lp, standing.basis, point, k)),
         Value::Number(point[place]),
-        Value::Number(standing.slack[place]),
+        Value::Number(third),
         Value::limit(sheet.lp.lower_limit(k)),
         Value::limit(sheet.lp.upper_limit(k)),
         Value::Number(prices[place]),
     ]
+}
+
+// The values on the line of a row.
+fn row_values(sheet: Sheet<'_>, standing: Standing<'_>, k: u32) -> [Value; 6]
+    requires { HasLine sheet (Table.Rows standing) k }
+    ensures { map value_view result ≡ line_values sheet.entry (Table.Rows standing.entry) k }
+{
+    standing_values(sheet, standing, standing.slack[k as usize - 1], k)
 }
 
 // The values on the line of a column.
@@ -97,32 +108,41 @@ fn column_values(sheet: Sheet<'_>, standing: Standing<'_>, k: u32) -> [Value; 6]
     requires { HasLine sheet (Table.Columns standing) k }
     ensures { map value_view result ≡ line_values sheet.entry (Table.Columns standing.entry) k }
 {
-    let place = k as usize - 1;
     let lp = sheet.lp;
-    let point = standing.point.values();
-    let prices = standing.prices.values();
-    [
-        Value::Code(at_of(lp, standing.basis, point, k)),
-        Value::Number(point[place]),
-        Value::Number(lp.cost(k - lp.rows)),
-        Value::limit(lp.lower_limit(k)),
-        Value::limit(lp.upper_limit(k)),
-        Value::Number(prices[place]),
-    ]
+    standing_values(sheet, standing, lp.cost(k - lp.rows), k)
 }
 
-// The values on the line of a nonbasic row.
-fn limit_row_values(sheet: Sheet<'_>, ranging: Ranging<'_>, k: u32) -> [Value; 4]
-    requires { HasLine sheet (Table.LimitRows ranging) k }
-    ensures { map value_view result ≡ line_values sheet.entry (Table.LimitRows ranging.entry) k }
+// Where a variable stands, its activity, and the ends of its interval among these.
+fn interval_values(sheet: Sheet<'_>, ranging: Ranging<'_>, among: &Intervals, k: u32) -> [Value; 4]
+    requires listed { IsRanging sheet ranging }
+    requires variable { IsVariable sheet.lp.now.matrix k }
+    ensures { map value_view result ≡ ranged_values sheet.entry.lp.now ranging.entry.basis.now
+        ranging.entry.point.now ranging.entry.report.now (ends_at among.now) k }
 {
     let point = ranging.point.values();
-    let limit = interval_of(&ranging.report.limits, k);
+    let interval = interval_of(among, k);
     [
         Value::Code(at_of(sheet.lp, ranging.basis, point, k)),
         Value::Number(point[k as usize - 1]),
-        low_end(&limit),
-        high_end(&limit),
+        low_end(&interval),
+        high_end(&interval),
+    ]
+}
+
+// The cost of a column, and the ends of its interval.
+fn cost_values(sheet: Sheet<'_>, ranging: Ranging<'_>, k: u32) -> [Value; 3]
+    requires no_change { sheet.lp.now.change ≡ None }
+    requires variable { IsVariable sheet.lp.now.matrix k }
+    requires column { sheet.lp.now.matrix.rows < k }
+    ensures { map value_view result ≡ cost_values sheet.entry.lp.now ranging.entry.basis.now
+        ranging.entry.point.now ranging.entry.report.now k }
+{
+    let lp = sheet.lp;
+    let costs = interval_of(&ranging.report.costs, k);
+    [
+        Value::Number(lp.cost(k - lp.rows)),
+        low_end(&costs),
+        high_end(&costs),
     ]
 }
 
@@ -132,35 +152,9 @@ fn limit_column_values(sheet: Sheet<'_>, ranging: Ranging<'_>, k: u32) -> [Value
     ensures { map value_view result ≡ line_values sheet.entry
         (Table.LimitColumns ranging.entry) k }
 {
-    let point = ranging.point.values();
-    let lp = sheet.lp;
-    let limit = interval_of(&ranging.report.limits, k);
-    let costs = interval_of(&ranging.report.costs, k);
-    [
-        Value::Code(at_of(lp, ranging.basis, point, k)),
-        Value::Number(point[k as usize - 1]),
-        low_end(&limit),
-        high_end(&limit),
-        Value::Number(lp.cost(k - lp.rows)),
-        low_end(&costs),
-        high_end(&costs),
-    ]
-}
-
-// The values on the line of a basic row but the objective.
-fn between_row_values(sheet: Sheet<'_>, ranging: Ranging<'_>, k: u32) -> [Value; 4]
-    requires { HasLine sheet (Table.BetweenRows ranging) k }
-    ensures { map value_view result ≡ line_values sheet.entry
-        (Table.BetweenRows ranging.entry) k }
-{
-    let point = ranging.point.values();
-    let multiple = interval_of(&ranging.report.rows, k);
-    [
-        Value::Code(at_of(sheet.lp, ranging.basis, point, k)),
-        Value::Number(point[k as usize - 1]),
-        low_end(&multiple),
-        high_end(&multiple),
-    ]
+    let [at, activity, low, high] = interval_values(sheet, ranging, &ranging.report.limits, k);
+    let [cost, cost_low, cost_high] = cost_values(sheet, ranging, k);
+    [at, activity, low, high, cost, cost_low, cost_high]
 }
 
 // The values on the line of a basic column.
@@ -170,14 +164,14 @@ fn between_column_values(sheet: Sheet<'_>, ranging: Ranging<'_>, k: u32) -> [Val
         (Table.BetweenColumns ranging.entry) k }
 {
     let point = ranging.point.values();
-    let lp = sheet.lp;
-    let costs = interval_of(&ranging.report.costs, k);
+    let at = at_of(sheet.lp, ranging.basis, point, k);
+    let [cost, low, high] = cost_values(sheet, ranging, k);
     [
-        Value::Code(at_of(lp, ranging.basis, point, k)),
+        Value::Code(at),
         Value::Number(point[k as usize - 1]),
-        Value::Number(lp.cost(k - lp.rows)),
-        low_end(&costs),
-        high_end(&costs),
+        cost,
+        low,
+        high,
     ]
 }
 
@@ -235,9 +229,19 @@ fn put_table_line<P: Sink>(
         Table::Pairs(first, second) => put_line(print, k, name, &pair_values(first, second, k)),
         Table::Rows(standing) => put_line(print, k, name, &row_values(sheet, standing, k)),
         Table::Columns(standing) => put_line(print, k, name, &column_values(sheet, standing, k)),
-        Table::LimitRows(at) => put_line(print, k, name, &limit_row_values(sheet, at, k)),
+        Table::LimitRows(at) => put_line(
+            print,
+            k,
+            name,
+            &interval_values(sheet, at, &at.report.limits, k),
+        ),
         Table::LimitColumns(at) => put_line(print, k, name, &limit_column_values(sheet, at, k)),
-        Table::BetweenRows(at) => put_line(print, k, name, &between_row_values(sheet, at, k)),
+        Table::BetweenRows(at) => put_line(
+            print,
+            k,
+            name,
+            &interval_values(sheet, at, &at.report.rows, k),
+        ),
         Table::BetweenColumns(at) => put_line(print, k, name, &between_column_values(sheet, at, k)),
         Table::Parts(part) => put_line(print, k, name, &part_values(sheet, part, k)),
     }
