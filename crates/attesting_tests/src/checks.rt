@@ -1,6 +1,6 @@
 // Listings as they are, and changed.
 use crate::jobs::JOBS;
-use crate::listings::{answer_to, first_wrong};
+use crate::listings::{finds, first_wrong};
 use crate::parametric_runs::{
     INFEASIBLE_PAST, LAMPS, MILK, RHS_INTERVALS, RHS_POINT, TWO_INTERVALS, UNBOUNDED_OPENING,
 };
@@ -76,8 +76,11 @@ fn refused_operations_are_reported(rt: HostRuntime) -> Result<(), Fail> {
 fn jobs_decide_what_is_due(rt: HostRuntime) -> Result<(), Fail> {
     for row in &JOBS {
         let listing = row.listing.concat(rt.alloc())?;
-        let answer = answer_to::<Of128Bits>(rt.alloc(), row.job, &listing)?;
-        assert!(rt; answer.is(row.status, row.line), "{}", row.name);
+        assert!(rt;
+            finds::<Of128Bits>(rt.alloc(), row.job, &listing, row.found)?,
+            "{}",
+            row.name
+        );
     }
     Ok(())
 }

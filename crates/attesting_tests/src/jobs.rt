@@ -1,4 +1,5 @@
 // Jobs with one listing each.
+use crate::listings::Finding;
 use crate::store::{STORE_FROM_EXIT, STORE_SOLUTION, STORE_TO_PRIMAL, STORE_VERDICT};
 use test_decks::problems;
 use test_decks::programs::{SOLVE, SOLVE_MAX};
@@ -10,8 +11,7 @@ pub struct Row {
     pub job: &'static [&'static [u8]],
     /// The parts of the listing, one after another.
     pub listing: &'static [&'static [u8]],
-    pub status: u8,
-    pub line: &'static [u8],
+    pub found: Finding,
 }
 
 // The listing of the chairs before the line of HOURS.
@@ -41,15 +41,13 @@ pub const JOBS: [Row; 17] = [
         name: "store without SOLUTION",
         job: &[STORE_TO_PRIMAL, STORE_FROM_EXIT, problems::STORE],
         listing: &[STORE_VERDICT, b"END 0\n"],
-        status: 41,
-        line: b"OPEN LINE 4\n",
+        found: Finding::Open(4),
     },
     Row {
         name: "store without SOLUTION and with another end",
         job: &[STORE_TO_PRIMAL, STORE_FROM_EXIT, problems::STORE],
         listing: &[STORE_VERDICT, b"END 1\n"],
-        status: 41,
-        line: b"OPEN LINE 4\n",
+        found: Finding::Open(4),
     },
     Row {
         name: "a cell is moved before SOLUTION",
@@ -60,8 +58,7 @@ pub const JOBS: [Row; 17] = [
             problems::STORE,
         ],
         listing: &[STORE_VERDICT, b"STOP 10 VERB FAULT 4 CARD 10\n"],
-        status: 41,
-        line: b"OPEN LINE 4\n",
+        found: Finding::Open(4),
     },
     Row {
         name: "a second PRIMAL",
@@ -77,8 +74,7 @@ pub const JOBS: [Row; 17] = [
             STORE_SOLUTION,
             b"END 0\n",
         ],
-        status: 41,
-        line: b"OPEN LINE 4\n",
+        found: Finding::Open(4),
     },
     Row {
         name: "a title before SOLUTION",
@@ -89,8 +85,7 @@ pub const JOBS: [Row; 17] = [
             problems::STORE,
         ],
         listing: &[STORE_VERDICT, b"TITLE SHOWN\n", STORE_SOLUTION, b"END 0\n"],
-        status: 0,
-        line: b"ATTESTED 6 REPORTS\n",
+        found: Finding::Attested(6),
     },
     Row {
         name: "no memory at a title before SOLUTION",
@@ -101,8 +96,7 @@ pub const JOBS: [Row; 17] = [
             problems::STORE,
         ],
         listing: &[STORE_VERDICT, b"STOP 28 MEMORY\n"],
-        status: 41,
-        line: b"OPEN LINE 5\n",
+        found: Finding::Open(5),
     },
     Row {
         name: "ranges",
@@ -133,8 +127,7 @@ SECTION 4 - COLUMNS AT INTERMEDIATE LEVEL
 END 0
 ",
         ],
-        status: 41,
-        line: b"OPEN LINE 4\n",
+        found: Finding::Open(4),
     },
     Row {
         name: "a limit of steps",
@@ -157,43 +150,37 @@ SETUP   TESTPROB MIN
 STOP 16 ITERATION LIMIT 2 CARD 5
 ",
         ],
-        status: 41,
-        line: b"OPEN LINE 3\n",
+        found: Finding::Open(3),
     },
     Row {
         name: "an empty job",
         job: &[],
         listing: &[b"STOP 8 CONTROL FAULT 1 CARD 0\n"],
-        status: 0,
-        line: b"ATTESTED 0 REPORTS\n",
+        found: Finding::Attested(0),
     },
     Row {
         name: "another card",
         job: &[],
         listing: &[b"STOP 8 CONTROL FAULT 1 CARD 1\n"],
-        status: 40,
-        line: b"WRONG LINE 1\n",
+        found: Finding::Wrong(1),
     },
     Row {
         name: "a line behind",
         job: &[],
         listing: &[b"STOP 8 CONTROL FAULT 1 CARD 0\nEND 0\n"],
-        status: 40,
-        line: b"WRONG LINE 2\n",
+        found: Finding::Wrong(2),
     },
     Row {
         name: "a tab",
         job: &[b"\tPROGRAM\n"],
         listing: &[b"STOP 13 CARD FAULT 4 CARD 1\n"],
-        status: 0,
-        line: b"ATTESTED 0 REPORTS\n",
+        found: Finding::Attested(0),
     },
     Row {
         name: "a title like an end",
         job: &[b"         PROGRAM\n         TITLE('END 0')\n         EXIT\n         PEND\n"],
         listing: &[b"TITLE END 0\nEND 0\n"],
-        status: 0,
-        line: b"ATTESTED 1 REPORTS\n",
+        found: Finding::Attested(1),
     },
     Row {
         name: "a plan over combinations",
@@ -203,8 +190,7 @@ STOP 16 ITERATION LIMIT 2 CARD 5
             b"    4 HOURS    UL 100 0 NONE 100 10\n",
             CHAIRS_BEHIND_HOURS,
         ],
-        status: 0,
-        line: b"ATTESTED 4 REPORTS\n",
+        found: Finding::Attested(4),
     },
     Row {
         name: "another activity of a combination",
@@ -214,8 +200,7 @@ STOP 16 ITERATION LIMIT 2 CARD 5
             b"    4 HOURS    UL 99 1 NONE 100 10\n",
             CHAIRS_BEHIND_HOURS,
         ],
-        status: 40,
-        line: b"WRONG LINE 4\n",
+        found: Finding::Wrong(4),
     },
     Row {
         name: "a product of a combination is refused",
@@ -227,8 +212,7 @@ BASIS NONE
 WAY NONE
 ",
         ],
-        status: 41,
-        line: b"OPEN LINE 2\n",
+        found: Finding::Open(2),
     },
     Row {
         name: "a plan over numbers that can't be made",
@@ -239,7 +223,6 @@ SETUP   T        MIN
 PRIMAL OPTIMAL STEPS 0 OBJECTIVE 0 CHECKED
 ",
         ],
-        status: 42,
-        line: b"UNCHECKED LINE 2\n",
+        found: Finding::Unchecked(2),
     },
 ];

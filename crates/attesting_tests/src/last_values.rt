@@ -1,5 +1,6 @@
 // Jobs whose parametric run ends at a value that no cell holds, with one listing each.
 use crate::jobs::Row;
+use crate::listings::Finding;
 use test_decks::problems;
 
 // The control program down to the first run.
@@ -68,15 +69,13 @@ pub const LAST_VALUES: [Row; 5] = [
             problems::FAR_CHANGE,
         ],
         listing: &[SELECTED, FIRST_RUN_SHOWN, b"END 0\n"],
-        status: 0,
-        line: b"ATTESTED 3 REPORTS\n",
+        found: Finding::Attested(3),
     },
     Row {
         name: "no EXIT",
         job: &[FIRST_RUN, b"         PEND\n", problems::FAR_CHANGE],
         listing: &[SELECTED, FIRST_RUN_SHOWN, b"END 0\n"],
-        status: 0,
-        line: b"ATTESTED 3 REPORTS\n",
+        found: Finding::Attested(3),
     },
     Row {
         name: "an earlier value",
@@ -95,8 +94,7 @@ INTERVAL 1 FROM 0 TO 1/99999999000000000000000000000000000000000000
             DIRECTION,
             b"END 0\n",
         ],
-        status: 40,
-        line: b"WRONG LINE 3\n",
+        found: Finding::Wrong(3),
     },
     Row {
         name: "other statements",
@@ -132,8 +130,7 @@ BCDOUT  T        CARDS 8
 END 0
 ",
         ],
-        status: 0,
-        line: b"ATTESTED 8 REPORTS\n",
+        found: Finding::Attested(8),
     },
     Row {
         name: "a wrong solution behind it",
@@ -161,8 +158,7 @@ NUMBER COLUMN AT ACTIVITY COST LOWER UPPER REDUCED
 END 0
 ",
         ],
-        status: 40,
-        line: b"WRONG LINE 13\n",
+        found: Finding::Wrong(13),
     },
 ];
 
@@ -180,8 +176,7 @@ pub const FURTHER_RUNS: [Row; 9] = [
             problems::FAR_CHANGE,
         ],
         listing: &[SELECTED, FIRST_RUN_SHOWN, FIRST_RUN_SHOWN, b"END 0\n"],
-        status: 0,
-        line: b"ATTESTED 4 REPORTS\n",
+        found: Finding::Attested(4),
     },
     Row {
         name: "INITIALZ",
@@ -197,8 +192,7 @@ pub const FURTHER_RUNS: [Row; 9] = [
             problems::FAR_CHANGE,
         ],
         listing: &[SELECTED, FIRST_RUN_SHOWN, FIRST_RUN_SHOWN, b"END 0\n"],
-        status: 0,
-        line: b"ATTESTED 4 REPORTS\n",
+        found: Finding::Attested(4),
     },
     Row {
         name: "another run from there",
@@ -218,8 +212,7 @@ INTERVAL 1 FROM 1/99999999000000000000000000000000000000000000 TO 1/999999990000
             DIRECTION,
             b"END 0\n",
         ],
-        status: 0,
-        line: b"ATTESTED 4 REPORTS\n",
+        found: Finding::Attested(4),
     },
     Row {
         name: "another run that says it begins at 0",
@@ -239,8 +232,7 @@ INTERVAL 1 FROM 1/99999999000000000000000000000000000000000000 TO 1/999999990000
             DIRECTION,
             b"END 0\n",
         ],
-        status: 40,
-        line: b"WRONG LINE 12\n",
+        found: Finding::Wrong(12),
     },
     Row {
         name: "another run, past its last value",
@@ -254,8 +246,7 @@ INTERVAL 1 FROM 1/99999999000000000000000000000000000000000000 TO 1/999999990000
             problems::FAR_CHANGE,
         ],
         listing: &[SELECTED, FIRST_RUN_SHOWN, b"STOP 10 VERB FAULT 9 CARD 8\n"],
-        status: 0,
-        line: b"ATTESTED 3 REPORTS\n",
+        found: Finding::Attested(3),
     },
     Row {
         name: "another run that is unbounded there",
@@ -269,8 +260,7 @@ INTERVAL 1 FROM 1/99999999000000000000000000000000000000000000 TO 1/999999990000
             problems::TWO_CHANGES,
         ],
         listing: &[UNBOUNDED_ALONG_OTH, b"    4 X        0 1\nEND 2\n"],
-        status: 0,
-        line: b"ATTESTED 4 REPORTS\n",
+        found: Finding::Attested(4),
     },
     Row {
         name: "another run that is unbounded there, along another direction",
@@ -284,8 +274,7 @@ INTERVAL 1 FROM 1/99999999000000000000000000000000000000000000 TO 1/999999990000
             problems::TWO_CHANGES,
         ],
         listing: &[UNBOUNDED_ALONG_OTH, b"    4 X        0 -1\nEND 2\n"],
-        status: 40,
-        line: b"WRONG LINE 14\n",
+        found: Finding::Wrong(14),
     },
     Row {
         name: "another run of the right-hand side",
@@ -334,8 +323,7 @@ PARARHS INFEASIBLE PAST 1/99999999000000000000000000000000000000000000
 END 0
 ",
         ],
-        status: 0,
-        line: b"ATTESTED 4 REPORTS\n",
+        found: Finding::Attested(4),
     },
     Row {
         name: "another run that is infeasible there",
@@ -381,7 +369,6 @@ PARARHS INFEASIBLE STEPS 0 RAY CHECKED
 END 1
 ",
         ],
-        status: 0,
-        line: b"ATTESTED 4 REPORTS\n",
+        found: Finding::Attested(4),
     },
 ];

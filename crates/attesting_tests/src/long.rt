@@ -1,7 +1,7 @@
 // What the checker of any length finds.
 use crate::jobs::Row;
 use crate::last_values::{FURTHER_RUNS, LAST_VALUES};
-use crate::listings::{Edit, Listing, answer_to, edited, first_wrong};
+use crate::listings::{Edit, Finding, Listing, edited, finds, first_wrong};
 use crate::long_plans::{CHAIN, CHAIN_OBJECTIVE, CHAIN_RHS, LONG_DIRECTION, LONG_RAY};
 use crate::parametric_runs::{
     INFEASIBLE_PAST, LAMPS, MILK, RHS_INTERVALS, RHS_POINT, TWO_INTERVALS, UNBOUNDED_OPENING,
@@ -93,14 +93,16 @@ fn short_numbers_are_answered_alike(rt: HostRuntime) -> Result<(), Fail> {
 // A test that 128 bits refuse is made.
 #[test]
 fn no_test_is_refused(rt: HostRuntime) -> Result<(), Fail> {
-    let cases: [(&Listing, u8, &[u8]); 2] = [
-        (&GREAT, 40, b"WRONG LINE 4\n"),
-        (&FAR_POINT, 0, b"ATTESTED 3 REPORTS\n"),
-    ];
-    for (listing, status, line) in cases {
+    for (listing, found) in [
+        (&GREAT, Finding::Wrong(4)),
+        (&FAR_POINT, Finding::Attested(3)),
+    ] {
         let text = listing.text.concat(rt.alloc())?;
-        let answer = answer_to::<OfAnyLength>(rt.alloc(), listing.job, &text)?;
-        assert!(rt; answer.is(status, line), "{}", listing.name);
+        assert!(rt;
+            finds::<OfAnyLength>(rt.alloc(), listing.job, &text, found)?,
+            "{}",
+            listing.name
+        );
     }
     Ok(())
 }
@@ -112,8 +114,11 @@ fn long_last_values_are_left(rt: HostRuntime) -> Result<(), Fail> {
     for rows in tables {
         for row in rows {
             let listing = row.listing.concat(rt.alloc())?;
-            let answer = answer_to::<OfAnyLength>(rt.alloc(), row.job, &listing)?;
-            assert!(rt; answer.is(row.status, row.line), "{}", row.name);
+            assert!(rt;
+                finds::<OfAnyLength>(rt.alloc(), row.job, &listing, row.found)?,
+                "{}",
+                row.name
+            );
         }
     }
     Ok(())
@@ -129,8 +134,8 @@ fn an_unchecked_verdict_is_tested(rt: HostRuntime) -> Result<(), Fail> {
         Edit::Text(b"CHECKED", b"UNCHECKED MUL 2 3"),
     )?;
     let text = text.unwrap_or(Vec::new(alloc));
-    assert!(rt; answer_to::<OfAnyLength>(alloc, store.job, &text)?.is(0, b"ATTESTED 5 REPORTS\n"));
-    assert!(rt; answer_to::<Of128Bits>(alloc, store.job, &text)?.is(40, b"WRONG LINE 4\n"));
+    assert!(rt; finds::<OfAnyLength>(alloc, store.job, &text, Finding::Attested(5))?);
+    assert!(rt; finds::<Of128Bits>(alloc, store.job, &text, Finding::Wrong(4))?);
     Ok(())
 }
 
@@ -181,14 +186,13 @@ fn plan_of_ones(alloc: Global, digits: usize) -> Result<Vec<u8>, Fail> {
 #[test]
 fn numbers_of_100000_digits_are_read(rt: HostRuntime) -> Result<(), Fail> {
     let alloc = rt.alloc();
-    let cases: [(usize, u8, &[u8]); 2] = [
-        (100_000, 0, b"ATTESTED 4 REPORTS\n"),
-        (100_001, 42, b"UNCHECKED LINE 4\n"),
-    ];
-    for (digits, status, line) in cases {
+    for (digits, found) in [
+        (100_000, Finding::Attested(4)),
+        (100_001, Finding::Unchecked(4)),
+    ] {
         let text = plan_of_ones(alloc, digits)?;
         assert!(rt;
-            answer_to::<OfAnyLength>(alloc, &[SOLVE, COUNTED], &text)?.is(status, line),
+            finds::<OfAnyLength>(alloc, &[SOLVE, COUNTED], &text, found)?,
             "{digits}"
         );
     }

@@ -1,5 +1,5 @@
 // Parametric runs.
-use crate::listings::{Case, Edit, Listing};
+use crate::listings::{Case, Edit, Finding, Listing};
 use test_decks::problems;
 use test_decks::programs::{PARAOBJ_TO_5, PARARHS_TO_5};
 
@@ -45,8 +45,7 @@ INTERVAL 1 FROM 0 TO 1
         SECOND_POINT,
         b"PARAOBJ ENDS AT 5\nEND 0\n",
     ],
-    status: 0,
-    line: b"ATTESTED 3 REPORTS\n",
+    found: Finding::Attested(3),
     cases: &[
         Case {
             name: "an interval split",
@@ -59,8 +58,7 @@ INTERVAL 1 FROM 0 TO 1
                     SECOND_POINT,
                 ],
             ),
-            status: 0,
-            line: b"ATTESTED 3 REPORTS\n",
+            found: Finding::Attested(3),
         },
         Case {
             name: "a point in front",
@@ -85,8 +83,7 @@ INTERVAL 2 FROM 0 TO 1
                     SECOND_POINT,
                 ],
             ),
-            status: 0,
-            line: b"ATTESTED 3 REPORTS\n",
+            found: Finding::Attested(3),
         },
         Case {
             name: "right at both ends alone",
@@ -107,8 +104,7 @@ INTERVAL 2 FROM 0 TO 1
 ",
                 ],
             ),
-            status: 40,
-            line: b"WRONG LINE 3\n",
+            found: Finding::Wrong(3),
         },
         Case {
             name: "past the last value",
@@ -116,8 +112,7 @@ INTERVAL 2 FROM 0 TO 1
                 &[b"TO 5\n", SECOND_POINT, b"PARAOBJ ENDS AT 5"],
                 &[b"TO 6\n", SECOND_POINT, b"PARAOBJ ENDS AT 6"],
             ),
-            status: 40,
-            line: b"WRONG LINE 3\n",
+            found: Finding::Wrong(3),
         },
         Case {
             name: "before the last value",
@@ -125,14 +120,12 @@ INTERVAL 2 FROM 0 TO 1
                 &[b"TO 5\n", SECOND_POINT, b"PARAOBJ ENDS AT 5"],
                 &[b"TO 4\n", SECOND_POINT, b"PARAOBJ ENDS AT 4"],
             ),
-            status: 40,
-            line: b"WRONG LINE 3\n",
+            found: Finding::Wrong(3),
         },
         Case {
             name: "an end that is not reached",
             edit: Edit::Text(b"TO 5", b"TO 4"),
-            status: 40,
-            line: b"WRONG LINE 3\n",
+            found: Finding::Wrong(3),
         },
         Case {
             name: "the first interval carried on",
@@ -145,8 +138,7 @@ INTERVAL 2 FROM 0 TO 1
                 ],
                 &[b"INTERVAL 1 FROM 0 TO 5\n", FIRST_POINT],
             ),
-            status: 40,
-            line: b"WRONG LINE 3\n",
+            found: Finding::Wrong(3),
         },
         Case {
             name: "a point behind the first interval",
@@ -159,20 +151,17 @@ INTERVAL 2 FROM 0 TO 1
                     SECOND_POINT,
                 ],
             ),
-            status: 40,
-            line: b"WRONG LINE 3\n",
+            found: Finding::Wrong(3),
         },
         Case {
             name: "a gap",
             edit: Edit::Text(b"FROM 1 TO 5", b"FROM 2 TO 5"),
-            status: 40,
-            line: b"WRONG LINE 3\n",
+            found: Finding::Wrong(3),
         },
         Case {
             name: "a number twice",
             edit: Edit::Text(b"INTERVAL 2", b"INTERVAL 1"),
-            status: 40,
-            line: b"WRONG LINE 3\n",
+            found: Finding::Wrong(3),
         },
         Case {
             name: "no interval",
@@ -185,14 +174,12 @@ INTERVAL 2 FROM 0 TO 1
                 ],
                 &[],
             ),
-            status: 40,
-            line: b"WRONG LINE 3\n",
+            found: Finding::Wrong(3),
         },
         Case {
             name: "another beginning",
             edit: Edit::Text(b"INTERVAL 1 FROM 0", b"INTERVAL 1 FROM 1/2"),
-            status: 40,
-            line: b"WRONG LINE 3\n",
+            found: Finding::Wrong(3),
         },
         Case {
             name: "an optimal opening",
@@ -200,14 +187,12 @@ INTERVAL 2 FROM 0 TO 1
                 b"PARAOBJ FROM",
                 b"PARAOBJ OPTIMAL STEPS 0 OBJECTIVE -8 CHECKED\nEND 0\n",
             ),
-            status: 40,
-            line: b"WRONG LINE 3\n",
+            found: Finding::Wrong(3),
         },
         Case {
             name: "another closing",
             edit: Edit::Text(b"ENDS AT 5", b"INFEASIBLE PAST 5"),
-            status: 40,
-            line: b"WRONG LINE 3\n",
+            found: Finding::Wrong(3),
         },
     ],
 };
@@ -277,26 +262,22 @@ PARAOBJ UNBOUNDED PAST 15
 END 0
 ",
     ],
-    status: 0,
-    line: b"ATTESTED 4 REPORTS\n",
+    found: Finding::Attested(4),
     cases: &[
         Case {
             name: "another direction",
             edit: Edit::Text(b"    2 SOLD     16 1\n", b"    2 SOLD     16 0\n"),
-            status: 40,
-            line: b"WRONG LINE 4\n",
+            found: Finding::Wrong(4),
         },
         Case {
             name: "an earlier value",
             edit: Edit::Text(b"UNBOUNDED PAST 15", b"UNBOUNDED PAST 14"),
-            status: 40,
-            line: b"WRONG LINE 4\n",
+            found: Finding::Wrong(4),
         },
         Case {
             name: "an end in place of the closing",
             edit: Edit::From(b"PARAOBJ UNBOUNDED", b"PARAOBJ ENDS AT 15\nEND 0\n"),
-            status: 40,
-            line: b"WRONG LINE 4\n",
+            found: Finding::Wrong(4),
         },
     ],
 };
@@ -315,13 +296,11 @@ PARAOBJ UNBOUNDED STEPS 0 OBJECTIVE 0 CHECKED
 END 2
 ",
     ],
-    status: 0,
-    line: b"ATTESTED 3 REPORTS\n",
+    found: Finding::Attested(3),
     cases: &[Case {
         name: "another objective",
         edit: Edit::Text(b"OBJECTIVE 0", b"OBJECTIVE 1"),
-        status: 40,
-        line: b"WRONG LINE 3\n",
+        found: Finding::Wrong(3),
     }],
 };
 
@@ -343,8 +322,7 @@ PARARHS INFEASIBLE PAST 2
 END 0
 ",
     ],
-    status: 0,
-    line: b"ATTESTED 3 REPORTS\n",
+    found: Finding::Attested(3),
     cases: &[
         Case {
             name: "the ray times seven",
@@ -352,8 +330,7 @@ END 0
                 b"PARARHS INFEASIBLE PAST 2\n    2 LOW      -1\n    3 X        1\n",
                 b"PARARHS INFEASIBLE PAST 2\n    2 LOW      -7\n    3 X        7\n",
             ),
-            status: 0,
-            line: b"ATTESTED 3 REPORTS\n",
+            found: Finding::Attested(3),
         },
         Case {
             name: "the ray turned",
@@ -361,8 +338,7 @@ END 0
                 b"PARARHS INFEASIBLE PAST 2\n    2 LOW      -1\n    3 X        1\n",
                 b"PARARHS INFEASIBLE PAST 2\n    2 LOW      1\n    3 X        -1\n",
             ),
-            status: 40,
-            line: b"WRONG LINE 3\n",
+            found: Finding::Wrong(3),
         },
         Case {
             name: "no ray",
@@ -370,8 +346,7 @@ END 0
                 b"PARARHS INFEASIBLE PAST 2\n    2 LOW      -1\n    3 X        1\n",
                 b"PARARHS INFEASIBLE PAST 2\n",
             ),
-            status: 40,
-            line: b"WRONG LINE 3\n",
+            found: Finding::Wrong(3),
         },
         Case {
             name: "lines exchanged",
@@ -379,8 +354,7 @@ END 0
                 b"PARARHS INFEASIBLE PAST 2\n    2 LOW      -1\n    3 X        1\n",
                 b"PARARHS INFEASIBLE PAST 2\n    3 X        1\n    2 LOW      -1\n",
             ),
-            status: 40,
-            line: b"WRONG LINE 3\n",
+            found: Finding::Wrong(3),
         },
         Case {
             name: "a zero",
@@ -392,20 +366,17 @@ END 0
     3 X        1
 ",
             ),
-            status: 40,
-            line: b"WRONG LINE 3\n",
+            found: Finding::Wrong(3),
         },
         Case {
             name: "an earlier value",
             edit: Edit::Text(b"PAST 2", b"PAST 1"),
-            status: 40,
-            line: b"WRONG LINE 3\n",
+            found: Finding::Wrong(3),
         },
         Case {
             name: "a later value",
             edit: Edit::Text(b"PAST 2", b"PAST 3"),
-            status: 40,
-            line: b"WRONG LINE 3\n",
+            found: Finding::Wrong(3),
         },
         Case {
             name: "a later value and interval",
@@ -421,8 +392,7 @@ PARARHS INFEASIBLE PAST 2",
     3 X        BS 1 1 0 0
 PARARHS INFEASIBLE PAST 3",
             ),
-            status: 40,
-            line: b"WRONG LINE 3\n",
+            found: Finding::Wrong(3),
         },
     ],
 };
@@ -495,13 +465,11 @@ PARARHS INFEASIBLE PAST 18
 END 0
 ",
     ],
-    status: 0,
-    line: b"ATTESTED 5 REPORTS\n",
+    found: Finding::Attested(5),
     cases: &[Case {
         name: "another beginning of the second",
         edit: Edit::Text(b"PARARHS FROM 15", b"PARARHS FROM 0"),
-        status: 40,
-        line: b"WRONG LINE 18\n",
+        found: Finding::Wrong(18),
     }],
 };
 
@@ -527,8 +495,7 @@ PARARHS ENDS AT 5
 END 0
 ",
     ],
-    status: 0,
-    line: b"ATTESTED 3 REPORTS\n",
+    found: Finding::Attested(3),
     cases: &[],
 };
 
@@ -559,7 +526,6 @@ PARARHS ENDS AT 0
 END 0
 ",
     ],
-    status: 0,
-    line: b"ATTESTED 3 REPORTS\n",
+    found: Finding::Attested(3),
     cases: &[],
 };

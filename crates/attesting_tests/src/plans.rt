@@ -1,5 +1,5 @@
 // Plans and their solutions.
-use crate::listings::{Case, Edit, Listing};
+use crate::listings::{Case, Edit, Finding, Listing};
 use crate::store::{STORE_FROM_EXIT, STORE_SOLUTION, STORE_TO_PRIMAL, STORE_VERDICT};
 use test_decks::problems;
 use test_decks::programs::{SOLVE, SOLVE_BND1};
@@ -14,38 +14,32 @@ pub const STORE: Listing = Listing {
         problems::STORE,
     ],
     text: &[STORE_VERDICT, STORE_SOLUTION, b"END 0\n"],
-    status: 0,
-    line: b"ATTESTED 5 REPORTS\n",
+    found: Finding::Attested(5),
     cases: &[
         Case {
             name: "many steps",
             edit: Edit::Text(b"STEPS 0", b"STEPS 4294967295"),
-            status: 0,
-            line: b"ATTESTED 5 REPORTS\n",
+            found: Finding::Attested(5),
         },
         Case {
             name: "flour at its upper limit",
             edit: Edit::Text(b"4 FLOUR    LL", b"4 FLOUR    UL"),
-            status: 0,
-            line: b"ATTESTED 5 REPORTS\n",
+            found: Finding::Attested(5),
         },
         Case {
             name: "flour at two limits",
             edit: Edit::Text(b"4 FLOUR    LL", b"4 FLOUR    **"),
-            status: 0,
-            line: b"ATTESTED 5 REPORTS\n",
+            found: Finding::Attested(5),
         },
         Case {
             name: "another objective",
             edit: Edit::Text(b"OBJECTIVE 0", b"OBJECTIVE 1"),
-            status: 40,
-            line: b"WRONG LINE 4\n",
+            found: Finding::Wrong(4),
         },
         Case {
             name: "minus zero",
             edit: Edit::Text(b"OBJECTIVE 0", b"OBJECTIVE -0"),
-            status: 40,
-            line: b"WRONG LINE 4\n",
+            found: Finding::Wrong(4),
         },
         Case {
             name: "an objective of 128 bits",
@@ -53,116 +47,97 @@ pub const STORE: Listing = Listing {
                 b"OBJECTIVE 0",
                 b"OBJECTIVE 170141183460469231731687303715884105728",
             ),
-            status: 40,
-            line: b"WRONG LINE 4\n",
+            found: Finding::Wrong(4),
         },
         Case {
             name: "too many steps",
             edit: Edit::Text(b"STEPS 0", b"STEPS 4294967296"),
-            status: 40,
-            line: b"WRONG LINE 4\n",
+            found: Finding::Wrong(4),
         },
         Case {
             name: "steps with a zero in front",
             edit: Edit::Text(b"STEPS 0", b"STEPS 00"),
-            status: 40,
-            line: b"WRONG LINE 4\n",
+            found: Finding::Wrong(4),
         },
         Case {
             name: "an objective that was checked only in part",
             edit: Edit::Text(b"CHECKED", b"UNCHECKED MUL 1 1"),
-            status: 40,
-            line: b"WRONG LINE 4\n",
+            found: Finding::Wrong(4),
         },
         Case {
             name: "another code",
             edit: Edit::Text(b"4 FLOUR    LL", b"4 FLOUR    XX"),
-            status: 40,
-            line: b"WRONG LINE 5\n",
+            found: Finding::Wrong(5),
         },
         Case {
             name: "another activity",
             edit: Edit::Text(b"FLOUR    LL 0", b"FLOUR    LL 1"),
-            status: 40,
-            line: b"WRONG LINE 5\n",
+            found: Finding::Wrong(5),
         },
         Case {
             name: "a whole number over one",
             edit: Edit::Text(b"LL 0 3 0", b"LL 0 3/1 0"),
-            status: 40,
-            line: b"WRONG LINE 5\n",
+            found: Finding::Wrong(5),
         },
         Case {
             name: "a fraction that is not in lowest terms",
             edit: Edit::Text(b"LL 0 5/2 0", b"LL 0 10/4 0"),
-            status: 40,
-            line: b"WRONG LINE 5\n",
+            found: Finding::Wrong(5),
         },
         Case {
             name: "another slack",
             edit: Edit::Text(b"BS 0 40 NONE 40 0", b"BS 0 41 NONE 40 0"),
-            status: 40,
-            line: b"WRONG LINE 5\n",
+            found: Finding::Wrong(5),
         },
         Case {
             name: "another price",
             edit: Edit::Text(b"BS 0 40 NONE 40 0", b"BS 0 40 NONE 40 1"),
-            status: 40,
-            line: b"WRONG LINE 5\n",
+            found: Finding::Wrong(5),
         },
         Case {
             name: "no solution",
             edit: Edit::From(b"SOLUTION OPTIMAL", b"END 0\n"),
-            status: 40,
-            line: b"WRONG LINE 5\n",
+            found: Finding::Wrong(5),
         },
         Case {
             name: "another title",
             edit: Edit::Text(b"CHEAPEST", b"DEAREST"),
-            status: 40,
-            line: b"WRONG LINE 1\n",
+            found: Finding::Wrong(1),
         },
         Case {
             name: "a return before the line feed",
             edit: Edit::Text(b"PLAN\n", b"PLAN\r\n"),
-            status: 40,
-            line: b"WRONG LINE 1\n",
+            found: Finding::Wrong(1),
         },
         Case {
             name: "nothing",
             edit: Edit::From(b"TITLE", b""),
-            status: 40,
-            line: b"WRONG LINE 1\n",
+            found: Finding::Wrong(1),
         },
         Case {
             name: "a statement limit alone",
             edit: Edit::From(b"TITLE", b"STOP 17 STATEMENT LIMIT\n"),
-            status: 40,
-            line: b"WRONG LINE 1\n",
+            found: Finding::Wrong(1),
         },
         Case {
             name: "a stop with a word behind",
             edit: Edit::From(b"TITLE", b"STOP 28 MEMORY NOW\n"),
-            status: 40,
-            line: b"WRONG LINE 1\n",
+            found: Finding::Wrong(1),
         },
         Case {
             name: "no last line feed",
             edit: Edit::From(b"END 0", b"END 0"),
-            status: 40,
-            line: b"WRONG LINE 15\n",
+            found: Finding::Wrong(15),
         },
         Case {
             name: "two ends",
             edit: Edit::Text(b"END 0\n", b"END 0\nEND 0\n"),
-            status: 40,
-            line: b"WRONG LINE 16\n",
+            found: Finding::Wrong(16),
         },
         Case {
             name: "a byte behind the end",
             edit: Edit::Text(b"END 0\n", b"END 0\nX"),
-            status: 40,
-            line: b"WRONG LINE 16\n",
+            found: Finding::Wrong(16),
         },
         Case {
             name: "a ray of no lines",
@@ -170,8 +145,7 @@ pub const STORE: Listing = Listing {
                 b"PRIMAL",
                 b"PRIMAL INFEASIBLE STEPS 0 RAY CHECKED\nTITLE NO PLAN KEEPS ALL LIMITS\nEND 0\n",
             ),
-            status: 40,
-            line: b"WRONG LINE 4\n",
+            found: Finding::Wrong(4),
         },
         Case {
             name: "a ray that proves nothing",
@@ -183,8 +157,7 @@ TITLE NO PLAN KEEPS ALL LIMITS
 END 0
 ",
             ),
-            status: 40,
-            line: b"WRONG LINE 4\n",
+            found: Finding::Wrong(4),
         },
         Case {
             name: "limits that are not crossed",
@@ -195,8 +168,7 @@ TITLE NO PLAN KEEPS ALL LIMITS
 END 0
 ",
             ),
-            status: 40,
-            line: b"WRONG LINE 4\n",
+            found: Finding::Wrong(4),
         },
         Case {
             name: "a direction of zeros",
@@ -211,32 +183,27 @@ END 0
 END 2
 ",
             ),
-            status: 40,
-            line: b"WRONG LINE 4\n",
+            found: Finding::Wrong(4),
         },
         Case {
             name: "no memory at the beginning",
             edit: Edit::From(b"TITLE", b"STOP 28 MEMORY\n"),
-            status: 41,
-            line: b"OPEN LINE 1\n",
+            found: Finding::Open(1),
         },
         Case {
             name: "no memory at SOLUTION",
             edit: Edit::From(b"SOLUTION OPTIMAL", b"STOP 28 MEMORY\n"),
-            status: 41,
-            line: b"OPEN LINE 5\n",
+            found: Finding::Open(5),
         },
         Case {
             name: "no memory at the end",
             edit: Edit::Text(b"END 0\n", b"STOP 28 MEMORY\n"),
-            status: 41,
-            line: b"OPEN LINE 15\n",
+            found: Finding::Open(15),
         },
         Case {
             name: "a limit of steps",
             edit: Edit::From(b"PRIMAL", b"STOP 16 ITERATION LIMIT 10000 CARD 8\n"),
-            status: 41,
-            line: b"OPEN LINE 4\n",
+            found: Finding::Open(4),
         },
     ],
 };
@@ -267,8 +234,7 @@ pub const TESTPROB: Listing = Listing {
     name: "testprob",
     job: &[SOLVE_BND1, problems::TESTPROB_CARDS, problems::ENDATA],
     text: &[TESTPROB_VERDICT, TESTPROB_SOLUTION, b"END 0\n"],
-    status: 0,
-    line: b"ATTESTED 4 REPORTS\n",
+    found: Finding::Attested(4),
     cases: &[],
 };
 
@@ -294,8 +260,7 @@ pub const TWO_SOLUTIONS: Listing = Listing {
         TESTPROB_SOLUTION,
         b"END 0\n",
     ],
-    status: 0,
-    line: b"ATTESTED 5 REPORTS\n",
+    found: Finding::Attested(5),
     cases: &[Case {
         name: "another second solution",
         edit: Edit::Parts(
@@ -317,8 +282,7 @@ NUMBER COLUMN AT ACTIVITY COST LOWER UPPER REDUCED
 ",
             ],
         ),
-        status: 40,
-        line: b"WRONG LINE 16\n",
+        found: Finding::Wrong(16),
     }],
 };
 
@@ -357,8 +321,7 @@ NUMBER COLUMN AT ACTIVITY COST LOWER UPPER REDUCED
 END 0
 ",
     ],
-    status: 0,
-    line: b"ATTESTED 4 REPORTS\n",
+    found: Finding::Attested(4),
     cases: &[
         Case {
             name: "the other corner",
@@ -366,8 +329,7 @@ END 0
                 b"    3 X        BS 4 -1 0 NONE 0\n    4 Y        LL 0 -1 0 NONE 0\n",
                 b"    3 X        LL 0 -1 0 NONE 0\n    4 Y        BS 4 -1 0 NONE 0\n",
             ),
-            status: 0,
-            line: b"ATTESTED 4 REPORTS\n",
+            found: Finding::Attested(4),
         },
         Case {
             name: "a point between",
@@ -375,8 +337,7 @@ END 0
                 b"    3 X        BS 4 -1 0 NONE 0\n    4 Y        LL 0 -1 0 NONE 0\n",
                 b"    3 X        BS 3/2 -1 0 NONE 0\n    4 Y        BS 5/2 -1 0 NONE 0\n",
             ),
-            status: 0,
-            line: b"ATTESTED 4 REPORTS\n",
+            found: Finding::Attested(4),
         },
     ],
 };
@@ -413,7 +374,6 @@ NUMBER COLUMN AT ACTIVITY COST LOWER UPPER REDUCED
 END 0
 ",
     ],
-    status: 0,
-    line: b"ATTESTED 4 REPORTS\n",
+    found: Finding::Attested(4),
     cases: &[],
 };

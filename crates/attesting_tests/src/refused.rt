@@ -1,5 +1,5 @@
 // Listings in whose tests an operation is refused.
-use crate::listings::{Case, Edit, Listing};
+use crate::listings::{Case, Edit, Finding, Listing};
 use test_decks::problems;
 use test_decks::programs::SOLVE;
 
@@ -35,13 +35,11 @@ NUMBER COLUMN AT ACTIVITY COST LOWER UPPER REDUCED
 END 0
 ",
     ],
-    status: 42,
-    line: b"UNCHECKED LINE 4\n",
+    found: Finding::Unchecked(4),
     cases: &[Case {
         name: "a verdict that was not checked",
         edit: Edit::Text(b"CHECKED", b"UNCHECKED MUL 1 2"),
-        status: 42,
-        line: b"UNCHECKED LINE 4\n",
+        found: Finding::Unchecked(4),
     }],
 };
 
@@ -58,20 +56,17 @@ pub const RANGE_REFUSED: Listing = Listing {
         problems::FAR_RANGE,
     ],
     text: &[b"CONVERT T        ROWS 2 COLUMNS 1 ENTRIES 1\nSETUP   T        MIN\nEND 0\n"],
-    status: 42,
-    line: b"UNCHECKED LINE 2\n",
+    found: Finding::Unchecked(2),
     cases: &[
         Case {
             name: "another line",
             edit: Edit::From(b"SETUP", b"END 0\n"),
-            status: 42,
-            line: b"UNCHECKED LINE 2\n",
+            found: Finding::Unchecked(2),
         },
         Case {
             name: "no line",
             edit: Edit::From(b"SETUP", b""),
-            status: 42,
-            line: b"UNCHECKED LINE 2\n",
+            found: Finding::Unchecked(2),
         },
         Case {
             name: "its own stop",
@@ -82,8 +77,7 @@ BASIS NONE
 WAY NONE
 ",
             ),
-            status: 41,
-            line: b"OPEN LINE 2\n",
+            found: Finding::Open(2),
         },
     ],
 };
@@ -110,8 +104,7 @@ SETUP   T        MIN
 END 0
 ",
     ],
-    status: 41,
-    line: b"OPEN LINE 3\n",
+    found: Finding::Open(3),
     cases: &[Case {
         name: "its own stop",
         edit: Edit::Text(
@@ -122,8 +115,7 @@ BASIS NONE
 WAY NONE
 ",
         ),
-        status: 41,
-        line: b"OPEN LINE 4\n",
+        found: Finding::Open(4),
     }],
 };
 
@@ -152,20 +144,17 @@ INSERT  D        BASIC 1
 END 0
 ",
     ],
-    status: 41,
-    line: b"OPEN LINE 3\n",
+    found: Finding::Open(3),
     cases: &[
         Case {
             name: "another deck's line",
             edit: Edit::Text(b"INSERT  D", b"INSERT  T"),
-            status: 42,
-            line: b"UNCHECKED LINE 3\n",
+            found: Finding::Unchecked(3),
         },
         Case {
             name: "no line",
             edit: Edit::From(b"INSERT", b"END 0\n"),
-            status: 42,
-            line: b"UNCHECKED LINE 3\n",
+            found: Finding::Unchecked(3),
         },
         Case {
             name: "its own stop",
@@ -176,8 +165,7 @@ BASIS NONE
 WAY NONE
 ",
             ),
-            status: 41,
-            line: b"OPEN LINE 3\n",
+            found: Finding::Open(3),
         },
     ],
 };
@@ -207,8 +195,7 @@ INSERT  D        BASIC 1
 END 0
 ",
     ],
-    status: 42,
-    line: b"UNCHECKED LINE 3\n",
+    found: Finding::Unchecked(3),
     cases: &[],
 };
 
@@ -250,26 +237,22 @@ PARARHS ENDS AT 999999999000000000000000000
 END 0
 ",
     ],
-    status: 42,
-    line: b"UNCHECKED LINE 3\n",
+    found: Finding::Unchecked(3),
     cases: &[
         Case {
             name: "another code",
             edit: Edit::Text(b"COST     BS", b"COST     ZZ"),
-            status: 40,
-            line: b"WRONG LINE 3\n",
+            found: Finding::Wrong(3),
         },
         Case {
             name: "an interval that goes back",
             edit: Edit::Text(b"TO 999999999000000000000000000", b"TO 1"),
-            status: 40,
-            line: b"WRONG LINE 3\n",
+            found: Finding::Wrong(3),
         },
         Case {
             name: "another word behind the interval",
             edit: Edit::Text(b"ENDS AT", b"ENDS OF"),
-            status: 42,
-            line: b"UNCHECKED LINE 3\n",
+            found: Finding::Unchecked(3),
         },
         Case {
             name: "an infeasible opening",
@@ -277,8 +260,7 @@ END 0
                 b"PARARHS FROM",
                 b"PARARHS INFEASIBLE STEPS 0 RAY CHECKED\n    2 LOW      -1\nEND 1\n",
             ),
-            status: 42,
-            line: b"UNCHECKED LINE 3\n",
+            found: Finding::Unchecked(3),
         },
     ],
 };

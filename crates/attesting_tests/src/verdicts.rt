@@ -1,5 +1,5 @@
 // Verdicts that there is no best plan.
-use crate::listings::{Case, Edit, Listing};
+use crate::listings::{Case, Edit, Finding, Listing};
 use test_decks::problems;
 use test_decks::programs::SOLVE;
 
@@ -45,8 +45,7 @@ PRIMAL INFEASIBLE STEPS 2 RAY CHECKED
 END 1
 ",
     ],
-    status: 0,
-    line: b"ATTESTED 4 REPORTS\n",
+    found: Finding::Attested(4),
     cases: &[
         Case {
             name: "the ray times three",
@@ -54,8 +53,7 @@ END 1
                 b"    2 HOURS    1\n    3 CHAIRS   -2\n    4 TABLES   -5\n",
                 b"    2 HOURS    3\n    3 CHAIRS   -6\n    4 TABLES   -15\n",
             ),
-            status: 0,
-            line: b"ATTESTED 4 REPORTS\n",
+            found: Finding::Attested(4),
         },
         Case {
             name: "the ray turned",
@@ -63,14 +61,12 @@ END 1
                 b"    2 HOURS    1\n    3 CHAIRS   -2\n    4 TABLES   -5\n",
                 b"    2 HOURS    -1\n    3 CHAIRS   2\n    4 TABLES   5\n",
             ),
-            status: 40,
-            line: b"WRONG LINE 4\n",
+            found: Finding::Wrong(4),
         },
         Case {
             name: "another factor",
             edit: Edit::Text(b"TABLES   -5", b"TABLES   -4"),
-            status: 40,
-            line: b"WRONG LINE 4\n",
+            found: Finding::Wrong(4),
         },
         Case {
             name: "lines exchanged",
@@ -78,20 +74,17 @@ END 1
                 b"    2 HOURS    1\n    3 CHAIRS   -2\n    4 TABLES   -5\n",
                 b"    3 CHAIRS   -2\n    2 HOURS    1\n    4 TABLES   -5\n",
             ),
-            status: 40,
-            line: b"WRONG LINE 4\n",
+            found: Finding::Wrong(4),
         },
         Case {
             name: "a zero in front",
             edit: Edit::Text(b"    2 HOURS", b"    1 COST     0\n    2 HOURS"),
-            status: 40,
-            line: b"WRONG LINE 4\n",
+            found: Finding::Wrong(4),
         },
         Case {
             name: "a variable that is not there",
             edit: Edit::Text(b"TABLES   -5\n", b"TABLES   -5\n    9 X        1\n"),
-            status: 40,
-            line: b"WRONG LINE 4\n",
+            found: Finding::Wrong(4),
         },
         Case {
             name: "no variable crossed",
@@ -99,8 +92,7 @@ END 1
                 b"PRIMAL",
                 b"PRIMAL INFEASIBLE STEPS 2 CROSSED 0 CHECKED\nEND 1\n",
             ),
-            status: 40,
-            line: b"WRONG LINE 4\n",
+            found: Finding::Wrong(4),
         },
         Case {
             name: "a variable crossed that is not there",
@@ -108,32 +100,27 @@ END 1
                 b"PRIMAL",
                 b"PRIMAL INFEASIBLE STEPS 2 CROSSED 7 CHECKED\nEND 1\n",
             ),
-            status: 40,
-            line: b"WRONG LINE 4\n",
+            found: Finding::Wrong(4),
         },
         Case {
             name: "a verdict that was not checked",
             edit: Edit::Text(b"CHECKED", b"UNCHECKED ADD 1 2"),
-            status: 40,
-            line: b"WRONG LINE 4\n",
+            found: Finding::Wrong(4),
         },
         Case {
             name: "a line behind the ray",
             edit: Edit::Text(b"TABLES   -5\n", b"TABLES   -5\n junk\n"),
-            status: 40,
-            line: b"WRONG LINE 8\n",
+            found: Finding::Wrong(8),
         },
         Case {
             name: "another end",
             edit: Edit::Text(b"END 1", b"END 0"),
-            status: 40,
-            line: b"WRONG LINE 8\n",
+            found: Finding::Wrong(8),
         },
         Case {
             name: "no memory at the end",
             edit: Edit::Text(b"END 1", b"STOP 28 MEMORY"),
-            status: 41,
-            line: b"OPEN LINE 8\n",
+            found: Finding::Open(8),
         },
     ],
 };
@@ -151,13 +138,11 @@ PRIMAL INFEASIBLE STEPS 1 RAY CHECKED
 END 1
 ",
     ],
-    status: 0,
-    line: b"ATTESTED 3 REPORTS\n",
+    found: Finding::Attested(3),
     cases: &[Case {
         name: "another factor",
         edit: Edit::Text(b"HIGH     1", b"HIGH     2"),
-        status: 40,
-        line: b"WRONG LINE 3\n",
+        found: Finding::Wrong(3),
     }],
 };
 
@@ -199,14 +184,12 @@ PRIMAL UNBOUNDED STEPS 1 OBJECTIVE 200 CHECKED
 END 2
 ",
     ],
-    status: 0,
-    line: b"ATTESTED 4 REPORTS\n",
+    found: Finding::Attested(4),
     cases: &[
         Case {
             name: "another objective",
             edit: Edit::Text(b"OBJECTIVE 200", b"OBJECTIVE 201"),
-            status: 40,
-            line: b"WRONG LINE 4\n",
+            found: Finding::Wrong(4),
         },
         Case {
             name: "a direction of zeros",
@@ -222,8 +205,7 @@ END 2
     4 SELL     40 0
 ",
             ),
-            status: 40,
-            line: b"WRONG LINE 4\n",
+            found: Finding::Wrong(4),
         },
     ],
 };

@@ -1,6 +1,6 @@
 // Random plans with numbers of more than 128 bits, as they are.
 // Each job was made at random, and what is found of its listing came with it, from outside this repository.
-use crate::listings::Listing;
+use crate::listings::{Finding, Listing};
 use test_decks::programs::SOLVE_WIDE_TO_40;
 
 /// A plan of a random job.
@@ -159,8 +159,7 @@ NUMBER COLUMN AT ACTIVITY COST LOWER UPPER REDUCED
 END 0
 ",
     ],
-    status: 0,
-    line: b"ATTESTED 4 REPORTS\n",
+    found: Finding::Attested(4),
     cases: &[],
 };
 
@@ -323,8 +322,7 @@ NUMBER COLUMN AT ACTIVITY COST LOWER UPPER REDUCED
 END 0
 ",
     ],
-    status: 0,
-    line: b"ATTESTED 4 REPORTS\n",
+    found: Finding::Attested(4),
     cases: &[],
 };
 
@@ -492,7 +490,6 @@ NUMBER COLUMN AT ACTIVITY COST LOWER UPPER REDUCED
 END 0
 ",
     ],
-    status: 0,
-    line: b"ATTESTED 4 REPORTS\n",
+    found: Finding::Attested(4),
     cases: &[],
 };

@@ -1,6 +1,6 @@
 // Random plans with numbers of more than 128 bits, each with a change.
 // Each job was made at random, and what is found of its listing came with it, from outside this repository.
-use crate::listings::Listing;
+use crate::listings::{Finding, Listing};
 use test_decks::programs::SOLVE_WIDE_TO_1;
 
 /// A digit stands for a letter in the line of CONVERT.
@@ -147,8 +147,7 @@ NUMBER COLUMN AT ACTIVITY COST LOWER UPPER REDUCED
 END 0
 ",
     ],
-    status: 40,
-    line: b"WRONG LINE 1\n",
+    found: Finding::Wrong(1),
     cases: &[],
 };
 
@@ -314,8 +313,7 @@ NUMBER COLUMN AT ACTIVITY COST LOWER UPPER REDUCED
 END 0
 ",
     ],
-    status: 40,
-    line: b"WRONG LINE 4\n",
+    found: Finding::Wrong(4),
     cases: &[],
 };
 
@@ -494,7 +492,6 @@ NUMBER COLUMN AT ACTIVITY COST LOWER UPPER REDUCED
 END 0
 ",
     ],
-    status: 40,
-    line: b"WRONG LINE 4\n",
+    found: Finding::Wrong(4),
     cases: &[],
 };

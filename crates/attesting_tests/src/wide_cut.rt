@@ -1,6 +1,6 @@
 // Random plans with numbers of more than 128 bits, whose listings are cut off.
 // Each job was made at random, and what is found of its listing came with it, from outside this repository.
-use crate::listings::Listing;
+use crate::listings::{Finding, Listing};
 use test_decks::programs::{SOLVE_WIDE_TO_1, SOLVE_WIDE_TO_40};
 
 /// The verdict's line is cut off.
@@ -151,8 +151,7 @@ ENDATA
 SETUP   WIDE     MIN
 PRIMAL OPTIMAL STEPS 22 OBJECTIVE -412932567072787321845111391680006820683427/2205111503543519450189693818545395850",
     ],
-    status: 40,
-    line: b"WRONG LINE 3\n",
+    found: Finding::Wrong(3),
     cases: &[],
 };
 
@@ -309,8 +308,7 @@ NUMBER ROW AT ACTIVITY SLACK LOWER UPPER DUAL
     1 COST     BS -46651689002656265485316676085594865094091/2467616179525949169405226441166081360 46651689002656265485316676085594865094091/2467616179525949169405226441166081360 NONE NONE 0
     2 CH       BS 5060",
     ],
-    status: 40,
-    line: b"WRONG LINE 4\n",
+    found: Finding::Wrong(4),
     cases: &[],
 };
 
@@ -459,7 +457,6 @@ NUMBER ROW AT ACTIVITY SLACK LOWER UPPER DUAL
     2 CH       BS -28405120662301682245276128913679833993703/233547318300950830389443439498907901000 28405120662301682245276128913679833993703/233547318300950830389443439498907901000 NONE NONE 0
     3 R0  \x20",
     ],
-    status: 40,
-    line: b"WRONG LINE 4\n",
+    found: Finding::Wrong(4),
     cases: &[],
 };
