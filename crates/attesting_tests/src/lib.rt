@@ -22,14 +22,10 @@ mod parametric_runs;
 #[cfg(test)]
 mod plans;
 #[cfg(test)]
+mod random_plans;
+#[cfg(test)]
 mod refused;
 #[cfg(test)]
 mod store;
 #[cfg(test)]
 mod verdicts;
-#[cfg(test)]
-mod wide_attested;
-#[cfg(test)]
-mod wide_changed;
-#[cfg(test)]
-mod wide_cut;

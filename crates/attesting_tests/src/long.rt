@@ -7,13 +7,14 @@ use crate::parametric_runs::{
     INFEASIBLE_PAST, LAMPS, MILK, RHS_INTERVALS, RHS_POINT, TWO_INTERVALS, UNBOUNDED_OPENING,
 };
 use crate::plans::{BLANKS, STORE, TIES, TWO_SOLUTIONS};
+use crate::random_plans::{
+    CUT_SECOND_ROW, CUT_THIRD_ROW, CUT_VERDICT, FIRST_PLAN, MISSING_ROW, RandomPlan, SECOND_PLAN,
+    THIRD_PLAN, WRONG_LETTER, WRONG_SLACK,
+};
 use crate::refused::{
     BAD_INSERT_REFUSED, FAR_POINT, GREAT, INSERT_REFUSED, RANGE_AFTER_PRIMAL, RANGE_REFUSED,
 };
 use crate::verdicts::{INFEASIBLE, UNBOUNDED};
-use crate::wide_attested::{FIRST_PLAN, SECOND_PLAN, THIRD_PLAN};
-use crate::wide_changed::{MISSING_ROW, WRONG_LETTER, WRONG_SLACK};
-use crate::wide_cut::{CUT_SECOND_ROW, CUT_THIRD_ROW, CUT_VERDICT};
 use checks_of_128_bits::Of128Bits;
 use checks_of_any_length::OfAnyLength;
 use std::alloc::Global;
@@ -40,23 +41,20 @@ fn long_numbers_are_tested(rt: HostRuntime) -> Result<(), Fail> {
 
 #[test]
 fn random_plans_are_tested(rt: HostRuntime) -> Result<(), Fail> {
-    assert_eq!(rt;
-        first_wrong::<OfAnyLength>(
-            rt.alloc(),
-            &[
-                &FIRST_PLAN,
-                &SECOND_PLAN,
-                &THIRD_PLAN,
-                &WRONG_LETTER,
-                &WRONG_SLACK,
-                &MISSING_ROW,
-                &CUT_VERDICT,
-                &CUT_SECOND_ROW,
-                &CUT_THIRD_ROW
-            ]
-        )?,
-        None
-    );
+    let plans: [&RandomPlan; 9] = [
+        &FIRST_PLAN,
+        &SECOND_PLAN,
+        &THIRD_PLAN,
+        &WRONG_LETTER,
+        &WRONG_SLACK,
+        &MISSING_ROW,
+        &CUT_VERDICT,
+        &CUT_SECOND_ROW,
+        &CUT_THIRD_ROW,
+    ];
+    for plan in plans {
+        assert!(rt; plan.is_found::<OfAnyLength>(rt.alloc())?, "{}", plan.name);
+    }
     Ok(())
 }
 
