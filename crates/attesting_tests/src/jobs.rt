@@ -1,55 +1,23 @@
-// Jobs with one listing each.
-use crate::listings::Finding;
+// Listings of jobs that are refused, and of jobs that bear on what a listing can show.
+use crate::listings::{Case, Edit, Finding, Listing};
 use crate::store::{STORE_FROM_EXIT, STORE_SOLUTION, STORE_TO_PRIMAL, STORE_VERDICT};
 use test_decks::problems;
 use test_decks::programs::{SOLVE, SOLVE_MAX};
 
-/// A job, a listing, and what it is found to be.
-pub struct Row {
-    pub name: &'static str,
-    /// The control program and the decks, one after another.
-    pub job: &'static [&'static [u8]],
-    /// The parts of the listing, one after another.
-    pub listing: &'static [&'static [u8]],
-    pub found: Finding,
-}
-
-// The listing of the chairs before the line of HOURS.
-const CHAIRS_BEFORE_HOURS: &[u8] = b"CONVERT PLAN     ROWS 5 COLUMNS 2 ENTRIES 4
-SETUP   PLAN     MAX
-PRIMAL OPTIMAL STEPS 3 OBJECTIVE 1120 CHECKED
-SOLUTION OPTIMAL
-SECTION 1 - ROWS
-NUMBER ROW AT ACTIVITY SLACK LOWER UPPER DUAL
-    1 PROFIT   BS 1120 -1120 NONE NONE 0
-    2 NORTH    BS 40 20 NONE 60 0
-    3 SOUTH    UL 60 0 NONE 60 2
-";
-
-// The listing of the chairs behind the line of HOURS.
-const CHAIRS_BEHIND_HOURS: &[u8] = b"    5 SHARE    BS 0 0 0 NONE 0
-SECTION 2 - COLUMNS
-NUMBER COLUMN AT ACTIVITY COST LOWER UPPER REDUCED
-    6 CHAIRN   BS 20 20 0 NONE 0
-    7 CHAIRS   BS 40 18 0 NONE 0
-END 0
-";
-
-/// Listings of jobs that are refused, and of jobs that bear on what a listing can show.
-pub const JOBS: [Row; 17] = [
-    Row {
+/// These jobs with their listings.
+pub const JOBS: [Listing; 11] = [
+    Listing {
         name: "store without SOLUTION",
         job: &[STORE_TO_PRIMAL, STORE_FROM_EXIT, problems::STORE],
-        listing: &[STORE_VERDICT, b"END 0\n"],
+        text: &[STORE_VERDICT, b"END 0\n"],
         found: Finding::Open(4),
+        cases: &[Case {
+            name: "another end",
+            edit: Edit::Text(b"END 0", b"END 1"),
+            found: Finding::Open(4),
+        }],
     },
-    Row {
-        name: "store without SOLUTION and with another end",
-        job: &[STORE_TO_PRIMAL, STORE_FROM_EXIT, problems::STORE],
-        listing: &[STORE_VERDICT, b"END 1\n"],
-        found: Finding::Open(4),
-    },
-    Row {
+    Listing {
         name: "a cell is moved before SOLUTION",
         job: &[
             STORE_TO_PRIMAL,
@@ -57,10 +25,11 @@ pub const JOBS: [Row; 17] = [
             STORE_FROM_EXIT,
             problems::STORE,
         ],
-        listing: &[STORE_VERDICT, b"STOP 10 VERB FAULT 4 CARD 10\n"],
+        text: &[STORE_VERDICT, b"STOP 10 VERB FAULT 4 CARD 10\n"],
         found: Finding::Open(4),
+        cases: &[],
     },
-    Row {
+    Listing {
         name: "a second PRIMAL",
         job: &[
             STORE_TO_PRIMAL,
@@ -68,15 +37,16 @@ pub const JOBS: [Row; 17] = [
             STORE_FROM_EXIT,
             problems::STORE,
         ],
-        listing: &[
+        text: &[
             STORE_VERDICT,
             b"PRIMAL OPTIMAL STEPS 0 OBJECTIVE 0 CHECKED\n",
             STORE_SOLUTION,
             b"END 0\n",
         ],
         found: Finding::Open(4),
+        cases: &[],
     },
-    Row {
+    Listing {
         name: "a title before SOLUTION",
         job: &[
             STORE_TO_PRIMAL,
@@ -84,21 +54,15 @@ pub const JOBS: [Row; 17] = [
             STORE_FROM_EXIT,
             problems::STORE,
         ],
-        listing: &[STORE_VERDICT, b"TITLE SHOWN\n", STORE_SOLUTION, b"END 0\n"],
+        text: &[STORE_VERDICT, b"TITLE SHOWN\n", STORE_SOLUTION, b"END 0\n"],
         found: Finding::Attested(6),
+        cases: &[Case {
+            name: "no memory at the title",
+            edit: Edit::From(b"TITLE SHOWN", b"STOP 28 MEMORY\n"),
+            found: Finding::Open(5),
+        }],
     },
-    Row {
-        name: "no memory at a title before SOLUTION",
-        job: &[
-            STORE_TO_PRIMAL,
-            b"         TITLE('SHOWN')\n         SOLUTION\n",
-            STORE_FROM_EXIT,
-            problems::STORE,
-        ],
-        listing: &[STORE_VERDICT, b"STOP 28 MEMORY\n"],
-        found: Finding::Open(5),
-    },
-    Row {
+    Listing {
         name: "ranges",
         job: &[
             b"         PROGRAM
@@ -111,7 +75,7 @@ pub const JOBS: [Row; 17] = [
 ",
             problems::TWO,
         ],
-        listing: &[
+        text: &[
             b"CONVERT TWO      ROWS 3 COLUMNS 2 ENTRIES 5
 SETUP   TWO      MIN
 PRIMAL OPTIMAL STEPS 3 OBJECTIVE -8 CHECKED
@@ -128,8 +92,9 @@ END 0
 ",
         ],
         found: Finding::Open(4),
+        cases: &[],
     },
-    Row {
+    Listing {
         name: "a limit of steps",
         job: &[
             b"         PROGRAM
@@ -144,68 +109,80 @@ END 0
             problems::TESTPROB_CARDS,
             problems::ENDATA,
         ],
-        listing: &[
+        text: &[
             b"CONVERT TESTPROB ROWS 4 COLUMNS 3 ENTRIES 9
 SETUP   TESTPROB MIN
 STOP 16 ITERATION LIMIT 2 CARD 5
 ",
         ],
         found: Finding::Open(3),
+        cases: &[],
     },
-    Row {
+    Listing {
         name: "an empty job",
         job: &[],
-        listing: &[b"STOP 8 CONTROL FAULT 1 CARD 0\n"],
+        text: &[b"STOP 8 CONTROL FAULT 1 CARD 0\n"],
         found: Finding::Attested(0),
+        cases: &[
+            Case {
+                name: "another card",
+                edit: Edit::Text(b"CARD 0", b"CARD 1"),
+                found: Finding::Wrong(1),
+            },
+            Case {
+                name: "a line behind",
+                edit: Edit::Text(b"CARD 0\n", b"CARD 0\nEND 0\n"),
+                found: Finding::Wrong(2),
+            },
+        ],
     },
-    Row {
-        name: "another card",
-        job: &[],
-        listing: &[b"STOP 8 CONTROL FAULT 1 CARD 1\n"],
-        found: Finding::Wrong(1),
-    },
-    Row {
-        name: "a line behind",
-        job: &[],
-        listing: &[b"STOP 8 CONTROL FAULT 1 CARD 0\nEND 0\n"],
-        found: Finding::Wrong(2),
-    },
-    Row {
+    Listing {
         name: "a tab",
         job: &[b"\tPROGRAM\n"],
-        listing: &[b"STOP 13 CARD FAULT 4 CARD 1\n"],
+        text: &[b"STOP 13 CARD FAULT 4 CARD 1\n"],
         found: Finding::Attested(0),
+        cases: &[],
     },
-    Row {
+    Listing {
         name: "a title like an end",
         job: &[b"         PROGRAM\n         TITLE('END 0')\n         EXIT\n         PEND\n"],
-        listing: &[b"TITLE END 0\nEND 0\n"],
+        text: &[b"TITLE END 0\nEND 0\n"],
         found: Finding::Attested(1),
+        cases: &[],
     },
-    Row {
+    Listing {
         name: "a plan over combinations",
         job: &[SOLVE_MAX, problems::CHAIRS],
-        listing: &[
-            CHAIRS_BEFORE_HOURS,
-            b"    4 HOURS    UL 100 0 NONE 100 10\n",
-            CHAIRS_BEHIND_HOURS,
+        text: &[
+            b"CONVERT PLAN     ROWS 5 COLUMNS 2 ENTRIES 4
+SETUP   PLAN     MAX
+PRIMAL OPTIMAL STEPS 3 OBJECTIVE 1120 CHECKED
+SOLUTION OPTIMAL
+SECTION 1 - ROWS
+NUMBER ROW AT ACTIVITY SLACK LOWER UPPER DUAL
+    1 PROFIT   BS 1120 -1120 NONE NONE 0
+    2 NORTH    BS 40 20 NONE 60 0
+    3 SOUTH    UL 60 0 NONE 60 2
+    4 HOURS    UL 100 0 NONE 100 10
+    5 SHARE    BS 0 0 0 NONE 0
+SECTION 2 - COLUMNS
+NUMBER COLUMN AT ACTIVITY COST LOWER UPPER REDUCED
+    6 CHAIRN   BS 20 20 0 NONE 0
+    7 CHAIRS   BS 40 18 0 NONE 0
+END 0
+",
         ],
         found: Finding::Attested(4),
+        cases: &[Case {
+            name: "another activity of a combination",
+            edit: Edit::Text(b"UL 100 0 NONE", b"UL 99 1 NONE"),
+            found: Finding::Wrong(4),
+        }],
     },
-    Row {
-        name: "another activity of a combination",
-        job: &[SOLVE_MAX, problems::CHAIRS],
-        listing: &[
-            CHAIRS_BEFORE_HOURS,
-            b"    4 HOURS    UL 99 1 NONE 100 10\n",
-            CHAIRS_BEHIND_HOURS,
-        ],
-        found: Finding::Wrong(4),
-    },
-    Row {
+    Listing {
         name: "a product of a combination is refused",
         job: &[SOLVE, problems::GREAT_PRODUCT],
-        listing: &[
+        text: &[
             b"CONVERT T        ROWS 3 COLUMNS 1 ENTRIES 2
 STOP 20 OVERFLOW F19 MUL 999999999000000000000000000 999999999000000000000000000 P 0 Q 0 I 3 J 4 TERM 0 THETA 0 CARD 3
 BASIS NONE
@@ -213,16 +190,13 @@ WAY NONE
 ",
         ],
         found: Finding::Open(2),
-    },
-    Row {
-        name: "a plan over numbers that can't be made",
-        job: &[SOLVE, problems::GREAT_PRODUCT],
-        listing: &[
-            b"CONVERT T        ROWS 3 COLUMNS 1 ENTRIES 2
-SETUP   T        MIN
-PRIMAL OPTIMAL STEPS 0 OBJECTIVE 0 CHECKED
-",
-        ],
-        found: Finding::Unchecked(2),
+        cases: &[Case {
+            name: "a plan over numbers that can't be made",
+            edit: Edit::From(
+                b"STOP 20",
+                b"SETUP   T        MIN\nPRIMAL OPTIMAL STEPS 0 OBJECTIVE 0 CHECKED\n",
+            ),
+            found: Finding::Unchecked(2),
+        }],
     },
 ];

@@ -1,7 +1,6 @@
 // What the checker of any length finds.
-use crate::jobs::Row;
-use crate::last_values::{FURTHER_RUNS, LAST_VALUES};
-use crate::listings::{Edit, Finding, Listing, edited, finds, first_wrong};
+use crate::last_values::{CONTINUATIONS, LAST_VALUES};
+use crate::listings::{Edit, Finding, Listing, edited, finds, first_other, first_wrong};
 use crate::long_plans::{CHAIN, CHAIN_OBJECTIVE, CHAIN_RHS, LONG_DIRECTION, LONG_RAY};
 use crate::parametric_runs::{
     INFEASIBLE_PAST, LAMPS, MILK, RHS_INTERVALS, RHS_POINT, TWO_INTERVALS, UNBOUNDED_OPENING,
@@ -108,16 +107,20 @@ fn no_test_is_refused(rt: HostRuntime) -> Result<(), Fail> {
 // Where a parametric run ends at a value that no cell holds, the walk goes on, also with another run that begins there.
 #[test]
 fn long_last_values_are_left(rt: HostRuntime) -> Result<(), Fail> {
-    let tables: [&[Row]; 2] = [&LAST_VALUES, &FURTHER_RUNS];
-    for rows in tables {
-        for row in rows {
-            let listing = row.listing.concat(rt.alloc())?;
-            assert!(rt;
-                finds::<OfAnyLength>(rt.alloc(), row.job, &listing, row.found)?,
-                "{}",
-                row.name
-            );
-        }
+    for listing in &LAST_VALUES {
+        assert_eq!(rt;
+            first_other::<OfAnyLength>(rt.alloc(), listing)?,
+            None,
+            "{}",
+            listing.name
+        );
+    }
+    for continuation in &CONTINUATIONS {
+        assert!(rt;
+            continuation.is_found::<OfAnyLength>(rt.alloc())?,
+            "{}",
+            continuation.name
+        );
     }
     Ok(())
 }
