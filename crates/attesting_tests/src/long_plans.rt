@@ -1,8 +1,8 @@
 // Plans and verdicts with numbers of more than 128 bits, worked out by hand: each number of a listing follows from those of its job
 // by a product or a quotient.
 use crate::listings::{Case, Edit, Finding, Listing};
-use test_decks::problems;
 use test_decks::programs::{PARAOBJ_TO_5, SOLVE};
+use test_decks::{problems, runs};
 
 /// A column that is a great multiple of another.
 pub const CHAIN: Listing = Listing {
@@ -212,13 +212,8 @@ END 0
 pub const LONG_RAY: Listing = Listing {
     name: "long ray",
     job: &[
-        b"         PROGRAM
-         CONVERT
-         SETUP
-         PRIMAL
-         EXIT
-         PEND
-NAME          RAY
+        runs::PRIMAL,
+        b"NAME          RAY
 ROWS
  N  COST
  G  LOW

@@ -1,7 +1,7 @@
 // Parametric runs.
 use crate::listings::{Case, Edit, Finding, Listing};
-use test_decks::problems;
 use test_decks::programs::{PARAOBJ_TO_5, PARARHS_TO_5};
+use test_decks::{listings, problems, runs};
 
 // The best point in the first interval.
 const FIRST_POINT: &[u8] = b"    1 COST     BS -8 0 0 0
@@ -22,18 +22,7 @@ const SECOND_POINT: &[u8] = b"    1 COST     BS -5 0 0 0
 /// A parametric run of the objective.
 pub const TWO_INTERVALS: Listing = Listing {
     name: "paraobj two intervals",
-    job: &[
-        b"         PROGRAM
-         CONVERT
-         SETUP('BOUND','BND')
-         MOVE(XCHROW,'CHG')
-         MOVE(XPARMAX,5)
-         PARAOBJ
-         EXIT
-         PEND
-",
-        problems::TWO,
-    ],
+    job: &[runs::PARAOBJ_BND_TO_5, problems::TWO],
     text: &[
         b"CONVERT TWO      ROWS 3 COLUMNS 2 ENTRIES 5
 SETUP   TWO      MIN
@@ -286,16 +275,7 @@ END 0
 pub const UNBOUNDED_OPENING: Listing = Listing {
     name: "unbounded opening",
     job: &[PARAOBJ_TO_5, problems::ENDLESS_UP_TO_1],
-    text: &[
-        b"CONVERT T        ROWS 2 COLUMNS 1 ENTRIES 2
-SETUP   T        MIN
-PARAOBJ UNBOUNDED STEPS 0 OBJECTIVE 0 CHECKED
-    1 COST     0 -1
-    2 CHG      0 1
-    3 X        0 1
-END 2
-",
-    ],
+    text: &[listings::ENDLESS_FOLLOWED],
     found: Finding::Attested(3),
     cases: &[Case {
         name: "another objective",
@@ -308,20 +288,7 @@ END 2
 pub const INFEASIBLE_PAST: Listing = Listing {
     name: "infeasible past",
     job: &[PARARHS_TO_5, problems::BOUNDED_ONE],
-    text: &[
-        b"CONVERT ONE      ROWS 2 COLUMNS 1 ENTRIES 2
-SETUP   ONE      MIN
-PARARHS FROM 0 CHANGE C
-INTERVAL 1 FROM 0 TO 2
-    1 COST     BS 1 1 0 0
-    2 LOW      LL 1 1 1 0
-    3 X        BS 1 1 0 0
-PARARHS INFEASIBLE PAST 2
-    2 LOW      -1
-    3 X        1
-END 0
-",
-    ],
+    text: &[listings::BOUNDED_ONE_FOLLOWED],
     found: Finding::Attested(3),
     cases: &[
         Case {
@@ -477,24 +444,7 @@ END 0
 pub const RHS_INTERVALS: Listing = Listing {
     name: "pararhs two intervals",
     job: &[PARARHS_TO_5, problems::TWO_SOURCES],
-    text: &[
-        b"CONVERT T        ROWS 2 COLUMNS 2 ENTRIES 4
-SETUP   T        MIN
-PARARHS FROM 0 CHANGE C
-INTERVAL 1 FROM 0 TO 2
-    1 COST     BS 1 1 0 0
-    2 LOW      LL 1 1 1 0
-    3 X        BS 1 1 0 0
-    4 Y        LL 0 0 1 0
-INTERVAL 2 FROM 2 TO 5
-    1 COST     BS -1 2 0 0
-    2 LOW      LL 1 1 2 0
-    3 X        UL 3 0 -1 0
-    4 Y        BS -2 1 0 0
-PARARHS ENDS AT 5
-END 0
-",
-    ],
+    text: &[listings::TWO_SOURCES_FOLLOWED],
     found: Finding::Attested(3),
     cases: &[],
 };
@@ -502,30 +452,8 @@ END 0
 /// One that is a point.
 pub const RHS_POINT: Listing = Listing {
     name: "pararhs point interval",
-    job: &[
-        b"         PROGRAM
-         CONVERT
-         SETUP('BOUND','BND')
-         MOVE(XCHCOL,'C')
-         MOVE(XPARMAX,0)
-         PARARHS
-         EXIT
-         PEND
-",
-        problems::BOUNDED_ONE,
-    ],
-    text: &[
-        b"CONVERT ONE      ROWS 2 COLUMNS 1 ENTRIES 2
-SETUP   ONE      MIN
-PARARHS FROM 0 CHANGE C
-INTERVAL 1 FROM 0 TO 0
-    1 COST     BS 1 1 0 0
-    2 LOW      LL 1 1 1 0
-    3 X        BS 1 1 0 0
-PARARHS ENDS AT 0
-END 0
-",
-    ],
+    job: &[runs::PARARHS_BND_TO_0, problems::BOUNDED_ONE],
+    text: &[listings::BOUNDED_ONE_AT_0],
     found: Finding::Attested(3),
     cases: &[],
 };

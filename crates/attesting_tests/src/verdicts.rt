@@ -1,7 +1,7 @@
 // Verdicts that there is no best plan.
 use crate::listings::{Case, Edit, Finding, Listing};
-use test_decks::problems;
 use test_decks::programs::SOLVE;
+use test_decks::{listings, problems};
 
 /// Limits that conflict.
 pub const CONFLICT: Listing = Listing {
@@ -129,15 +129,7 @@ END 1
 pub const INFEASIBLE: Listing = Listing {
     name: "infeasible ray",
     job: &[SOLVE, problems::CONFLICT],
-    text: &[
-        b"CONVERT T        ROWS 3 COLUMNS 1 ENTRIES 3
-SETUP   T        MIN
-PRIMAL INFEASIBLE STEPS 1 RAY CHECKED
-    2 LOW      -1
-    3 HIGH     1
-END 1
-",
-    ],
+    text: &[listings::CONFLICTING_LIMITS],
     found: Finding::Attested(3),
     cases: &[Case {
         name: "another factor",
