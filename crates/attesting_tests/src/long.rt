@@ -18,6 +18,7 @@ use checks_of_128_bits::Of128Bits;
 use checks_of_any_length::OfAnyLength;
 use std::alloc::Global;
 use std::test::Fail;
+use test_decks::parts::{PLAN_COLUMNS, PLAN_ROWS};
 use test_decks::programs::SOLVE;
 
 #[test]
@@ -149,39 +150,29 @@ COLUMNS
 ENDATA
 ";
 
-const BEFORE: &[u8] = b"CONVERT T        ROWS 2 COLUMNS 1 ENTRIES 1
-SETUP   T        MIN
-PRIMAL OPTIMAL STEPS 0 OBJECTIVE 0 CHECKED
-SOLUTION OPTIMAL
-SECTION 1 - ROWS
-NUMBER ROW AT ACTIVITY SLACK LOWER UPPER DUAL
-    1 COST     BS 0 0 NONE NONE 0
-    2 SUM      BS ";
-
-const BETWEEN: &[u8] = b" NONE NONE 0
-SECTION 2 - COLUMNS
-NUMBER COLUMN AT ACTIVITY COST LOWER UPPER REDUCED
-    3 X        BS ";
-
 // A plan whose column stands at a number of so many ones.
 fn plan_of_ones(alloc: Global, digits: usize) -> Result<Vec<u8>, Fail> {
     let mut ones = Vec::new(alloc);
     for _ in 0..digits {
         ones.push(b'1')?;
     }
-    let mut text = Vec::new(alloc);
-    for piece in [
-        BEFORE,
+    let pieces: [&[u8]; 11] = [
+        b"CONVERT T        ROWS 2 COLUMNS 1 ENTRIES 1
+SETUP   T        MIN
+PRIMAL OPTIMAL STEPS 0 OBJECTIVE 0 CHECKED
+",
+        PLAN_ROWS,
+        b"    1 COST     BS 0 0 NONE NONE 0\n    2 SUM      BS ",
         &ones,
         b" -",
         &ones,
-        BETWEEN,
+        b" NONE NONE 0\n",
+        PLAN_COLUMNS,
+        b"    3 X        BS ",
         &ones,
         b" 0 0 NONE 0\nEND 0\n",
-    ] {
-        text.extend_from_slice(piece)?;
-    }
-    Ok(text)
+    ];
+    Ok(pieces.concat(alloc)?)
 }
 
 #[test]

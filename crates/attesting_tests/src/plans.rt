@@ -1,6 +1,7 @@
 // Plans and their solutions.
 use crate::listings::{Case, Edit, Finding, Listing};
 use crate::store::{STORE_FROM_EXIT, STORE_SOLUTION, STORE_TO_PRIMAL, STORE_VERDICT};
+use test_decks::parts::{PLAN_COLUMNS, PLAN_ROWS};
 use test_decks::problems;
 use test_decks::programs::{SOLVE, SOLVE_BND1};
 
@@ -214,17 +215,15 @@ SETUP   TESTPROB MIN
 PRIMAL OPTIMAL STEPS 3 OBJECTIVE 54 CHECKED
 ";
 
-// The plan of TESTPROB, as SOLUTION shows it.
-const TESTPROB_SOLUTION: &[u8] = b"SOLUTION OPTIMAL
-SECTION 1 - ROWS
-NUMBER ROW AT ACTIVITY SLACK LOWER UPPER DUAL
-    1 COST     BS 54 -54 NONE NONE 0
+// The rows of its plan.
+const TESTPROB_ROWS: &[u8] = b"    1 COST     BS 54 -54 NONE NONE 0
     2 LIM1     BS 3 2 NONE 5 0
     3 LIM2     LL 10 0 10 NONE 1
     4 MYEQN    EQ 7 0 7 7 8
-SECTION 2 - COLUMNS
-NUMBER COLUMN AT ACTIVITY COST LOWER UPPER REDUCED
-    5 XONE     BS 4 1 0 4 0
+";
+
+// The columns of its plan.
+const TESTPROB_COLUMNS: &[u8] = b"    5 XONE     BS 4 1 0 4 0
     6 YTWO     LL -1 4 -1 1 12
     7 ZTHREE   BS 6 9 0 NONE 0
 ";
@@ -233,7 +232,14 @@ NUMBER COLUMN AT ACTIVITY COST LOWER UPPER REDUCED
 pub const TESTPROB: Listing = Listing {
     name: "testprob",
     job: &[SOLVE_BND1, problems::TESTPROB_CARDS, problems::ENDATA],
-    text: &[TESTPROB_VERDICT, TESTPROB_SOLUTION, b"END 0\n"],
+    text: &[
+        TESTPROB_VERDICT,
+        PLAN_ROWS,
+        TESTPROB_ROWS,
+        PLAN_COLUMNS,
+        TESTPROB_COLUMNS,
+        b"END 0\n",
+    ],
     found: Finding::Attested(4),
     cases: &[],
 };
@@ -256,29 +262,32 @@ pub const TWO_SOLUTIONS: Listing = Listing {
     ],
     text: &[
         TESTPROB_VERDICT,
-        TESTPROB_SOLUTION,
-        TESTPROB_SOLUTION,
+        PLAN_ROWS,
+        TESTPROB_ROWS,
+        PLAN_COLUMNS,
+        TESTPROB_COLUMNS,
+        PLAN_ROWS,
+        TESTPROB_ROWS,
+        PLAN_COLUMNS,
+        TESTPROB_COLUMNS,
         b"END 0\n",
     ],
     found: Finding::Attested(5),
     cases: &[Case {
         name: "another second solution",
         edit: Edit::Parts(
-            &[TESTPROB_SOLUTION, TESTPROB_SOLUTION],
+            &[TESTPROB_ROWS, PLAN_COLUMNS, TESTPROB_COLUMNS, b"END 0\n"],
             &[
-                TESTPROB_SOLUTION,
-                b"SOLUTION OPTIMAL
-SECTION 1 - ROWS
-NUMBER ROW AT ACTIVITY SLACK LOWER UPPER DUAL
-    1 COST     BS 55 -55 NONE NONE 0
+                b"    1 COST     BS 55 -55 NONE NONE 0
     2 LIM1     BS 4 1 NONE 5 0
     3 LIM2     LL 11 -1 10 NONE 1
     4 MYEQN    EQ 7 0 7 7 8
-SECTION 2 - COLUMNS
-NUMBER COLUMN AT ACTIVITY COST LOWER UPPER REDUCED
-    5 XONE     BS 5 1 0 4 0
+",
+                PLAN_COLUMNS,
+                b"    5 XONE     BS 5 1 0 4 0
     6 YTWO     LL -1 4 -1 1 12
     7 ZTHREE   BS 6 9 0 NONE 0
+END 0
 ",
             ],
         ),
@@ -309,14 +318,13 @@ ENDATA
         b"CONVERT T        ROWS 2 COLUMNS 2 ENTRIES 4
 SETUP   T        MIN
 PRIMAL OPTIMAL STEPS 1 OBJECTIVE -4 CHECKED
-SOLUTION OPTIMAL
-SECTION 1 - ROWS
-NUMBER ROW AT ACTIVITY SLACK LOWER UPPER DUAL
-    1 COST     BS -4 4 NONE NONE 0
+",
+        PLAN_ROWS,
+        b"    1 COST     BS -4 4 NONE NONE 0
     2 LIM      UL 4 0 NONE 4 -1
-SECTION 2 - COLUMNS
-NUMBER COLUMN AT ACTIVITY COST LOWER UPPER REDUCED
-    3 X        BS 4 -1 0 NONE 0
+",
+        PLAN_COLUMNS,
+        b"    3 X        BS 4 -1 0 NONE 0
     4 Y        LL 0 -1 0 NONE 0
 END 0
 ",
@@ -363,14 +371,13 @@ ENDATA
         b"CONVERT  A       ROWS 2 COLUMNS 1 ENTRIES 2
 SETUP    A       MIN
 PRIMAL OPTIMAL STEPS 0 OBJECTIVE 0 CHECKED
-SOLUTION OPTIMAL
-SECTION 1 - ROWS
-NUMBER ROW AT ACTIVITY SLACK LOWER UPPER DUAL
-    1  COST    BS 0 0 NONE NONE 0
+",
+        PLAN_ROWS,
+        b"    1  COST    BS 0 0 NONE NONE 0
     2 12 3     BS 0 4 NONE 4 0
-SECTION 2 - COLUMNS
-NUMBER COLUMN AT ACTIVITY COST LOWER UPPER REDUCED
-    3 1        LL 0 1 0 NONE 1
+",
+        PLAN_COLUMNS,
+        b"    3 1        LL 0 1 0 NONE 1
 END 0
 ",
     ],

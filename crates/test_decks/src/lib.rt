@@ -2,6 +2,7 @@
 #![tactic(auto)]
 
 pub mod listings;
+pub mod parts;
 pub mod problems;
 pub mod programs;
 pub mod runs;

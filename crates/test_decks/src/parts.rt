@@ -1,0 +1,12 @@
+//! Parts that stand in many listings.
+
+/// What SOLUTION shows of a best plan before its rows.
+pub const PLAN_ROWS: &[u8] = b"SOLUTION OPTIMAL
+SECTION 1 - ROWS
+NUMBER ROW AT ACTIVITY SLACK LOWER UPPER DUAL
+";
+
+/// What it shows between the rows and the columns.
+pub const PLAN_COLUMNS: &[u8] = b"SECTION 2 - COLUMNS
+NUMBER COLUMN AT ACTIVITY COST LOWER UPPER REDUCED
+";
