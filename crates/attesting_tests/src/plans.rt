@@ -1,7 +1,7 @@
 // Plans and their solutions.
 use crate::listings::{Case, Edit, Finding, Listing};
 use crate::store::{STORE_FROM_EXIT, STORE_SOLUTION, STORE_TO_PRIMAL, STORE_VERDICT};
-use test_decks::parts::{PLAN_COLUMNS, PLAN_ROWS};
+use test_decks::parts::{ONE_LIMIT, PLAN_COLUMNS, PLAN_ROWS};
 use test_decks::problems;
 use test_decks::programs::{SOLVE, SOLVE_BND1};
 
@@ -300,12 +300,8 @@ pub const TIES: Listing = Listing {
     name: "ties",
     job: &[
         SOLVE,
-        b"NAME          T
-ROWS
- N  COST
- L  LIM
-COLUMNS
-    X         COST      -1
+        ONE_LIMIT,
+        b"    X         COST      -1
     X         LIM       1
     Y         COST      -1
     Y         LIM       1

@@ -1,6 +1,6 @@
 // Listings in whose tests an operation is refused.
 use crate::listings::{Case, Edit, Finding, Listing};
-use test_decks::parts::{PLAN_COLUMNS, PLAN_ROWS};
+use test_decks::parts::{ONE_DEMAND, PLAN_COLUMNS, PLAN_ROWS};
 use test_decks::problems;
 use test_decks::programs::SOLVE;
 
@@ -43,6 +43,13 @@ END 0
     }],
 };
 
+// The stop at the sum of a range, before the number of its card.
+const SUM_REFUSED: &[u8] =
+    b"STOP 20 OVERFLOW F13 SUB 999999999000000000000000000 1/10000000000000000000 P 0 Q 0 I 2 J 0 TERM 1 THETA 0 CARD\x20";
+
+// The rest of that stop, where there is no basis.
+const NO_BASIS: &[u8] = b"\nBASIS NONE\nWAY NONE\n";
+
 /// A range whose sum is refused, in a listing as if it were selected.
 pub const RANGE_REFUSED: Listing = Listing {
     name: "a range that is refused",
@@ -70,12 +77,9 @@ pub const RANGE_REFUSED: Listing = Listing {
         },
         Case {
             name: "its own stop",
-            edit: Edit::From(
-                b"SETUP",
-                b"STOP 20 OVERFLOW F13 SUB 999999999000000000000000000 1/10000000000000000000 P 0 Q 0 I 2 J 0 TERM 1 THETA 0 CARD 3
-BASIS NONE
-WAY NONE
-",
+            edit: Edit::Parts(
+                &[b"SETUP   T        MIN\nEND 0\n"],
+                &[SUM_REFUSED, b"3", NO_BASIS],
             ),
             found: Finding::Open(2),
         },
@@ -107,43 +111,40 @@ END 0
     found: Finding::Open(3),
     cases: &[Case {
         name: "its own stop",
-        edit: Edit::Text(
-            b"CHECKED\nSETUP   T        MIN\nEND 0\n",
-            b"CHECKED
-STOP 20 OVERFLOW F13 SUB 999999999000000000000000000 1/10000000000000000000 P 0 Q 0 I 2 J 0 TERM 1 THETA 0 CARD 5
-BASIS NONE
-WAY NONE
-",
+        edit: Edit::Parts(
+            &[b"SETUP   T        MIN\nEND 0\n"],
+            &[SUM_REFUSED, b"5", NO_BASIS],
         ),
         found: Finding::Open(4),
     }],
 };
 
-/// INSERT, at whose selection the range is refused, as if the basis were taken. Its deck puts the row at the limit that the range gives.
-pub const INSERT_REFUSED: Listing = Listing {
-    name: "a range that is refused at INSERT",
-    job: &[
-        b"         PROGRAM
+// Selects a range, and inserts a basis once another right-hand side is the present one.
+const INSERT_IN_RANGE: &[u8] = b"         PROGRAM
          CONVERT
          SETUP('RANGE','R')
          MOVE(XRHS,'B')
          INSERT
          EXIT
          PEND
-",
-        problems::FAR_RANGE_OF_B,
-        b"NAME          D
- XL X         LIM
-ENDATA
-",
-    ],
-    text: &[
-        b"CONVERT T        ROWS 2 COLUMNS 1 ENTRIES 1
+";
+
+// The listing where the basis is taken.
+const INSERTED: &[u8] = b"CONVERT T        ROWS 2 COLUMNS 1 ENTRIES 1
 SETUP   T        MIN
 INSERT  D        BASIC 1
 END 0
-",
+";
+
+/// INSERT, at whose selection the range is refused, as if the basis were taken. Its deck puts the row at the limit that the range gives.
+pub const INSERT_REFUSED: Listing = Listing {
+    name: "a range that is refused at INSERT",
+    job: &[
+        INSERT_IN_RANGE,
+        problems::FAR_RANGE_OF_B,
+        b"NAME          D\n XL X         LIM\nENDATA\n",
     ],
+    text: &[INSERTED],
     found: Finding::Open(3),
     cases: &[
         Case {
@@ -158,12 +159,9 @@ END 0
         },
         Case {
             name: "its own stop",
-            edit: Edit::From(
-                b"INSERT",
-                b"STOP 20 OVERFLOW F13 SUB 999999999000000000000000000 1/10000000000000000000 P 0 Q 0 I 2 J 0 TERM 1 THETA 0 CARD 5
-BASIS NONE
-WAY NONE
-",
+            edit: Edit::Parts(
+                &[b"INSERT  D        BASIC 1\nEND 0\n"],
+                &[SUM_REFUSED, b"5", NO_BASIS],
             ),
             found: Finding::Open(3),
         },
@@ -174,27 +172,11 @@ WAY NONE
 pub const BAD_INSERT_REFUSED: Listing = Listing {
     name: "a range that is refused at INSERT of a bad deck",
     job: &[
-        b"         PROGRAM
-         CONVERT
-         SETUP('RANGE','R')
-         MOVE(XRHS,'B')
-         INSERT
-         EXIT
-         PEND
-",
+        INSERT_IN_RANGE,
         problems::FAR_RANGE_OF_B,
-        b"NAME          D
- XL X         COST
-ENDATA
-",
+        b"NAME          D\n XL X         COST\nENDATA\n",
     ],
-    text: &[
-        b"CONVERT T        ROWS 2 COLUMNS 1 ENTRIES 1
-SETUP   T        MIN
-INSERT  D        BASIC 1
-END 0
-",
-    ],
+    text: &[INSERTED],
     found: Finding::Unchecked(3),
     cases: &[],
 };
@@ -212,12 +194,9 @@ pub const FAR_POINT: Listing = Listing {
          PARARHS
          EXIT
          PEND
-NAME          T
-ROWS
- N  COST
- G  LOW
-COLUMNS
-    X         COST      1
+",
+        ONE_DEMAND,
+        b"    X         COST      1
     X         LOW       1
 RHS
     B         LOW       .1E-18

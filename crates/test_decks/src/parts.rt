@@ -1,4 +1,20 @@
-//! Parts that stand in many listings.
+//! Parts that stand in several decks, and in many listings.
+
+/// A problem down to the head of its columns, with an objective and a row that has an upper limit.
+pub const ONE_LIMIT: &[u8] = b"NAME          T
+ROWS
+ N  COST
+ L  LIM
+COLUMNS
+";
+
+/// The same with a row that has a lower limit.
+pub const ONE_DEMAND: &[u8] = b"NAME          T
+ROWS
+ N  COST
+ G  LOW
+COLUMNS
+";
 
 /// What SOLUTION shows of a best plan before its rows.
 pub const PLAN_ROWS: &[u8] = b"SOLUTION OPTIMAL
