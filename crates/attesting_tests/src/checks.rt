@@ -1,6 +1,6 @@
-// Listings as they are, and changed.
+// What the checker of 128 bits finds, and what both checkers find alike.
 use crate::jobs::JOBS;
-use crate::listings::{first_other, first_wrong};
+use crate::listings::first_wrong;
 use crate::parametric_runs::{
     INFEASIBLE_PAST, LAMPS, MILK, RHS_INTERVALS, RHS_POINT, TWO_INTERVALS, UNBOUNDED_OPENING,
 };
@@ -10,44 +10,15 @@ use crate::refused::{
 };
 use crate::verdicts::{CONFLICT, INFEASIBLE, UNBOUNDED};
 use checks_of_128_bits::Of128Bits;
+use checks_of_any_length::OfAnyLength;
+use listing_claims::Checks;
+use std::alloc::Global;
 use std::test::Fail;
 
 #[test]
-fn plans_are_attested(rt: HostRuntime) -> Result<(), Fail> {
+fn listings_are_attested(rt: HostRuntime) -> Result<(), Fail> {
     assert_eq!(rt;
-        first_wrong::<Of128Bits>(
-            rt.alloc(),
-            &[&STORE, &TESTPROB, &TWO_SOLUTIONS, &TIES, &BLANKS]
-        )?,
-        None
-    );
-    Ok(())
-}
-
-#[test]
-fn verdicts_are_attested(rt: HostRuntime) -> Result<(), Fail> {
-    assert_eq!(rt;
-        first_wrong::<Of128Bits>(rt.alloc(), &[&CONFLICT, &INFEASIBLE, &UNBOUNDED])?,
-        None
-    );
-    Ok(())
-}
-
-#[test]
-fn parametric_runs_are_attested(rt: HostRuntime) -> Result<(), Fail> {
-    assert_eq!(rt;
-        first_wrong::<Of128Bits>(
-            rt.alloc(),
-            &[
-                &TWO_INTERVALS,
-                &LAMPS,
-                &UNBOUNDED_OPENING,
-                &INFEASIBLE_PAST,
-                &MILK,
-                &RHS_INTERVALS,
-                &RHS_POINT
-            ]
-        )?,
+        first_wrong::<Of128Bits>(rt.alloc(), &[&STORE, &TESTPROB, &CONFLICT])?,
         None
     );
     Ok(())
@@ -56,17 +27,7 @@ fn parametric_runs_are_attested(rt: HostRuntime) -> Result<(), Fail> {
 #[test]
 fn refused_operations_are_reported(rt: HostRuntime) -> Result<(), Fail> {
     assert_eq!(rt;
-        first_wrong::<Of128Bits>(
-            rt.alloc(),
-            &[
-                &GREAT,
-                &RANGE_REFUSED,
-                &RANGE_AFTER_PRIMAL,
-                &INSERT_REFUSED,
-                &BAD_INSERT_REFUSED,
-                &FAR_POINT
-            ]
-        )?,
+        first_wrong::<Of128Bits>(rt.alloc(), &[&GREAT, &FAR_POINT])?,
         None
     );
     Ok(())
@@ -74,13 +35,41 @@ fn refused_operations_are_reported(rt: HostRuntime) -> Result<(), Fail> {
 
 #[test]
 fn jobs_decide_what_is_due(rt: HostRuntime) -> Result<(), Fail> {
-    for listing in &JOBS {
-        assert_eq!(rt;
-            first_other::<Of128Bits>(rt.alloc(), listing)?,
-            None,
-            "{}",
-            listing.name
-        );
-    }
+    assert_eq!(rt; first_wrong::<Of128Bits>(rt.alloc(), &JOBS)?, None);
+    Ok(())
+}
+
+// The first of the listings with short numbers that is answered otherwise by a checker.
+fn first_wrong_in_short<T: Checks>(
+    alloc: Global,
+) -> Result<Option<(&'static str, &'static str)>, Fail> {
+    first_wrong::<T>(
+        alloc,
+        &[
+            &TWO_SOLUTIONS,
+            &TIES,
+            &BLANKS,
+            &INFEASIBLE,
+            &UNBOUNDED,
+            &TWO_INTERVALS,
+            &LAMPS,
+            &UNBOUNDED_OPENING,
+            &INFEASIBLE_PAST,
+            &MILK,
+            &RHS_INTERVALS,
+            &RHS_POINT,
+            &RANGE_REFUSED,
+            &RANGE_AFTER_PRIMAL,
+            &INSERT_REFUSED,
+            &BAD_INSERT_REFUSED,
+        ],
+    )
+}
+
+// A selection that is refused is among them.
+#[test]
+fn short_numbers_are_answered_alike(rt: HostRuntime) -> Result<(), Fail> {
+    assert_eq!(rt; first_wrong_in_short::<Of128Bits>(rt.alloc())?, None);
+    assert_eq!(rt; first_wrong_in_short::<OfAnyLength>(rt.alloc())?, None);
     Ok(())
 }

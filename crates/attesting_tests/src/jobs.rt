@@ -5,8 +5,8 @@ use test_decks::programs::{SOLVE, SOLVE_MAX};
 use test_decks::{listings, problems, runs};
 
 /// These jobs with their listings.
-pub const JOBS: [Listing; 11] = [
-    Listing {
+pub const JOBS: [&Listing; 11] = [
+    &Listing {
         name: "store without SOLUTION",
         job: &[STORE_TO_PRIMAL, STORE_FROM_EXIT, problems::STORE],
         text: &[STORE_VERDICT, b"END 0\n"],
@@ -17,7 +17,7 @@ pub const JOBS: [Listing; 11] = [
             found: Finding::Open(4),
         }],
     },
-    Listing {
+    &Listing {
         name: "a cell is moved before SOLUTION",
         job: &[
             STORE_TO_PRIMAL,
@@ -29,7 +29,7 @@ pub const JOBS: [Listing; 11] = [
         found: Finding::Open(4),
         cases: &[],
     },
-    Listing {
+    &Listing {
         name: "a second PRIMAL",
         job: &[
             STORE_TO_PRIMAL,
@@ -46,7 +46,7 @@ pub const JOBS: [Listing; 11] = [
         found: Finding::Open(4),
         cases: &[],
     },
-    Listing {
+    &Listing {
         name: "a title before SOLUTION",
         job: &[
             STORE_TO_PRIMAL,
@@ -62,14 +62,14 @@ pub const JOBS: [Listing; 11] = [
             found: Finding::Open(5),
         }],
     },
-    Listing {
+    &Listing {
         name: "ranges",
         job: &[runs::RANGE_BND, problems::TWO],
         text: &[listings::TWO_RANGED],
         found: Finding::Open(4),
         cases: &[],
     },
-    Listing {
+    &Listing {
         name: "a limit of steps",
         job: &[
             runs::SOLVE_BND1_IN_2_STEPS,
@@ -80,7 +80,7 @@ pub const JOBS: [Listing; 11] = [
         found: Finding::Open(3),
         cases: &[],
     },
-    Listing {
+    &Listing {
         name: "an empty job",
         job: &[],
         text: &[b"STOP 8 CONTROL FAULT 1 CARD 0\n"],
@@ -98,21 +98,21 @@ pub const JOBS: [Listing; 11] = [
             },
         ],
     },
-    Listing {
+    &Listing {
         name: "a tab",
         job: &[b"\tPROGRAM\n"],
         text: &[b"STOP 13 CARD FAULT 4 CARD 1\n"],
         found: Finding::Attested(0),
         cases: &[],
     },
-    Listing {
+    &Listing {
         name: "a title like an end",
         job: &[b"         PROGRAM\n         TITLE('END 0')\n         EXIT\n         PEND\n"],
         text: &[b"TITLE END 0\nEND 0\n"],
         found: Finding::Attested(1),
         cases: &[],
     },
-    Listing {
+    &Listing {
         name: "a plan over combinations",
         job: &[SOLVE_MAX, problems::CHAIRS],
         text: &[listings::CHAIRS_SOLVED],
@@ -123,7 +123,7 @@ pub const JOBS: [Listing; 11] = [
             found: Finding::Wrong(4),
         }],
     },
-    Listing {
+    &Listing {
         name: "a product of a combination is refused",
         job: &[SOLVE, problems::GREAT_PRODUCT],
         text: &[listings::GREAT_PRODUCT_REFUSED],

@@ -82,8 +82,8 @@ const RHS_POINT: &[u8] = b"    1 COST     BS 0 0 0 0
 const RAY: &[u8] = b"    2 R        1\n    3 X        -1\n";
 
 /// Listings of such runs.
-pub const LAST_VALUES: [Listing; 5] = [
-    Listing {
+pub const LAST_VALUES: [&Listing; 5] = [
+    &Listing {
         name: "the program's end",
         job: &[FIRST_RUN, EXIT, problems::FAR_CHANGE],
         text: &[SELECTED, RUN_FROM_0, POINT_AND_DIRECTION, b"END 0\n"],
@@ -94,14 +94,14 @@ pub const LAST_VALUES: [Listing; 5] = [
             found: Finding::Wrong(3),
         }],
     },
-    Listing {
+    &Listing {
         name: "no EXIT",
         job: &[FIRST_RUN, b"         PEND\n", problems::FAR_CHANGE],
         text: &[SELECTED, RUN_FROM_0, POINT_AND_DIRECTION, b"END 0\n"],
         found: Finding::Attested(3),
         cases: &[],
     },
-    Listing {
+    &Listing {
         name: "another run that is unbounded there",
         job: &[
             FIRST_RUN,
@@ -138,7 +138,7 @@ END 2
             found: Finding::Wrong(14),
         }],
     },
-    Listing {
+    &Listing {
         name: "another run of the right-hand side",
         job: &[
             FIRST_RHS_RUN,
@@ -165,7 +165,7 @@ INTERVAL 1 FROM 0 TO 1/99999999000000000000000000000000000000000000
         found: Finding::Attested(4),
         cases: &[],
     },
-    Listing {
+    &Listing {
         name: "another run that is infeasible there",
         job: &[
             FIRST_RHS_RUN,

@@ -158,12 +158,9 @@ pub fn finds<T: Checks>(
     Ok(answer.is(found.status(), found.line(alloc)?.as_bytes()))
 }
 
-/// The first change of a listing after which a checker answers with another finding, or which can't be made. The listing as it is
-/// comes before its changes.
-pub fn first_other<T: Checks>(
-    alloc: Global,
-    listing: &Listing,
-) -> Result<Option<&'static str>, Fail> {
+// The first change of a listing after which a checker answers with another finding, or which can't be made. The listing as it is
+// comes before its changes.
+fn first_other<T: Checks>(alloc: Global, listing: &Listing) -> Result<Option<&'static str>, Fail> {
     let text = listing.text.concat(alloc)?;
     if !finds::<T>(alloc, listing.job, &text, listing.found)? {
         return Ok(Some("as it is"));

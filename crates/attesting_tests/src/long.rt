@@ -1,19 +1,13 @@
 // What the checker of any length finds.
 use crate::last_values::{CONTINUATIONS, LAST_VALUES};
-use crate::listings::{Edit, Finding, Listing, edited, finds, first_other, first_wrong};
+use crate::listings::{Edit, Finding, edited, finds, first_wrong};
 use crate::long_plans::{CHAIN, CHAIN_OBJECTIVE, CHAIN_RHS, LONG_DIRECTION, LONG_RAY};
-use crate::parametric_runs::{
-    INFEASIBLE_PAST, LAMPS, MILK, RHS_INTERVALS, RHS_POINT, TWO_INTERVALS, UNBOUNDED_OPENING,
-};
-use crate::plans::{BLANKS, STORE, TIES, TWO_SOLUTIONS};
+use crate::plans::STORE;
 use crate::random_plans::{
     CUT_SECOND_ROW, CUT_THIRD_ROW, CUT_VERDICT, FIRST_PLAN, MISSING_ROW, RandomPlan, SECOND_PLAN,
     THIRD_PLAN, WRONG_LETTER, WRONG_SLACK,
 };
-use crate::refused::{
-    BAD_INSERT_REFUSED, FAR_POINT, GREAT, INSERT_REFUSED, RANGE_AFTER_PRIMAL, RANGE_REFUSED,
-};
-use crate::verdicts::{INFEASIBLE, UNBOUNDED};
+use crate::refused::{FAR_POINT, GREAT};
 use checks_of_128_bits::Of128Bits;
 use checks_of_any_length::OfAnyLength;
 use std::alloc::Global;
@@ -58,36 +52,6 @@ fn random_plans_are_tested(rt: HostRuntime) -> Result<(), Fail> {
     Ok(())
 }
 
-// Of these the same is found as by 128 bits, a selection that is refused among them.
-#[test]
-fn short_numbers_are_answered_alike(rt: HostRuntime) -> Result<(), Fail> {
-    assert_eq!(rt;
-        first_wrong::<OfAnyLength>(
-            rt.alloc(),
-            &[
-                &TWO_SOLUTIONS,
-                &TIES,
-                &BLANKS,
-                &INFEASIBLE,
-                &UNBOUNDED,
-                &TWO_INTERVALS,
-                &LAMPS,
-                &UNBOUNDED_OPENING,
-                &INFEASIBLE_PAST,
-                &MILK,
-                &RHS_INTERVALS,
-                &RHS_POINT,
-                &RANGE_REFUSED,
-                &RANGE_AFTER_PRIMAL,
-                &INSERT_REFUSED,
-                &BAD_INSERT_REFUSED
-            ]
-        )?,
-        None
-    );
-    Ok(())
-}
-
 // A test that 128 bits refuse is made.
 #[test]
 fn no_test_is_refused(rt: HostRuntime) -> Result<(), Fail> {
@@ -108,14 +72,7 @@ fn no_test_is_refused(rt: HostRuntime) -> Result<(), Fail> {
 // Where a parametric run ends at a value that no cell holds, the walk goes on, also with another run that begins there.
 #[test]
 fn long_last_values_are_left(rt: HostRuntime) -> Result<(), Fail> {
-    for listing in &LAST_VALUES {
-        assert_eq!(rt;
-            first_other::<OfAnyLength>(rt.alloc(), listing)?,
-            None,
-            "{}",
-            listing.name
-        );
-    }
+    assert_eq!(rt; first_wrong::<OfAnyLength>(rt.alloc(), &LAST_VALUES)?, None);
     for continuation in &CONTINUATIONS {
         assert!(rt;
             continuation.is_found::<OfAnyLength>(rt.alloc())?,
