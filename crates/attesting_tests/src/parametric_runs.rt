@@ -19,6 +19,14 @@ const SECOND_POINT: &[u8] = b"    1 COST     BS -5 0 0 0
     5 Y        BS 1 0 0 0
 ";
 
+// Both intervals with their points.
+const BOTH_INTERVALS: &[&[u8]] = &[
+    b"INTERVAL 1 FROM 0 TO 1\n",
+    FIRST_POINT,
+    b"INTERVAL 2 FROM 1 TO 5\n",
+    SECOND_POINT,
+];
+
 /// A parametric run of the objective.
 pub const TWO_INTERVALS: Listing = Listing {
     name: "paraobj two intervals",
@@ -52,12 +60,7 @@ INTERVAL 1 FROM 0 TO 1
         Case {
             name: "a point in front",
             edit: Edit::Parts(
-                &[
-                    b"INTERVAL 1 FROM 0 TO 1\n",
-                    FIRST_POINT,
-                    b"INTERVAL 2 FROM 1 TO 5\n",
-                    SECOND_POINT,
-                ],
+                BOTH_INTERVALS,
                 &[
                     b"INTERVAL 1 FROM 0 TO 0
     1 COST     BS -8 7 0 0
@@ -77,12 +80,7 @@ INTERVAL 2 FROM 0 TO 1
         Case {
             name: "right at both ends alone",
             edit: Edit::Parts(
-                &[
-                    b"INTERVAL 1 FROM 0 TO 1\n",
-                    FIRST_POINT,
-                    b"INTERVAL 2 FROM 1 TO 5\n",
-                    SECOND_POINT,
-                ],
+                BOTH_INTERVALS,
                 &[
                     b"INTERVAL 1 FROM 0 TO 5
     1 COST     BS -8 3/5 0 0
@@ -118,15 +116,7 @@ INTERVAL 2 FROM 0 TO 1
         },
         Case {
             name: "the first interval carried on",
-            edit: Edit::Parts(
-                &[
-                    b"INTERVAL 1 FROM 0 TO 1\n",
-                    FIRST_POINT,
-                    b"INTERVAL 2 FROM 1 TO 5\n",
-                    SECOND_POINT,
-                ],
-                &[b"INTERVAL 1 FROM 0 TO 5\n", FIRST_POINT],
-            ),
+            edit: Edit::Parts(BOTH_INTERVALS, &[b"INTERVAL 1 FROM 0 TO 5\n", FIRST_POINT]),
             found: Finding::Wrong(3),
         },
         Case {
@@ -154,15 +144,7 @@ INTERVAL 2 FROM 0 TO 1
         },
         Case {
             name: "no interval",
-            edit: Edit::Parts(
-                &[
-                    b"INTERVAL 1 FROM 0 TO 1\n",
-                    FIRST_POINT,
-                    b"INTERVAL 2 FROM 1 TO 5\n",
-                    SECOND_POINT,
-                ],
-                &[],
-            ),
+            edit: Edit::Parts(BOTH_INTERVALS, &[]),
             found: Finding::Wrong(3),
         },
         Case {
@@ -284,6 +266,9 @@ pub const UNBOUNDED_OPENING: Listing = Listing {
     }],
 };
 
+// The ray past the value 2.
+const RAY_PAST_2: &[u8] = b"    2 LOW      -1\n    3 X        1\n";
+
 /// A parametric run that ends with a ray.
 pub const INFEASIBLE_PAST: Listing = Listing {
     name: "infeasible past",
@@ -293,45 +278,29 @@ pub const INFEASIBLE_PAST: Listing = Listing {
     cases: &[
         Case {
             name: "the ray times seven",
-            edit: Edit::Text(
-                b"PARARHS INFEASIBLE PAST 2\n    2 LOW      -1\n    3 X        1\n",
-                b"PARARHS INFEASIBLE PAST 2\n    2 LOW      -7\n    3 X        7\n",
-            ),
+            edit: Edit::Text(RAY_PAST_2, b"    2 LOW      -7\n    3 X        7\n"),
             found: Finding::Attested(3),
         },
         Case {
             name: "the ray turned",
-            edit: Edit::Text(
-                b"PARARHS INFEASIBLE PAST 2\n    2 LOW      -1\n    3 X        1\n",
-                b"PARARHS INFEASIBLE PAST 2\n    2 LOW      1\n    3 X        -1\n",
-            ),
+            edit: Edit::Text(RAY_PAST_2, b"    2 LOW      1\n    3 X        -1\n"),
             found: Finding::Wrong(3),
         },
         Case {
             name: "no ray",
-            edit: Edit::Text(
-                b"PARARHS INFEASIBLE PAST 2\n    2 LOW      -1\n    3 X        1\n",
-                b"PARARHS INFEASIBLE PAST 2\n",
-            ),
+            edit: Edit::Text(RAY_PAST_2, b""),
             found: Finding::Wrong(3),
         },
         Case {
             name: "lines exchanged",
-            edit: Edit::Text(
-                b"PARARHS INFEASIBLE PAST 2\n    2 LOW      -1\n    3 X        1\n",
-                b"PARARHS INFEASIBLE PAST 2\n    3 X        1\n    2 LOW      -1\n",
-            ),
+            edit: Edit::Text(RAY_PAST_2, b"    3 X        1\n    2 LOW      -1\n"),
             found: Finding::Wrong(3),
         },
         Case {
             name: "a zero",
             edit: Edit::Text(
-                b"PARARHS INFEASIBLE PAST 2\n    2 LOW      -1\n    3 X        1\n",
-                b"PARARHS INFEASIBLE PAST 2
-    1 COST     0
-    2 LOW      -1
-    3 X        1
-",
+                RAY_PAST_2,
+                b"    1 COST     0\n    2 LOW      -1\n    3 X        1\n",
             ),
             found: Finding::Wrong(3),
         },
@@ -363,6 +332,14 @@ PARARHS INFEASIBLE PAST 3",
         },
     ],
 };
+
+// The best point where the farm delivers all that it has.
+const FARM_AT_40: &[u8] = b"    1 COST     BS 70 5 0 0
+    2 NEED     LL 30 1 5 0
+    3 TRIPS    BS 10 1 0 0
+    4 FARM     UL 40 0 -2 0
+    5 COOP     BS -10 1 0 0
+";
 
 /// Two parametric runs of the right-hand side.
 pub const MILK: Listing = Listing {
@@ -412,20 +389,14 @@ INTERVAL 1 FROM 0 TO 10
     4 FARM     BS 30 1 0 0
     5 COOP     LL 0 0 2 0
 INTERVAL 2 FROM 10 TO 15
-    1 COST     BS 70 5 0 0
-    2 NEED     LL 30 1 5 0
-    3 TRIPS    BS 10 1 0 0
-    4 FARM     UL 40 0 -2 0
-    5 COOP     BS -10 1 0 0
-PARARHS ENDS AT 15
+",
+        FARM_AT_40,
+        b"PARARHS ENDS AT 15
 PARARHS FROM 15 CHANGE MORE
 INTERVAL 1 FROM 15 TO 18
-    1 COST     BS 70 5 0 0
-    2 NEED     LL 30 1 5 0
-    3 TRIPS    BS 10 1 0 0
-    4 FARM     UL 40 0 -2 0
-    5 COOP     BS -10 1 0 0
-PARARHS INFEASIBLE PAST 18
+",
+        FARM_AT_40,
+        b"PARARHS INFEASIBLE PAST 18
     2 NEED     -1
     3 TRIPS    1
     4 FARM     1/2

@@ -295,6 +295,9 @@ END 0
     }],
 };
 
+// The columns at a corner that is best.
+const CORNER: &[u8] = b"    3 X        BS 4 -1 0 NONE 0\n    4 Y        LL 0 -1 0 NONE 0\n";
+
 /// A plan with more than one best point.
 pub const TIES: Listing = Listing {
     name: "ties",
@@ -320,17 +323,15 @@ PRIMAL OPTIMAL STEPS 1 OBJECTIVE -4 CHECKED
     2 LIM      UL 4 0 NONE 4 -1
 ",
         PLAN_COLUMNS,
-        b"    3 X        BS 4 -1 0 NONE 0
-    4 Y        LL 0 -1 0 NONE 0
-END 0
-",
+        CORNER,
+        b"END 0\n",
     ],
     found: Finding::Attested(4),
     cases: &[
         Case {
             name: "the other corner",
             edit: Edit::Text(
-                b"    3 X        BS 4 -1 0 NONE 0\n    4 Y        LL 0 -1 0 NONE 0\n",
+                CORNER,
                 b"    3 X        LL 0 -1 0 NONE 0\n    4 Y        BS 4 -1 0 NONE 0\n",
             ),
             found: Finding::Attested(4),
@@ -338,7 +339,7 @@ END 0
         Case {
             name: "a point between",
             edit: Edit::Text(
-                b"    3 X        BS 4 -1 0 NONE 0\n    4 Y        LL 0 -1 0 NONE 0\n",
+                CORNER,
                 b"    3 X        BS 3/2 -1 0 NONE 0\n    4 Y        BS 5/2 -1 0 NONE 0\n",
             ),
             found: Finding::Attested(4),

@@ -3,6 +3,9 @@ use crate::listings::{Case, Edit, Finding, Listing};
 use test_decks::programs::SOLVE;
 use test_decks::{listings, problems};
 
+// The ray of the promises.
+const PROMISES_RAY: &[u8] = b"    2 HOURS    1\n    3 CHAIRS   -2\n    4 TABLES   -5\n";
+
 /// Limits that conflict.
 pub const CONFLICT: Listing = Listing {
     name: "conflict",
@@ -50,7 +53,7 @@ END 1
         Case {
             name: "the ray times three",
             edit: Edit::Text(
-                b"    2 HOURS    1\n    3 CHAIRS   -2\n    4 TABLES   -5\n",
+                PROMISES_RAY,
                 b"    2 HOURS    3\n    3 CHAIRS   -6\n    4 TABLES   -15\n",
             ),
             found: Finding::Attested(4),
@@ -58,7 +61,7 @@ END 1
         Case {
             name: "the ray turned",
             edit: Edit::Text(
-                b"    2 HOURS    1\n    3 CHAIRS   -2\n    4 TABLES   -5\n",
+                PROMISES_RAY,
                 b"    2 HOURS    -1\n    3 CHAIRS   2\n    4 TABLES   5\n",
             ),
             found: Finding::Wrong(4),
@@ -71,7 +74,7 @@ END 1
         Case {
             name: "lines exchanged",
             edit: Edit::Text(
-                b"    2 HOURS    1\n    3 CHAIRS   -2\n    4 TABLES   -5\n",
+                PROMISES_RAY,
                 b"    3 CHAIRS   -2\n    2 HOURS    1\n    4 TABLES   -5\n",
             ),
             found: Finding::Wrong(4),
