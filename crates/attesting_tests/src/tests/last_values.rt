@@ -1,5 +1,5 @@
 // Jobs whose parametric run ends at a value that no cell holds, with their listings.
-use crate::listings::{Case, Edit, Finding, Listing, finds};
+use super::listings::{Case, Edit, Finding, Listing, finds};
 use listing_claims::Checks;
 use std::alloc::Global;
 use std::test::Fail;

@@ -1,6 +1,6 @@
 // Plans and their solutions.
-use crate::listings::{Case, Edit, Finding, Listing};
-use crate::store::{STORE_FROM_EXIT, STORE_SOLUTION, STORE_TO_PRIMAL, STORE_VERDICT};
+use super::listings::{Case, Edit, Finding, Listing};
+use super::store::{STORE_FROM_EXIT, STORE_SOLUTION, STORE_TO_PRIMAL, STORE_VERDICT};
 use test_decks::parts::{ONE_LIMIT, PLAN_COLUMNS, PLAN_ROWS};
 use test_decks::problems;
 use test_decks::programs::{SOLVE, SOLVE_BND1};

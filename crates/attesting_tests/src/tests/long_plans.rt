@@ -1,6 +1,6 @@
 // Plans and verdicts with numbers of more than 128 bits, worked out by hand: each number of a listing follows from those of its job
 // by a product or a quotient.
-use crate::listings::{Case, Edit, Finding, Listing};
+use super::listings::{Case, Edit, Finding, Listing};
 use test_decks::parts::{PLAN_COLUMNS, PLAN_ROWS};
 use test_decks::programs::{PARAOBJ_TO_5, SOLVE};
 use test_decks::{problems, runs};

@@ -1,13 +1,13 @@
 // What the checker of any length finds.
-use crate::last_values::{CONTINUATIONS, LAST_VALUES};
-use crate::listings::{Edit, Finding, edited, finds, first_wrong};
-use crate::long_plans::{CHAIN, CHAIN_OBJECTIVE, CHAIN_RHS, LONG_DIRECTION, LONG_RAY};
-use crate::plans::STORE;
-use crate::random_plans::{
+use super::last_values::{CONTINUATIONS, LAST_VALUES};
+use super::listings::{Edit, Finding, edited, finds, first_wrong};
+use super::long_plans::{CHAIN, CHAIN_OBJECTIVE, CHAIN_RHS, LONG_DIRECTION, LONG_RAY};
+use super::plans::STORE;
+use super::random_plans::{
     CUT_SECOND_ROW, CUT_THIRD_ROW, CUT_VERDICT, FIRST_PLAN, MISSING_ROW, RandomPlan, SECOND_PLAN,
     THIRD_PLAN, WRONG_LETTER, WRONG_SLACK,
 };
-use crate::refused::{FAR_POINT, GREAT};
+use super::refused::{FAR_POINT, GREAT};
 use checks_of_128_bits::Of128Bits;
 use checks_of_any_length::OfAnyLength;
 use std::alloc::Global;

@@ -1,14 +1,14 @@
 // What the checker of 128 bits finds, and what both checkers find alike.
-use crate::jobs::JOBS;
-use crate::listings::first_wrong;
-use crate::parametric_runs::{
+use super::jobs::JOBS;
+use super::listings::first_wrong;
+use super::parametric_runs::{
     INFEASIBLE_PAST, LAMPS, MILK, RHS_INTERVALS, RHS_POINT, TWO_INTERVALS, UNBOUNDED_OPENING,
 };
-use crate::plans::{BLANKS, STORE, TESTPROB, TIES, TWO_SOLUTIONS};
-use crate::refused::{
+use super::plans::{BLANKS, STORE, TESTPROB, TIES, TWO_SOLUTIONS};
+use super::refused::{
     BAD_INSERT_REFUSED, FAR_POINT, GREAT, INSERT_REFUSED, RANGE_AFTER_PRIMAL, RANGE_REFUSED,
 };
-use crate::verdicts::{CONFLICT, INFEASIBLE, UNBOUNDED};
+use super::verdicts::{CONFLICT, INFEASIBLE, UNBOUNDED};
 use checks_of_128_bits::Of128Bits;
 use checks_of_any_length::OfAnyLength;
 use listing_claims::Checks;

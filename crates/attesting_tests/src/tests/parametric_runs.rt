@@ -1,5 +1,5 @@
 // Parametric runs.
-use crate::listings::{Case, Edit, Finding, Listing};
+use super::listings::{Case, Edit, Finding, Listing};
 use test_decks::programs::{PARAOBJ_TO_5, PARARHS_TO_5};
 use test_decks::{listings, problems, runs};
 

@@ -1,6 +1,6 @@
 // Listings of jobs that are refused, and of jobs that bear on what a listing can show.
-use crate::listings::{Case, Edit, Finding, Listing};
-use crate::store::{STORE_FROM_EXIT, STORE_SOLUTION, STORE_TO_PRIMAL, STORE_VERDICT};
+use super::listings::{Case, Edit, Finding, Listing};
+use super::store::{STORE_FROM_EXIT, STORE_SOLUTION, STORE_TO_PRIMAL, STORE_VERDICT};
 use test_decks::programs::{SOLVE, SOLVE_MAX};
 use test_decks::{listings, problems, runs};
 

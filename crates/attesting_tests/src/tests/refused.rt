@@ -1,5 +1,5 @@
 // Listings in whose tests an operation is refused.
-use crate::listings::{Case, Edit, Finding, Listing};
+use super::listings::{Case, Edit, Finding, Listing};
 use test_decks::parts::{ONE_DEMAND, PLAN_COLUMNS, PLAN_ROWS};
 use test_decks::problems;
 use test_decks::programs::SOLVE;

@@ -1,6 +1,6 @@
 // Random plans with numbers of more than 128 bits: listings as they are, listings with a change, and listings that are cut off.
 // Each job was made at random, and what is found of its listing came with it, from outside this repository.
-use crate::listings::{Finding, finds};
+use super::listings::{Finding, finds};
 use listing_claims::Checks;
 use std::alloc::Global;
 use std::test::Fail;

@@ -1,5 +1,5 @@
 // Verdicts that there is no best plan.
-use crate::listings::{Case, Edit, Finding, Listing};
+use super::listings::{Case, Edit, Finding, Listing};
 use test_decks::programs::SOLVE;
 use test_decks::{listings, problems};
 
