@@ -2,34 +2,4 @@
 #![tactic(auto)]
 
 #[cfg(test)]
-mod checks;
-#[cfg(test)]
-mod devices;
-#[cfg(test)]
-mod full;
-#[cfg(test)]
-mod jobs;
-#[cfg(test)]
-mod last_values;
-#[cfg(test)]
-mod listings;
-#[cfg(test)]
-mod long;
-#[cfg(test)]
-mod long_plans;
-#[cfg(test)]
-mod parametric_runs;
-#[cfg(test)]
-mod plans;
-#[cfg(test)]
-mod refused;
-#[cfg(test)]
-mod store;
-#[cfg(test)]
-mod verdicts;
-#[cfg(test)]
-mod wide_attested;
-#[cfg(test)]
-mod wide_changed;
-#[cfg(test)]
-mod wide_cut;
+mod tests;

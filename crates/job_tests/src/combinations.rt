@@ -3,6 +3,7 @@ use crate::combination_decks::{FAULTS, REVISIONS};
 use crate::rows::Row;
 use crate::runs::{first_unpunched, first_unreported, is_begun};
 use std::test::Fail;
+use test_decks::listings::{CHAIRS_SOLVED, GREAT_PRODUCT_REFUSED};
 use test_decks::problems::{CHAIRS, GREAT_PRODUCT, NESTED};
 use test_decks::programs::{SOLVE, SOLVE_MAX, SOLVE_RANGE};
 
@@ -233,23 +234,7 @@ END 0
         name: "total hours and a share",
         job: &[SOLVE_MAX, CHAIRS],
         status: 0,
-        listing: b"CONVERT PLAN     ROWS 5 COLUMNS 2 ENTRIES 4
-SETUP   PLAN     MAX
-PRIMAL OPTIMAL STEPS 3 OBJECTIVE 1120 CHECKED
-SOLUTION OPTIMAL
-SECTION 1 - ROWS
-NUMBER ROW AT ACTIVITY SLACK LOWER UPPER DUAL
-    1 PROFIT   BS 1120 -1120 NONE NONE 0
-    2 NORTH    BS 40 20 NONE 60 0
-    3 SOUTH    UL 60 0 NONE 60 2
-    4 HOURS    UL 100 0 NONE 100 10
-    5 SHARE    BS 0 0 0 NONE 0
-SECTION 2 - COLUMNS
-NUMBER COLUMN AT ACTIVITY COST LOWER UPPER REDUCED
-    6 CHAIRN   BS 20 20 0 NONE 0
-    7 CHAIRS   BS 40 18 0 NONE 0
-END 0
-",
+        listing: CHAIRS_SOLVED,
     },
     Row {
         name: "one objective after another",
@@ -361,11 +346,7 @@ const OVERFLOWS: [Row; 2] = [
         name: "a product of a combination",
         job: &[SOLVE, GREAT_PRODUCT],
         status: 20,
-        listing: b"CONVERT T        ROWS 3 COLUMNS 1 ENTRIES 2
-STOP 20 OVERFLOW F19 MUL 999999999000000000000000000 999999999000000000000000000 P 0 Q 0 I 3 J 4 TERM 0 THETA 0 CARD 3
-BASIS NONE
-WAY NONE
-",
+        listing: GREAT_PRODUCT_REFUSED,
     },
     Row {
         name: "a sum of a combination",

@@ -13,6 +13,7 @@ use rates_dense::Dense;
 use std::alloc::Global;
 use std::test::Fail;
 use test_decks::problems::ONE;
+use test_decks::runs::PRIMAL;
 
 /// What the program of a job is answered, over an engine.
 #[derive(Drop)]
@@ -69,19 +70,7 @@ fn the_engine_of_runs_runs_jobs(rt: HostRuntime) -> Result<(), Fail> {
 // before.
 #[test]
 fn an_engine_without_memory_ends_the_run(rt: HostRuntime) -> Result<(), Fail> {
-    let run = run_of::<Starved>(
-        rt.alloc(),
-        &[
-            b"         PROGRAM
-         CONVERT
-         SETUP
-         PRIMAL
-         EXIT
-         PEND
-",
-            ONE,
-        ],
-    )?;
+    let run = run_of::<Starved>(rt.alloc(), &[PRIMAL, ONE])?;
     assert_eq!(rt; run.status, RunStatus::Memory);
     let listing: &[u8] =
         b"CONVERT ONE      ROWS 2 COLUMNS 1 ENTRIES 2\nSETUP   ONE      MIN\nSTOP 28 MEMORY\n";

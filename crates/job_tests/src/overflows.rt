@@ -1,5 +1,6 @@
 // Worked jobs in which a number grows too large.
 use crate::rows::Row;
+use test_decks::parts::{ONE_DEMAND, ONE_LIMIT};
 use test_decks::problems::{FAR_RANGE, GREAT_SLACK};
 use test_decks::programs::{SOLVE, SOLVE_BND, SOLVE_RANGE};
 
@@ -45,12 +46,8 @@ STOP 20 OVERFLOW F6\x20",
         name: "step overflow",
         job: &[
             SOLVE,
-            b"NAME          T
-ROWS
- N  COST
- L  LIM
-COLUMNS
-    X         COST      -1
+            ONE_LIMIT,
+            b"    X         COST      -1
     X         LIM       .1E-18
 RHS
     B         LIM       999999999E18
@@ -66,12 +63,8 @@ STOP 20 OVERFLOW F7\x20",
         name: "objective overflow",
         job: &[
             SOLVE,
-            b"NAME          T
-ROWS
- N  COST
- L  LIM
-COLUMNS
-    X         COST      -99999999E18
+            ONE_LIMIT,
+            b"    X         COST      -99999999E18
     X         LIM       1
 RHS
     B         LIM       999999999E18
@@ -87,12 +80,8 @@ STOP 20 OVERFLOW F",
         name: "price overflow",
         job: &[
             SOLVE,
-            b"NAME          T
-ROWS
- N  COST
- G  LOW
-COLUMNS
-    X         COST      999999999E18
+            ONE_DEMAND,
+            b"    X         COST      999999999E18
     X         LOW       .1E-18
 RHS
     B         LOW       .1E-18

@@ -1,24 +1,17 @@
 // Worked jobs with parametric runs, with the status and the listing of each.
 use crate::rows::Row;
+use test_decks::listings::{
+    BOUNDED_ONE_AT_0, BOUNDED_ONE_FOLLOWED, ENDLESS_FOLLOWED, TWO_SOURCES_FOLLOWED,
+};
 use test_decks::problems::{BOUNDED_ONE, ENDLESS_UP_TO_1, ONE, TWO, TWO_SOURCES};
 use test_decks::programs::{PARAOBJ_TO_5, PARARHS_TO_5};
+use test_decks::runs::{PARAOBJ_BND_TO_5, PARARHS_BND_TO_0};
 
 /// Parametric runs, to their last value or past a breakpoint, and those that are refused.
 pub const PARAMETRIC: [Row; 8] = [
     Row {
         name: "paraobj two intervals",
-        job: &[
-            b"         PROGRAM
-         CONVERT
-         SETUP('BOUND','BND')
-         MOVE(XCHROW,'CHG')
-         MOVE(XPARMAX,5)
-         PARAOBJ
-         EXIT
-         PEND
-",
-            TWO,
-        ],
+        job: &[PARAOBJ_BND_TO_5, TWO],
         status: 0,
         listing: b"CONVERT TWO      ROWS 3 COLUMNS 2 ENTRIES 5
 SETUP   TWO      MIN
@@ -72,14 +65,7 @@ END 0
         name: "paraobj unbounded opening",
         job: &[PARAOBJ_TO_5, ENDLESS_UP_TO_1],
         status: 2,
-        listing: b"CONVERT T        ROWS 2 COLUMNS 1 ENTRIES 2
-SETUP   T        MIN
-PARAOBJ UNBOUNDED STEPS 0 OBJECTIVE 0 CHECKED
-    1 COST     0 -1
-    2 CHG      0 1
-    3 X        0 1
-END 2
-",
+        listing: ENDLESS_FOLLOWED,
     },
     Row {
         name: "paraobj parmax below",
@@ -104,65 +90,19 @@ STOP 10 VERB FAULT 9 CARD 6
         name: "pararhs two intervals",
         job: &[PARARHS_TO_5, TWO_SOURCES],
         status: 0,
-        listing: b"CONVERT T        ROWS 2 COLUMNS 2 ENTRIES 4
-SETUP   T        MIN
-PARARHS FROM 0 CHANGE C
-INTERVAL 1 FROM 0 TO 2
-    1 COST     BS 1 1 0 0
-    2 LOW      LL 1 1 1 0
-    3 X        BS 1 1 0 0
-    4 Y        LL 0 0 1 0
-INTERVAL 2 FROM 2 TO 5
-    1 COST     BS -1 2 0 0
-    2 LOW      LL 1 1 2 0
-    3 X        UL 3 0 -1 0
-    4 Y        BS -2 1 0 0
-PARARHS ENDS AT 5
-END 0
-",
+        listing: TWO_SOURCES_FOLLOWED,
     },
     Row {
         name: "pararhs infeasible past",
         job: &[PARARHS_TO_5, BOUNDED_ONE],
         status: 0,
-        listing: b"CONVERT ONE      ROWS 2 COLUMNS 1 ENTRIES 2
-SETUP   ONE      MIN
-PARARHS FROM 0 CHANGE C
-INTERVAL 1 FROM 0 TO 2
-    1 COST     BS 1 1 0 0
-    2 LOW      LL 1 1 1 0
-    3 X        BS 1 1 0 0
-PARARHS INFEASIBLE PAST 2
-    2 LOW      -1
-    3 X        1
-END 0
-",
+        listing: BOUNDED_ONE_FOLLOWED,
     },
     Row {
         name: "pararhs point interval",
-        job: &[
-            b"         PROGRAM
-         CONVERT
-         SETUP('BOUND','BND')
-         MOVE(XCHCOL,'C')
-         MOVE(XPARMAX,0)
-         PARARHS
-         EXIT
-         PEND
-",
-            BOUNDED_ONE,
-        ],
+        job: &[PARARHS_BND_TO_0, BOUNDED_ONE],
         status: 0,
-        listing: b"CONVERT ONE      ROWS 2 COLUMNS 1 ENTRIES 2
-SETUP   ONE      MIN
-PARARHS FROM 0 CHANGE C
-INTERVAL 1 FROM 0 TO 0
-    1 COST     BS 1 1 0 0
-    2 LOW      LL 1 1 1 0
-    3 X        BS 1 1 0 0
-PARARHS ENDS AT 0
-END 0
-",
+        listing: BOUNDED_ONE_AT_0,
     },
     Row {
         name: "pararhs no change set",

@@ -1,37 +1,16 @@
 // Worked jobs that ask for intervals.
 use crate::rows::Row;
+use test_decks::listings::TWO_RANGED;
 use test_decks::problems::{ENDATA, ENDLESS, ONE, TESTPROB_CARDS, TWO};
+use test_decks::runs::RANGE_BND;
 
 /// Intervals in which a plan stays the best, and statements that ask for them too soon.
 pub const RANGES: [Row; 5] = [
     Row {
         name: "range two",
-        job: &[
-            b"         PROGRAM
-         CONVERT
-         SETUP('BOUND','BND')
-         PRIMAL
-         RANGE
-         EXIT
-         PEND
-",
-            TWO,
-        ],
+        job: &[RANGE_BND, TWO],
         status: 0,
-        listing: b"CONVERT TWO      ROWS 3 COLUMNS 2 ENTRIES 5
-SETUP   TWO      MIN
-PRIMAL OPTIMAL STEPS 3 OBJECTIVE -8 CHECKED
-RANGE
-SECTION 1 - ROWS AT LIMIT LEVEL
-    3 LIM      UL 4 0 NONE
-SECTION 2 - COLUMNS AT LIMIT LEVEL
-    4 X        LL 0 NONE 3 -1 -2 NONE
-SECTION 3 - ROWS AT INTERMEDIATE LEVEL
-    2 CHG      BS 0 NONE 1
-SECTION 4 - COLUMNS AT INTERMEDIATE LEVEL
-    5 Y        BS 4 -2 NONE -1
-END 0
-",
+        listing: TWO_RANGED,
     },
     Row {
         name: "range testprob",

@@ -1,7 +1,9 @@
 // Worked jobs that end with a verdict, or at a limit.
 use crate::rows::Row;
+use test_decks::listings::{CONFLICTING_LIMITS, TESTPROB_CUT_SHORT};
 use test_decks::problems::{BEALE, CONFLICT, CROSSED, ENDATA, ENDLESS, TESTPROB_CARDS};
 use test_decks::programs::{SOLVE, SOLVE_BND, SOLVE_IN_NO_STEP};
+use test_decks::runs::SOLVE_BND1_IN_2_STEPS;
 
 /// Runs that end with a verdict, or at a limit.
 pub const VERDICTS: [Row; 7] = [
@@ -19,13 +21,7 @@ END 1
         name: "infeasible ray",
         job: &[SOLVE, CONFLICT],
         status: 1,
-        listing: b"CONVERT T        ROWS 3 COLUMNS 1 ENTRIES 3
-SETUP   T        MIN
-PRIMAL INFEASIBLE STEPS 1 RAY CHECKED
-    2 LOW      -1
-    3 HIGH     1
-END 1
-",
+        listing: CONFLICTING_LIMITS,
     },
     Row {
         name: "unbounded",
@@ -63,24 +59,9 @@ STOP 16 ITERATION LIMIT 0 CARD 5
     },
     Row {
         name: "iteration limit 2",
-        job: &[
-            b"         PROGRAM
-         CONVERT
-         SETUP('BOUND','BND1')
-         MOVE(XITERLIM,2)
-         PRIMAL
-         SOLUTION
-         EXIT
-         PEND
-",
-            TESTPROB_CARDS,
-            ENDATA,
-        ],
+        job: &[SOLVE_BND1_IN_2_STEPS, TESTPROB_CARDS, ENDATA],
         status: 16,
-        listing: b"CONVERT TESTPROB ROWS 4 COLUMNS 3 ENTRIES 9
-SETUP   TESTPROB MIN
-STOP 16 ITERATION LIMIT 2 CARD 5
-",
+        listing: TESTPROB_CUT_SHORT,
     },
     Row {
         name: "a limit after none",

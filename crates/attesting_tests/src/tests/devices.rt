@@ -1,8 +1,8 @@
 // Words, and devices that fail.
 
-use crate::full::Full;
-use crate::listings::{Answer, answer_from};
-use crate::plans::STORE;
+use super::full::Full;
+use super::listings::{Answer, answer_from};
+use super::plans::STORE;
 use checks_of_128_bits::Of128Bits;
 use job_devices::{MemorySink, MemorySource};
 use listing_check::check_listing;

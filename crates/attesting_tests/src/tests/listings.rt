@@ -18,24 +18,57 @@ pub enum Edit {
     Parts(&'static [&'static [u8]], &'static [&'static [u8]]),
 }
 
-/// A change of a listing, and what is printed of it then.
+/// What a checker finds of a listing.
+#[derive(Clone, Copy)]
+pub enum Finding {
+    /// So many reports are attested.
+    Attested(u64),
+    /// What is due at the line of this number is wrong.
+    Wrong(u64),
+    /// It can't be attested.
+    Open(u64),
+    /// An operation of its test is refused.
+    Unchecked(u64),
+}
+
+impl Finding {
+    // The status with which it is answered.
+    fn status(self) -> u8 {
+        match self {
+            Finding::Attested(_) => 0,
+            Finding::Wrong(_) => 40,
+            Finding::Open(_) => 41,
+            Finding::Unchecked(_) => 42,
+        }
+    }
+
+    // The line that is printed of it.
+    fn line(self, alloc: Global) -> Result<String, Fail> {
+        Ok(match self {
+            Finding::Attested(reports) => format!(in alloc; "ATTESTED {reports} REPORTS\n")?,
+            Finding::Wrong(line) => format!(in alloc; "WRONG LINE {line}\n")?,
+            Finding::Open(line) => format!(in alloc; "OPEN LINE {line}\n")?,
+            Finding::Unchecked(line) => format!(in alloc; "UNCHECKED LINE {line}\n")?,
+        })
+    }
+}
+
+/// A change of a listing, and what is found of it then.
 pub struct Case {
     /// What is changed.
     pub name: &'static str,
     pub edit: Edit,
-    pub status: u8,
-    pub line: &'static [u8],
+    pub found: Finding,
 }
 
-/// A job, its listing with what is printed of it, and changes of that.
+/// A job, its listing with what is found of it, and changes of that.
 pub struct Listing {
     pub name: &'static str,
     /// The control program and the decks, one after another.
     pub job: &'static [&'static [u8]],
     /// The parts of the listing, one after another.
     pub text: &'static [&'static [u8]],
-    pub status: u8,
-    pub line: &'static [u8],
+    pub found: Finding,
     pub cases: &'static [Case],
 }
 
@@ -108,36 +141,35 @@ pub fn answer_from<T: Checks>(
     Ok(Answer { status, print })
 }
 
-/// What a checker answers to the job of these parts and a listing.
-pub fn answer_to<T: Checks>(
+/// Whether a checker answers with this finding to the job of these parts and a listing.
+pub fn finds<T: Checks>(
     alloc: Global,
     parts: &[&[u8]],
     listing: &[u8],
-) -> Result<Answer, Fail> {
+    found: Finding,
+) -> Result<bool, Fail> {
     let job = parts.concat(alloc)?;
-    answer_from::<T>(
+    let answer = answer_from::<T>(
         alloc,
         MemorySource::new(alloc, &job, &[])?,
         MemorySource::new(alloc, listing, &[])?,
         &[],
-    )
+    )?;
+    Ok(answer.is(found.status(), found.line(alloc)?.as_bytes()))
 }
 
-/// The first change of a listing after which a checker answers another line or another status, or which can't be made. The listing
-/// as it is comes before its changes.
-pub fn first_other<T: Checks>(
-    alloc: Global,
-    listing: &Listing,
-) -> Result<Option<&'static str>, Fail> {
+// The first change of a listing after which a checker answers with another finding, or which can't be made. The listing as it is
+// comes before its changes.
+fn first_other<T: Checks>(alloc: Global, listing: &Listing) -> Result<Option<&'static str>, Fail> {
     let text = listing.text.concat(alloc)?;
-    if !answer_to::<T>(alloc, listing.job, &text)?.is(listing.status, listing.line) {
+    if !finds::<T>(alloc, listing.job, &text, listing.found)? {
         return Ok(Some("as it is"));
     }
     for case in listing.cases {
         let Some(changed) = edited(alloc, &text, case.edit)? else {
             return Ok(Some(case.name));
         };
-        if !answer_to::<T>(alloc, listing.job, &changed)?.is(case.status, case.line) {
+        if !finds::<T>(alloc, listing.job, &changed, case.found)? {
             return Ok(Some(case.name));
         }
     }

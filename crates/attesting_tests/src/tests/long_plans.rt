@@ -1,33 +1,34 @@
 // Plans and verdicts with numbers of more than 128 bits, worked out by hand: each number of a listing follows from those of its job
 // by a product or a quotient.
-use crate::listings::{Case, Edit, Listing};
-use test_decks::problems;
+use super::listings::{Case, Edit, Finding, Listing};
+use test_decks::parts::{PLAN_COLUMNS, PLAN_ROWS};
 use test_decks::programs::{PARAOBJ_TO_5, SOLVE};
+use test_decks::{problems, runs};
+
+// The listing of these problems before PRIMAL or a run.
+const LONG_SELECTED: &[u8] = b"CONVERT LONG     ROWS 4 COLUMNS 2 ENTRIES 5\nSETUP   LONG     MIN\n";
 
 /// A column that is a great multiple of another.
 pub const CHAIN: Listing = Listing {
     name: "chain",
     job: &[SOLVE, problems::LONG],
     text: &[
-        b"CONVERT LONG     ROWS 4 COLUMNS 2 ENTRIES 5
-SETUP   LONG     MIN
-PRIMAL OPTIMAL STEPS 2 OBJECTIVE 4999999800000002000000000000000000000000000000000000/3 CHECKED
-SOLUTION OPTIMAL
-SECTION 1 - ROWS
-NUMBER ROW AT ACTIVITY SLACK LOWER UPPER DUAL
-    1 COST     BS 4999999800000002000000000000000000000000000000000000/3 -4999999800000002000000000000000000000000000000000000/3 NONE NONE 0
+        LONG_SELECTED,
+        b"PRIMAL OPTIMAL STEPS 2 OBJECTIVE 4999999800000002000000000000000000000000000000000000/3 CHECKED
+",
+        PLAN_ROWS,
+        b"    1 COST     BS 4999999800000002000000000000000000000000000000000000/3 -4999999800000002000000000000000000000000000000000000/3 NONE NONE 0
     2 CHG      BS 9999999600000004000000000000000000000000000000000000/3 -9999999600000004000000000000000000000000000000000000/3 NONE NONE 0
     3 LOW      LL 99999998000000000000000000 0 99999998000000000000000000 NONE 49999999000000000000000000/3
     4 LINK     LL 0 0 0 NONE 1/2
-SECTION 2 - COLUMNS
-NUMBER COLUMN AT ACTIVITY COST LOWER UPPER REDUCED
-    5 X        BS 99999998000000000000000000/3 0 0 NONE 0
+",
+        PLAN_COLUMNS,
+        b"    5 X        BS 99999998000000000000000000/3 0 0 NONE 0
     6 Y        BS 9999999600000004000000000000000000000000000000000000/3 1/2 0 NONE 0
 END 0
 ",
     ],
-    status: 0,
-    line: b"ATTESTED 4 REPORTS\n",
+    found: Finding::Attested(4),
     cases: &[
         Case {
             name: "an objective not in lowest terms",
@@ -35,20 +36,17 @@ END 0
                 b"OBJECTIVE 4999999800000002000000000000000000000000000000000000/3",
                 b"OBJECTIVE 9999999600000004000000000000000000000000000000000000/6",
             ),
-            status: 40,
-            line: b"WRONG LINE 3\n",
+            found: Finding::Wrong(3),
         },
         Case {
             name: "a half as two quarters",
             edit: Edit::Text(b" 1/2 0 NONE 0\nEND", b" 2/4 0 NONE 0\nEND"),
-            status: 40,
-            line: b"WRONG LINE 4\n",
+            found: Finding::Wrong(4),
         },
         Case {
             name: "minus zero",
             edit: Edit::Text(b"4 LINK     LL 0", b"4 LINK     LL -0"),
-            status: 40,
-            line: b"WRONG LINE 4\n",
+            found: Finding::Wrong(4),
         },
         Case {
             name: "a zero in front",
@@ -56,8 +54,7 @@ END 0
                 b"3 LOW      LL 99999998000000000000000000",
                 b"3 LOW      LL 099999998000000000000000000",
             ),
-            status: 40,
-            line: b"WRONG LINE 4\n",
+            found: Finding::Wrong(4),
         },
         Case {
             name: "a whole number over one",
@@ -65,8 +62,7 @@ END 0
                 b"3 LOW      LL 99999998000000000000000000",
                 b"3 LOW      LL 99999998000000000000000000/1",
             ),
-            status: 40,
-            line: b"WRONG LINE 4\n",
+            found: Finding::Wrong(4),
         },
         Case {
             name: "one over zero",
@@ -74,8 +70,7 @@ END 0
                 b"OBJECTIVE 4999999800000002000000000000000000000000000000000000/3",
                 b"OBJECTIVE 1/0",
             ),
-            status: 40,
-            line: b"WRONG LINE 3\n",
+            found: Finding::Wrong(3),
         },
         Case {
             name: "another digit of the objective",
@@ -83,8 +78,7 @@ END 0
                 b"OBJECTIVE 4999999800000002000000000000000000000000000000000000/3",
                 b"OBJECTIVE 4999999800000002000010000000000000000000000000000000/3",
             ),
-            status: 40,
-            line: b"WRONG LINE 3\n",
+            found: Finding::Wrong(3),
         },
         Case {
             name: "another digit of an activity",
@@ -92,8 +86,7 @@ END 0
                 b"6 Y        BS 9999999600000004000000000000000000000000000000000000/3",
                 b"6 Y        BS 0999999600000004000000000000000000000000000000000000/3",
             ),
-            status: 40,
-            line: b"WRONG LINE 4\n",
+            found: Finding::Wrong(4),
         },
         Case {
             name: "another digit of a dual value",
@@ -101,20 +94,17 @@ END 0
                 b"NONE 49999999000000000000000000/3",
                 b"NONE 49999999000000000000100000/3",
             ),
-            status: 40,
-            line: b"WRONG LINE 4\n",
+            found: Finding::Wrong(4),
         },
         Case {
             name: "the other sign of an activity",
             edit: Edit::Text(b"5 X        BS ", b"5 X        BS -"),
-            status: 40,
-            line: b"WRONG LINE 4\n",
+            found: Finding::Wrong(4),
         },
         Case {
             name: "a verdict that was not checked",
             edit: Edit::Text(b"CHECKED", b"UNCHECKED MUL 2 3"),
-            status: 0,
-            line: b"ATTESTED 4 REPORTS\n",
+            found: Finding::Attested(4),
         },
     ],
 };
@@ -124,9 +114,8 @@ pub const CHAIN_OBJECTIVE: Listing = Listing {
     name: "chain, another objective",
     job: &[PARAOBJ_TO_5, problems::LONG],
     text: &[
-        b"CONVERT LONG     ROWS 4 COLUMNS 2 ENTRIES 5
-SETUP   LONG     MIN
-PARAOBJ FROM 0 CHANGE CHG
+        LONG_SELECTED,
+        b"PARAOBJ FROM 0 CHANGE CHG
 INTERVAL 1 FROM 0 TO 5
     1 COST     BS 4999999800000002000000000000000000000000000000000000/3 0 0 0
     2 CHG      BS 9999999600000004000000000000000000000000000000000000/3 0 0 0
@@ -138,8 +127,7 @@ PARAOBJ ENDS AT 5
 END 0
 ",
     ],
-    status: 0,
-    line: b"ATTESTED 3 REPORTS\n",
+    found: Finding::Attested(3),
     cases: &[
         Case {
             name: "another digit of a rate",
@@ -147,8 +135,7 @@ END 0
                 b"99999998000000000000000000/3\n    4",
                 b"99909998000000000000000000/3\n    4",
             ),
-            status: 40,
-            line: b"WRONG LINE 3\n",
+            found: Finding::Wrong(3),
         },
         Case {
             name: "another digit of an activity",
@@ -156,14 +143,12 @@ END 0
                 b"6 Y        BS 9999999600000004000000000000000000000000000000000000/3",
                 b"6 Y        BS 9999909600000004000000000000000000000000000000000000/3",
             ),
-            status: 40,
-            line: b"WRONG LINE 3\n",
+            found: Finding::Wrong(3),
         },
         Case {
             name: "before the last value",
             edit: Edit::Text(b"TO 5", b"TO 4"),
-            status: 40,
-            line: b"WRONG LINE 3\n",
+            found: Finding::Wrong(3),
         },
     ],
 };
@@ -184,9 +169,8 @@ pub const CHAIN_RHS: Listing = Listing {
         problems::LONG,
     ],
     text: &[
-        b"CONVERT LONG     ROWS 4 COLUMNS 2 ENTRIES 5
-SETUP   LONG     MIN
-PARARHS FROM 0 CHANGE C
+        LONG_SELECTED,
+        b"PARARHS FROM 0 CHANGE C
 INTERVAL 1 FROM 0 TO 5
     1 COST     BS 4999999800000002000000000000000000000000000000000000/3 49999999000000000000000000/3 0 0
     2 CHG      BS 9999999600000004000000000000000000000000000000000000/3 99999998000000000000000000/3 0 0
@@ -198,8 +182,7 @@ PARARHS ENDS AT 5
 END 0
 ",
     ],
-    status: 0,
-    line: b"ATTESTED 3 REPORTS\n",
+    found: Finding::Attested(3),
     cases: &[
         Case {
             name: "another digit of a rate",
@@ -207,14 +190,12 @@ END 0
                 b"99999998000000000000000000/3 0 0\nPARARHS",
                 b"99909998000000000000000000/3 0 0\nPARARHS",
             ),
-            status: 40,
-            line: b"WRONG LINE 3\n",
+            found: Finding::Wrong(3),
         },
         Case {
             name: "a rate not in lowest terms",
             edit: Edit::Text(b"1/3 0 0", b"2/6 0 0"),
-            status: 40,
-            line: b"WRONG LINE 3\n",
+            found: Finding::Wrong(3),
         },
         Case {
             name: "another digit of a dual value",
@@ -222,8 +203,7 @@ END 0
                 b" 1 49999999000000000000000000/3",
                 b" 1 49099999000000000000000000/3",
             ),
-            status: 40,
-            line: b"WRONG LINE 3\n",
+            found: Finding::Wrong(3),
         },
     ],
 };
@@ -232,13 +212,8 @@ END 0
 pub const LONG_RAY: Listing = Listing {
     name: "long ray",
     job: &[
-        b"         PROGRAM
-         CONVERT
-         SETUP
-         PRIMAL
-         EXIT
-         PEND
-NAME          RAY
+        runs::PRIMAL,
+        b"NAME          RAY
 ROWS
  N  COST
  G  LOW
@@ -264,8 +239,7 @@ PRIMAL INFEASIBLE STEPS 1 RAY CHECKED
 END 1
 ",
     ],
-    status: 0,
-    line: b"ATTESTED 3 REPORTS\n",
+    found: Finding::Attested(3),
     cases: &[
         Case {
             name: "the ray times three",
@@ -277,8 +251,7 @@ END 1
     3 LINK     3
     4 HIGH     1",
             ),
-            status: 0,
-            line: b"ATTESTED 3 REPORTS\n",
+            found: Finding::Attested(3),
         },
         Case {
             name: "another digit",
@@ -286,14 +259,12 @@ END 1
                 b"LOW      -999999980000000000000000000000000000000000000",
                 b"LOW      -999999980000000000000000000000100000000000000",
             ),
-            status: 40,
-            line: b"WRONG LINE 3\n",
+            found: Finding::Wrong(3),
         },
         Case {
             name: "a factor left out",
             edit: Edit::Text(b"    4 HIGH     1/3\n", b""),
-            status: 40,
-            line: b"WRONG LINE 3\n",
+            found: Finding::Wrong(3),
         },
         Case {
             name: "the ray turned",
@@ -305,8 +276,7 @@ END 1
     3 LINK     -1
     4 HIGH     -1/3",
             ),
-            status: 40,
-            line: b"WRONG LINE 3\n",
+            found: Finding::Wrong(3),
         },
     ],
 };
@@ -344,8 +314,7 @@ PRIMAL UNBOUNDED STEPS 1 OBJECTIVE 15000000000000000000000000000000000000 CHECKE
 END 2
 ",
     ],
-    status: 0,
-    line: b"ATTESTED 3 REPORTS\n",
+    found: Finding::Attested(3),
     cases: &[
         Case {
             name: "another digit of the direction",
@@ -353,8 +322,7 @@ END 2
                 b"999999980000000000000000000000000000000000000\nEND",
                 b"999999980000100000000000000000000000000000000\nEND",
             ),
-            status: 40,
-            line: b"WRONG LINE 3\n",
+            found: Finding::Wrong(3),
         },
         Case {
             name: "another digit of its profit",
@@ -362,8 +330,7 @@ END 2
                 b"2999999940000000000000000000000000000000000000000000000000000000",
                 b"2099999940000000000000000000000000000000000000000000000000000000",
             ),
-            status: 40,
-            line: b"WRONG LINE 3\n",
+            found: Finding::Wrong(3),
         },
         Case {
             name: "a direction of zeros",
@@ -377,8 +344,7 @@ END 2
     3 X        0 0
     4 Y        5000000000000000000 0",
             ),
-            status: 40,
-            line: b"WRONG LINE 3\n",
+            found: Finding::Wrong(3),
         },
     ],
 };

@@ -1,7 +1,7 @@
 // Parametric runs.
-use crate::listings::{Case, Edit, Listing};
-use test_decks::problems;
+use super::listings::{Case, Edit, Finding, Listing};
 use test_decks::programs::{PARAOBJ_TO_5, PARARHS_TO_5};
+use test_decks::{listings, problems, runs};
 
 // The best point in the first interval.
 const FIRST_POINT: &[u8] = b"    1 COST     BS -8 0 0 0
@@ -19,21 +19,18 @@ const SECOND_POINT: &[u8] = b"    1 COST     BS -5 0 0 0
     5 Y        BS 1 0 0 0
 ";
 
+// Both intervals with their points.
+const BOTH_INTERVALS: &[&[u8]] = &[
+    b"INTERVAL 1 FROM 0 TO 1\n",
+    FIRST_POINT,
+    b"INTERVAL 2 FROM 1 TO 5\n",
+    SECOND_POINT,
+];
+
 /// A parametric run of the objective.
 pub const TWO_INTERVALS: Listing = Listing {
     name: "paraobj two intervals",
-    job: &[
-        b"         PROGRAM
-         CONVERT
-         SETUP('BOUND','BND')
-         MOVE(XCHROW,'CHG')
-         MOVE(XPARMAX,5)
-         PARAOBJ
-         EXIT
-         PEND
-",
-        problems::TWO,
-    ],
+    job: &[runs::PARAOBJ_BND_TO_5, problems::TWO],
     text: &[
         b"CONVERT TWO      ROWS 3 COLUMNS 2 ENTRIES 5
 SETUP   TWO      MIN
@@ -45,8 +42,7 @@ INTERVAL 1 FROM 0 TO 1
         SECOND_POINT,
         b"PARAOBJ ENDS AT 5\nEND 0\n",
     ],
-    status: 0,
-    line: b"ATTESTED 3 REPORTS\n",
+    found: Finding::Attested(3),
     cases: &[
         Case {
             name: "an interval split",
@@ -59,18 +55,12 @@ INTERVAL 1 FROM 0 TO 1
                     SECOND_POINT,
                 ],
             ),
-            status: 0,
-            line: b"ATTESTED 3 REPORTS\n",
+            found: Finding::Attested(3),
         },
         Case {
             name: "a point in front",
             edit: Edit::Parts(
-                &[
-                    b"INTERVAL 1 FROM 0 TO 1\n",
-                    FIRST_POINT,
-                    b"INTERVAL 2 FROM 1 TO 5\n",
-                    SECOND_POINT,
-                ],
+                BOTH_INTERVALS,
                 &[
                     b"INTERVAL 1 FROM 0 TO 0
     1 COST     BS -8 7 0 0
@@ -85,18 +75,12 @@ INTERVAL 2 FROM 0 TO 1
                     SECOND_POINT,
                 ],
             ),
-            status: 0,
-            line: b"ATTESTED 3 REPORTS\n",
+            found: Finding::Attested(3),
         },
         Case {
             name: "right at both ends alone",
             edit: Edit::Parts(
-                &[
-                    b"INTERVAL 1 FROM 0 TO 1\n",
-                    FIRST_POINT,
-                    b"INTERVAL 2 FROM 1 TO 5\n",
-                    SECOND_POINT,
-                ],
+                BOTH_INTERVALS,
                 &[
                     b"INTERVAL 1 FROM 0 TO 5
     1 COST     BS -8 3/5 0 0
@@ -107,8 +91,7 @@ INTERVAL 2 FROM 0 TO 1
 ",
                 ],
             ),
-            status: 40,
-            line: b"WRONG LINE 3\n",
+            found: Finding::Wrong(3),
         },
         Case {
             name: "past the last value",
@@ -116,8 +99,7 @@ INTERVAL 2 FROM 0 TO 1
                 &[b"TO 5\n", SECOND_POINT, b"PARAOBJ ENDS AT 5"],
                 &[b"TO 6\n", SECOND_POINT, b"PARAOBJ ENDS AT 6"],
             ),
-            status: 40,
-            line: b"WRONG LINE 3\n",
+            found: Finding::Wrong(3),
         },
         Case {
             name: "before the last value",
@@ -125,28 +107,17 @@ INTERVAL 2 FROM 0 TO 1
                 &[b"TO 5\n", SECOND_POINT, b"PARAOBJ ENDS AT 5"],
                 &[b"TO 4\n", SECOND_POINT, b"PARAOBJ ENDS AT 4"],
             ),
-            status: 40,
-            line: b"WRONG LINE 3\n",
+            found: Finding::Wrong(3),
         },
         Case {
             name: "an end that is not reached",
             edit: Edit::Text(b"TO 5", b"TO 4"),
-            status: 40,
-            line: b"WRONG LINE 3\n",
+            found: Finding::Wrong(3),
         },
         Case {
             name: "the first interval carried on",
-            edit: Edit::Parts(
-                &[
-                    b"INTERVAL 1 FROM 0 TO 1\n",
-                    FIRST_POINT,
-                    b"INTERVAL 2 FROM 1 TO 5\n",
-                    SECOND_POINT,
-                ],
-                &[b"INTERVAL 1 FROM 0 TO 5\n", FIRST_POINT],
-            ),
-            status: 40,
-            line: b"WRONG LINE 3\n",
+            edit: Edit::Parts(BOTH_INTERVALS, &[b"INTERVAL 1 FROM 0 TO 5\n", FIRST_POINT]),
+            found: Finding::Wrong(3),
         },
         Case {
             name: "a point behind the first interval",
@@ -159,40 +130,27 @@ INTERVAL 2 FROM 0 TO 1
                     SECOND_POINT,
                 ],
             ),
-            status: 40,
-            line: b"WRONG LINE 3\n",
+            found: Finding::Wrong(3),
         },
         Case {
             name: "a gap",
             edit: Edit::Text(b"FROM 1 TO 5", b"FROM 2 TO 5"),
-            status: 40,
-            line: b"WRONG LINE 3\n",
+            found: Finding::Wrong(3),
         },
         Case {
             name: "a number twice",
             edit: Edit::Text(b"INTERVAL 2", b"INTERVAL 1"),
-            status: 40,
-            line: b"WRONG LINE 3\n",
+            found: Finding::Wrong(3),
         },
         Case {
             name: "no interval",
-            edit: Edit::Parts(
-                &[
-                    b"INTERVAL 1 FROM 0 TO 1\n",
-                    FIRST_POINT,
-                    b"INTERVAL 2 FROM 1 TO 5\n",
-                    SECOND_POINT,
-                ],
-                &[],
-            ),
-            status: 40,
-            line: b"WRONG LINE 3\n",
+            edit: Edit::Parts(BOTH_INTERVALS, &[]),
+            found: Finding::Wrong(3),
         },
         Case {
             name: "another beginning",
             edit: Edit::Text(b"INTERVAL 1 FROM 0", b"INTERVAL 1 FROM 1/2"),
-            status: 40,
-            line: b"WRONG LINE 3\n",
+            found: Finding::Wrong(3),
         },
         Case {
             name: "an optimal opening",
@@ -200,14 +158,12 @@ INTERVAL 2 FROM 0 TO 1
                 b"PARAOBJ FROM",
                 b"PARAOBJ OPTIMAL STEPS 0 OBJECTIVE -8 CHECKED\nEND 0\n",
             ),
-            status: 40,
-            line: b"WRONG LINE 3\n",
+            found: Finding::Wrong(3),
         },
         Case {
             name: "another closing",
             edit: Edit::Text(b"ENDS AT 5", b"INFEASIBLE PAST 5"),
-            status: 40,
-            line: b"WRONG LINE 3\n",
+            found: Finding::Wrong(3),
         },
     ],
 };
@@ -277,26 +233,22 @@ PARAOBJ UNBOUNDED PAST 15
 END 0
 ",
     ],
-    status: 0,
-    line: b"ATTESTED 4 REPORTS\n",
+    found: Finding::Attested(4),
     cases: &[
         Case {
             name: "another direction",
             edit: Edit::Text(b"    2 SOLD     16 1\n", b"    2 SOLD     16 0\n"),
-            status: 40,
-            line: b"WRONG LINE 4\n",
+            found: Finding::Wrong(4),
         },
         Case {
             name: "an earlier value",
             edit: Edit::Text(b"UNBOUNDED PAST 15", b"UNBOUNDED PAST 14"),
-            status: 40,
-            line: b"WRONG LINE 4\n",
+            found: Finding::Wrong(4),
         },
         Case {
             name: "an end in place of the closing",
             edit: Edit::From(b"PARAOBJ UNBOUNDED", b"PARAOBJ ENDS AT 15\nEND 0\n"),
-            status: 40,
-            line: b"WRONG LINE 4\n",
+            found: Finding::Wrong(4),
         },
     ],
 };
@@ -305,107 +257,62 @@ END 0
 pub const UNBOUNDED_OPENING: Listing = Listing {
     name: "unbounded opening",
     job: &[PARAOBJ_TO_5, problems::ENDLESS_UP_TO_1],
-    text: &[
-        b"CONVERT T        ROWS 2 COLUMNS 1 ENTRIES 2
-SETUP   T        MIN
-PARAOBJ UNBOUNDED STEPS 0 OBJECTIVE 0 CHECKED
-    1 COST     0 -1
-    2 CHG      0 1
-    3 X        0 1
-END 2
-",
-    ],
-    status: 0,
-    line: b"ATTESTED 3 REPORTS\n",
+    text: &[listings::ENDLESS_FOLLOWED],
+    found: Finding::Attested(3),
     cases: &[Case {
         name: "another objective",
         edit: Edit::Text(b"OBJECTIVE 0", b"OBJECTIVE 1"),
-        status: 40,
-        line: b"WRONG LINE 3\n",
+        found: Finding::Wrong(3),
     }],
 };
+
+// The ray past the value 2.
+const RAY_PAST_2: &[u8] = b"    2 LOW      -1\n    3 X        1\n";
 
 /// A parametric run that ends with a ray.
 pub const INFEASIBLE_PAST: Listing = Listing {
     name: "infeasible past",
     job: &[PARARHS_TO_5, problems::BOUNDED_ONE],
-    text: &[
-        b"CONVERT ONE      ROWS 2 COLUMNS 1 ENTRIES 2
-SETUP   ONE      MIN
-PARARHS FROM 0 CHANGE C
-INTERVAL 1 FROM 0 TO 2
-    1 COST     BS 1 1 0 0
-    2 LOW      LL 1 1 1 0
-    3 X        BS 1 1 0 0
-PARARHS INFEASIBLE PAST 2
-    2 LOW      -1
-    3 X        1
-END 0
-",
-    ],
-    status: 0,
-    line: b"ATTESTED 3 REPORTS\n",
+    text: &[listings::BOUNDED_ONE_FOLLOWED],
+    found: Finding::Attested(3),
     cases: &[
         Case {
             name: "the ray times seven",
-            edit: Edit::Text(
-                b"PARARHS INFEASIBLE PAST 2\n    2 LOW      -1\n    3 X        1\n",
-                b"PARARHS INFEASIBLE PAST 2\n    2 LOW      -7\n    3 X        7\n",
-            ),
-            status: 0,
-            line: b"ATTESTED 3 REPORTS\n",
+            edit: Edit::Text(RAY_PAST_2, b"    2 LOW      -7\n    3 X        7\n"),
+            found: Finding::Attested(3),
         },
         Case {
             name: "the ray turned",
-            edit: Edit::Text(
-                b"PARARHS INFEASIBLE PAST 2\n    2 LOW      -1\n    3 X        1\n",
-                b"PARARHS INFEASIBLE PAST 2\n    2 LOW      1\n    3 X        -1\n",
-            ),
-            status: 40,
-            line: b"WRONG LINE 3\n",
+            edit: Edit::Text(RAY_PAST_2, b"    2 LOW      1\n    3 X        -1\n"),
+            found: Finding::Wrong(3),
         },
         Case {
             name: "no ray",
-            edit: Edit::Text(
-                b"PARARHS INFEASIBLE PAST 2\n    2 LOW      -1\n    3 X        1\n",
-                b"PARARHS INFEASIBLE PAST 2\n",
-            ),
-            status: 40,
-            line: b"WRONG LINE 3\n",
+            edit: Edit::Text(RAY_PAST_2, b""),
+            found: Finding::Wrong(3),
         },
         Case {
             name: "lines exchanged",
-            edit: Edit::Text(
-                b"PARARHS INFEASIBLE PAST 2\n    2 LOW      -1\n    3 X        1\n",
-                b"PARARHS INFEASIBLE PAST 2\n    3 X        1\n    2 LOW      -1\n",
-            ),
-            status: 40,
-            line: b"WRONG LINE 3\n",
+            edit: Edit::Text(RAY_PAST_2, b"    3 X        1\n    2 LOW      -1\n"),
+            found: Finding::Wrong(3),
         },
         Case {
             name: "a zero",
             edit: Edit::Text(
-                b"PARARHS INFEASIBLE PAST 2\n    2 LOW      -1\n    3 X        1\n",
-                b"PARARHS INFEASIBLE PAST 2
-    1 COST     0
-    2 LOW      -1
-    3 X        1
-",
+                RAY_PAST_2,
+                b"    1 COST     0\n    2 LOW      -1\n    3 X        1\n",
             ),
-            status: 40,
-            line: b"WRONG LINE 3\n",
+            found: Finding::Wrong(3),
         },
         Case {
             name: "an earlier value",
             edit: Edit::Text(b"PAST 2", b"PAST 1"),
-            status: 40,
-            line: b"WRONG LINE 3\n",
+            found: Finding::Wrong(3),
         },
         Case {
             name: "a later value",
             edit: Edit::Text(b"PAST 2", b"PAST 3"),
-            status: 40,
-            line: b"WRONG LINE 3\n",
+            found: Finding::Wrong(3),
         },
         Case {
             name: "a later value and interval",
@@ -421,11 +328,18 @@ PARARHS INFEASIBLE PAST 2",
     3 X        BS 1 1 0 0
 PARARHS INFEASIBLE PAST 3",
             ),
-            status: 40,
-            line: b"WRONG LINE 3\n",
+            found: Finding::Wrong(3),
         },
     ],
 };
+
+// The best point where the farm delivers all that it has.
+const FARM_AT_40: &[u8] = b"    1 COST     BS 70 5 0 0
+    2 NEED     LL 30 1 5 0
+    3 TRIPS    BS 10 1 0 0
+    4 FARM     UL 40 0 -2 0
+    5 COOP     BS -10 1 0 0
+";
 
 /// Two parametric runs of the right-hand side.
 pub const MILK: Listing = Listing {
@@ -475,33 +389,25 @@ INTERVAL 1 FROM 0 TO 10
     4 FARM     BS 30 1 0 0
     5 COOP     LL 0 0 2 0
 INTERVAL 2 FROM 10 TO 15
-    1 COST     BS 70 5 0 0
-    2 NEED     LL 30 1 5 0
-    3 TRIPS    BS 10 1 0 0
-    4 FARM     UL 40 0 -2 0
-    5 COOP     BS -10 1 0 0
-PARARHS ENDS AT 15
+",
+        FARM_AT_40,
+        b"PARARHS ENDS AT 15
 PARARHS FROM 15 CHANGE MORE
 INTERVAL 1 FROM 15 TO 18
-    1 COST     BS 70 5 0 0
-    2 NEED     LL 30 1 5 0
-    3 TRIPS    BS 10 1 0 0
-    4 FARM     UL 40 0 -2 0
-    5 COOP     BS -10 1 0 0
-PARARHS INFEASIBLE PAST 18
+",
+        FARM_AT_40,
+        b"PARARHS INFEASIBLE PAST 18
     2 NEED     -1
     3 TRIPS    1
     4 FARM     1/2
 END 0
 ",
     ],
-    status: 0,
-    line: b"ATTESTED 5 REPORTS\n",
+    found: Finding::Attested(5),
     cases: &[Case {
         name: "another beginning of the second",
         edit: Edit::Text(b"PARARHS FROM 15", b"PARARHS FROM 0"),
-        status: 40,
-        line: b"WRONG LINE 18\n",
+        found: Finding::Wrong(18),
     }],
 };
 
@@ -509,57 +415,16 @@ END 0
 pub const RHS_INTERVALS: Listing = Listing {
     name: "pararhs two intervals",
     job: &[PARARHS_TO_5, problems::TWO_SOURCES],
-    text: &[
-        b"CONVERT T        ROWS 2 COLUMNS 2 ENTRIES 4
-SETUP   T        MIN
-PARARHS FROM 0 CHANGE C
-INTERVAL 1 FROM 0 TO 2
-    1 COST     BS 1 1 0 0
-    2 LOW      LL 1 1 1 0
-    3 X        BS 1 1 0 0
-    4 Y        LL 0 0 1 0
-INTERVAL 2 FROM 2 TO 5
-    1 COST     BS -1 2 0 0
-    2 LOW      LL 1 1 2 0
-    3 X        UL 3 0 -1 0
-    4 Y        BS -2 1 0 0
-PARARHS ENDS AT 5
-END 0
-",
-    ],
-    status: 0,
-    line: b"ATTESTED 3 REPORTS\n",
+    text: &[listings::TWO_SOURCES_FOLLOWED],
+    found: Finding::Attested(3),
     cases: &[],
 };
 
 /// One that is a point.
 pub const RHS_POINT: Listing = Listing {
     name: "pararhs point interval",
-    job: &[
-        b"         PROGRAM
-         CONVERT
-         SETUP('BOUND','BND')
-         MOVE(XCHCOL,'C')
-         MOVE(XPARMAX,0)
-         PARARHS
-         EXIT
-         PEND
-",
-        problems::BOUNDED_ONE,
-    ],
-    text: &[
-        b"CONVERT ONE      ROWS 2 COLUMNS 1 ENTRIES 2
-SETUP   ONE      MIN
-PARARHS FROM 0 CHANGE C
-INTERVAL 1 FROM 0 TO 0
-    1 COST     BS 1 1 0 0
-    2 LOW      LL 1 1 1 0
-    3 X        BS 1 1 0 0
-PARARHS ENDS AT 0
-END 0
-",
-    ],
-    status: 0,
-    line: b"ATTESTED 3 REPORTS\n",
+    job: &[runs::PARARHS_BND_TO_0, problems::BOUNDED_ONE],
+    text: &[listings::BOUNDED_ONE_AT_0],
+    found: Finding::Attested(3),
     cases: &[],
 };

@@ -1,5 +1,6 @@
 // Listings in whose tests an operation is refused.
-use crate::listings::{Case, Edit, Listing};
+use super::listings::{Case, Edit, Finding, Listing};
+use test_decks::parts::{ONE_DEMAND, PLAN_COLUMNS, PLAN_ROWS};
 use test_decks::problems;
 use test_decks::programs::SOLVE;
 
@@ -24,26 +25,30 @@ ENDATA
         b"CONVERT T        ROWS 2 COLUMNS 1 ENTRIES 2
 SETUP   T        MIN
 PRIMAL OPTIMAL STEPS 1 OBJECTIVE 8 CHECKED
-SOLUTION OPTIMAL
-SECTION 1 - ROWS
-NUMBER ROW AT ACTIVITY SLACK LOWER UPPER DUAL
-    1 COST     BS 170141183460469231731687303715884105727 -170141183460469231731687303715884105727 NONE NONE 0
+",
+        PLAN_ROWS,
+        b"    1 COST     BS 170141183460469231731687303715884105727 -170141183460469231731687303715884105727 NONE NONE 0
     2 LIM      LL 170141183460469231731687303715884105727 0 4 NONE 2
-SECTION 2 - COLUMNS
-NUMBER COLUMN AT ACTIVITY COST LOWER UPPER REDUCED
-    3 X        BS 170141183460469231731687303715884105727 2 0 NONE 0
+",
+        PLAN_COLUMNS,
+        b"    3 X        BS 170141183460469231731687303715884105727 2 0 NONE 0
 END 0
 ",
     ],
-    status: 42,
-    line: b"UNCHECKED LINE 4\n",
+    found: Finding::Unchecked(4),
     cases: &[Case {
         name: "a verdict that was not checked",
         edit: Edit::Text(b"CHECKED", b"UNCHECKED MUL 1 2"),
-        status: 42,
-        line: b"UNCHECKED LINE 4\n",
+        found: Finding::Unchecked(4),
     }],
 };
+
+// The stop at the sum of a range, before the number of its card.
+const SUM_REFUSED: &[u8] =
+    b"STOP 20 OVERFLOW F13 SUB 999999999000000000000000000 1/10000000000000000000 P 0 Q 0 I 2 J 0 TERM 1 THETA 0 CARD\x20";
+
+// The rest of that stop, where there is no basis.
+const NO_BASIS: &[u8] = b"\nBASIS NONE\nWAY NONE\n";
 
 /// A range whose sum is refused, in a listing as if it were selected.
 pub const RANGE_REFUSED: Listing = Listing {
@@ -58,32 +63,25 @@ pub const RANGE_REFUSED: Listing = Listing {
         problems::FAR_RANGE,
     ],
     text: &[b"CONVERT T        ROWS 2 COLUMNS 1 ENTRIES 1\nSETUP   T        MIN\nEND 0\n"],
-    status: 42,
-    line: b"UNCHECKED LINE 2\n",
+    found: Finding::Unchecked(2),
     cases: &[
         Case {
             name: "another line",
             edit: Edit::From(b"SETUP", b"END 0\n"),
-            status: 42,
-            line: b"UNCHECKED LINE 2\n",
+            found: Finding::Unchecked(2),
         },
         Case {
             name: "no line",
             edit: Edit::From(b"SETUP", b""),
-            status: 42,
-            line: b"UNCHECKED LINE 2\n",
+            found: Finding::Unchecked(2),
         },
         Case {
             name: "its own stop",
-            edit: Edit::From(
-                b"SETUP",
-                b"STOP 20 OVERFLOW F13 SUB 999999999000000000000000000 1/10000000000000000000 P 0 Q 0 I 2 J 0 TERM 1 THETA 0 CARD 3
-BASIS NONE
-WAY NONE
-",
+            edit: Edit::Parts(
+                &[b"SETUP   T        MIN\nEND 0\n"],
+                &[SUM_REFUSED, b"3", NO_BASIS],
             ),
-            status: 41,
-            line: b"OPEN LINE 2\n",
+            found: Finding::Open(2),
         },
     ],
 };
@@ -110,74 +108,62 @@ SETUP   T        MIN
 END 0
 ",
     ],
-    status: 41,
-    line: b"OPEN LINE 3\n",
+    found: Finding::Open(3),
     cases: &[Case {
         name: "its own stop",
-        edit: Edit::Text(
-            b"CHECKED\nSETUP   T        MIN\nEND 0\n",
-            b"CHECKED
-STOP 20 OVERFLOW F13 SUB 999999999000000000000000000 1/10000000000000000000 P 0 Q 0 I 2 J 0 TERM 1 THETA 0 CARD 5
-BASIS NONE
-WAY NONE
-",
+        edit: Edit::Parts(
+            &[b"SETUP   T        MIN\nEND 0\n"],
+            &[SUM_REFUSED, b"5", NO_BASIS],
         ),
-        status: 41,
-        line: b"OPEN LINE 4\n",
+        found: Finding::Open(4),
     }],
 };
 
-/// INSERT, at whose selection the range is refused, as if the basis were taken. Its deck puts the row at the limit that the range gives.
-pub const INSERT_REFUSED: Listing = Listing {
-    name: "a range that is refused at INSERT",
-    job: &[
-        b"         PROGRAM
+// Selects a range, and inserts a basis once another right-hand side is the present one.
+const INSERT_IN_RANGE: &[u8] = b"         PROGRAM
          CONVERT
          SETUP('RANGE','R')
          MOVE(XRHS,'B')
          INSERT
          EXIT
          PEND
-",
-        problems::FAR_RANGE_OF_B,
-        b"NAME          D
- XL X         LIM
-ENDATA
-",
-    ],
-    text: &[
-        b"CONVERT T        ROWS 2 COLUMNS 1 ENTRIES 1
+";
+
+// The listing where the basis is taken.
+const INSERTED: &[u8] = b"CONVERT T        ROWS 2 COLUMNS 1 ENTRIES 1
 SETUP   T        MIN
 INSERT  D        BASIC 1
 END 0
-",
+";
+
+/// INSERT, at whose selection the range is refused, as if the basis were taken. Its deck puts the row at the limit that the range gives.
+pub const INSERT_REFUSED: Listing = Listing {
+    name: "a range that is refused at INSERT",
+    job: &[
+        INSERT_IN_RANGE,
+        problems::FAR_RANGE_OF_B,
+        b"NAME          D\n XL X         LIM\nENDATA\n",
     ],
-    status: 41,
-    line: b"OPEN LINE 3\n",
+    text: &[INSERTED],
+    found: Finding::Open(3),
     cases: &[
         Case {
             name: "another deck's line",
             edit: Edit::Text(b"INSERT  D", b"INSERT  T"),
-            status: 42,
-            line: b"UNCHECKED LINE 3\n",
+            found: Finding::Unchecked(3),
         },
         Case {
             name: "no line",
             edit: Edit::From(b"INSERT", b"END 0\n"),
-            status: 42,
-            line: b"UNCHECKED LINE 3\n",
+            found: Finding::Unchecked(3),
         },
         Case {
             name: "its own stop",
-            edit: Edit::From(
-                b"INSERT",
-                b"STOP 20 OVERFLOW F13 SUB 999999999000000000000000000 1/10000000000000000000 P 0 Q 0 I 2 J 0 TERM 1 THETA 0 CARD 5
-BASIS NONE
-WAY NONE
-",
+            edit: Edit::Parts(
+                &[b"INSERT  D        BASIC 1\nEND 0\n"],
+                &[SUM_REFUSED, b"5", NO_BASIS],
             ),
-            status: 41,
-            line: b"OPEN LINE 3\n",
+            found: Finding::Open(3),
         },
     ],
 };
@@ -186,29 +172,12 @@ WAY NONE
 pub const BAD_INSERT_REFUSED: Listing = Listing {
     name: "a range that is refused at INSERT of a bad deck",
     job: &[
-        b"         PROGRAM
-         CONVERT
-         SETUP('RANGE','R')
-         MOVE(XRHS,'B')
-         INSERT
-         EXIT
-         PEND
-",
+        INSERT_IN_RANGE,
         problems::FAR_RANGE_OF_B,
-        b"NAME          D
- XL X         COST
-ENDATA
-",
+        b"NAME          D\n XL X         COST\nENDATA\n",
     ],
-    text: &[
-        b"CONVERT T        ROWS 2 COLUMNS 1 ENTRIES 1
-SETUP   T        MIN
-INSERT  D        BASIC 1
-END 0
-",
-    ],
-    status: 42,
-    line: b"UNCHECKED LINE 3\n",
+    text: &[INSERTED],
+    found: Finding::Unchecked(3),
     cases: &[],
 };
 
@@ -225,12 +194,9 @@ pub const FAR_POINT: Listing = Listing {
          PARARHS
          EXIT
          PEND
-NAME          T
-ROWS
- N  COST
- G  LOW
-COLUMNS
-    X         COST      1
+",
+        ONE_DEMAND,
+        b"    X         COST      1
     X         LOW       1
 RHS
     B         LOW       .1E-18
@@ -250,26 +216,22 @@ PARARHS ENDS AT 999999999000000000000000000
 END 0
 ",
     ],
-    status: 42,
-    line: b"UNCHECKED LINE 3\n",
+    found: Finding::Unchecked(3),
     cases: &[
         Case {
             name: "another code",
             edit: Edit::Text(b"COST     BS", b"COST     ZZ"),
-            status: 40,
-            line: b"WRONG LINE 3\n",
+            found: Finding::Wrong(3),
         },
         Case {
             name: "an interval that goes back",
             edit: Edit::Text(b"TO 999999999000000000000000000", b"TO 1"),
-            status: 40,
-            line: b"WRONG LINE 3\n",
+            found: Finding::Wrong(3),
         },
         Case {
             name: "another word behind the interval",
             edit: Edit::Text(b"ENDS AT", b"ENDS OF"),
-            status: 42,
-            line: b"UNCHECKED LINE 3\n",
+            found: Finding::Unchecked(3),
         },
         Case {
             name: "an infeasible opening",
@@ -277,8 +239,7 @@ END 0
                 b"PARARHS FROM",
                 b"PARARHS INFEASIBLE STEPS 0 RAY CHECKED\n    2 LOW      -1\nEND 1\n",
             ),
-            status: 42,
-            line: b"UNCHECKED LINE 3\n",
+            found: Finding::Unchecked(3),
         },
     ],
 };

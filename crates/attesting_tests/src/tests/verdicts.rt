@@ -1,7 +1,10 @@
 // Verdicts that there is no best plan.
-use crate::listings::{Case, Edit, Listing};
-use test_decks::problems;
+use super::listings::{Case, Edit, Finding, Listing};
 use test_decks::programs::SOLVE;
+use test_decks::{listings, problems};
+
+// The ray of the promises.
+const PROMISES_RAY: &[u8] = b"    2 HOURS    1\n    3 CHAIRS   -2\n    4 TABLES   -5\n";
 
 /// Limits that conflict.
 pub const CONFLICT: Listing = Listing {
@@ -45,53 +48,46 @@ PRIMAL INFEASIBLE STEPS 2 RAY CHECKED
 END 1
 ",
     ],
-    status: 0,
-    line: b"ATTESTED 4 REPORTS\n",
+    found: Finding::Attested(4),
     cases: &[
         Case {
             name: "the ray times three",
             edit: Edit::Text(
-                b"    2 HOURS    1\n    3 CHAIRS   -2\n    4 TABLES   -5\n",
+                PROMISES_RAY,
                 b"    2 HOURS    3\n    3 CHAIRS   -6\n    4 TABLES   -15\n",
             ),
-            status: 0,
-            line: b"ATTESTED 4 REPORTS\n",
+            found: Finding::Attested(4),
         },
         Case {
             name: "the ray turned",
             edit: Edit::Text(
-                b"    2 HOURS    1\n    3 CHAIRS   -2\n    4 TABLES   -5\n",
+                PROMISES_RAY,
                 b"    2 HOURS    -1\n    3 CHAIRS   2\n    4 TABLES   5\n",
             ),
-            status: 40,
-            line: b"WRONG LINE 4\n",
+            found: Finding::Wrong(4),
         },
         Case {
             name: "another factor",
             edit: Edit::Text(b"TABLES   -5", b"TABLES   -4"),
-            status: 40,
-            line: b"WRONG LINE 4\n",
+            found: Finding::Wrong(4),
         },
         Case {
             name: "lines exchanged",
             edit: Edit::Text(
-                b"    2 HOURS    1\n    3 CHAIRS   -2\n    4 TABLES   -5\n",
+                PROMISES_RAY,
                 b"    3 CHAIRS   -2\n    2 HOURS    1\n    4 TABLES   -5\n",
             ),
-            status: 40,
-            line: b"WRONG LINE 4\n",
+            found: Finding::Wrong(4),
         },
         Case {
             name: "a zero in front",
             edit: Edit::Text(b"    2 HOURS", b"    1 COST     0\n    2 HOURS"),
-            status: 40,
-            line: b"WRONG LINE 4\n",
+            found: Finding::Wrong(4),
         },
         Case {
             name: "a variable that is not there",
             edit: Edit::Text(b"TABLES   -5\n", b"TABLES   -5\n    9 X        1\n"),
-            status: 40,
-            line: b"WRONG LINE 4\n",
+            found: Finding::Wrong(4),
         },
         Case {
             name: "no variable crossed",
@@ -99,8 +95,7 @@ END 1
                 b"PRIMAL",
                 b"PRIMAL INFEASIBLE STEPS 2 CROSSED 0 CHECKED\nEND 1\n",
             ),
-            status: 40,
-            line: b"WRONG LINE 4\n",
+            found: Finding::Wrong(4),
         },
         Case {
             name: "a variable crossed that is not there",
@@ -108,32 +103,27 @@ END 1
                 b"PRIMAL",
                 b"PRIMAL INFEASIBLE STEPS 2 CROSSED 7 CHECKED\nEND 1\n",
             ),
-            status: 40,
-            line: b"WRONG LINE 4\n",
+            found: Finding::Wrong(4),
         },
         Case {
             name: "a verdict that was not checked",
             edit: Edit::Text(b"CHECKED", b"UNCHECKED ADD 1 2"),
-            status: 40,
-            line: b"WRONG LINE 4\n",
+            found: Finding::Wrong(4),
         },
         Case {
             name: "a line behind the ray",
             edit: Edit::Text(b"TABLES   -5\n", b"TABLES   -5\n junk\n"),
-            status: 40,
-            line: b"WRONG LINE 8\n",
+            found: Finding::Wrong(8),
         },
         Case {
             name: "another end",
             edit: Edit::Text(b"END 1", b"END 0"),
-            status: 40,
-            line: b"WRONG LINE 8\n",
+            found: Finding::Wrong(8),
         },
         Case {
             name: "no memory at the end",
             edit: Edit::Text(b"END 1", b"STOP 28 MEMORY"),
-            status: 41,
-            line: b"OPEN LINE 8\n",
+            found: Finding::Open(8),
         },
     ],
 };
@@ -142,22 +132,12 @@ END 1
 pub const INFEASIBLE: Listing = Listing {
     name: "infeasible ray",
     job: &[SOLVE, problems::CONFLICT],
-    text: &[
-        b"CONVERT T        ROWS 3 COLUMNS 1 ENTRIES 3
-SETUP   T        MIN
-PRIMAL INFEASIBLE STEPS 1 RAY CHECKED
-    2 LOW      -1
-    3 HIGH     1
-END 1
-",
-    ],
-    status: 0,
-    line: b"ATTESTED 3 REPORTS\n",
+    text: &[listings::CONFLICTING_LIMITS],
+    found: Finding::Attested(3),
     cases: &[Case {
         name: "another factor",
         edit: Edit::Text(b"HIGH     1", b"HIGH     2"),
-        status: 40,
-        line: b"WRONG LINE 3\n",
+        found: Finding::Wrong(3),
     }],
 };
 
@@ -199,14 +179,12 @@ PRIMAL UNBOUNDED STEPS 1 OBJECTIVE 200 CHECKED
 END 2
 ",
     ],
-    status: 0,
-    line: b"ATTESTED 4 REPORTS\n",
+    found: Finding::Attested(4),
     cases: &[
         Case {
             name: "another objective",
             edit: Edit::Text(b"OBJECTIVE 200", b"OBJECTIVE 201"),
-            status: 40,
-            line: b"WRONG LINE 4\n",
+            found: Finding::Wrong(4),
         },
         Case {
             name: "a direction of zeros",
@@ -222,8 +200,7 @@ END 2
     4 SELL     40 0
 ",
             ),
-            status: 40,
-            line: b"WRONG LINE 4\n",
+            found: Finding::Wrong(4),
         },
     ],
 };
