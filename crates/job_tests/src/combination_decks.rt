@@ -1,32 +1,109 @@
 // Combination rows: cards that are refused for one, and revisions that state them.
+use crate::frames::{DECK_FAULT, Fault, Frame, Stop, first_unrefused};
 use crate::rows::{DeckRow, Row};
-use test_decks::problems::SUM;
+use crate::runs::{first_unpunched, first_unreported};
+use std::test::Fail;
+use test_decks::problems::{ENDATA, SUM_COLUMNS, SUM_OF_B1_FROM_Y, SUM_OF_B1_TO_X, SUM_ROWS};
 use test_decks::programs::{CONVERT, REVISE, REVISE_AND_SOLVE, SOLVE};
 
-/// Cards that are refused for a combination.
-pub const FAULTS: [Row; 16] = [
+// Cards of ROWS after the objective that are refused for a combination.
+const ROW_CARDS: Frame = Frame {
+    before: &[CONVERT, b"NAME          T\nROWS\n N  COST\n"],
+    after: &[b"COLUMNS\n    X         COST      1\n", ENDATA],
+};
+
+const ROW_FAULTS: [Fault; 7] = [
+    (
+        "a part on the combination itself",
+        " DL S         S         1\n",
+        "6 CARD 8",
+    ),
+    (
+        "a part on a later row",
+        " DL S         A         1\n L  A\n",
+        "6 CARD 8",
+    ),
+    (
+        "a part twice",
+        " L  A\n DL S         A         1              COST      1\n DL S         A         2\n",
+        "7 CARD 10",
+    ),
+    (
+        "another type for a combination",
+        " L  A\n DL S         A         1\n DG S         COST      2\n",
+        "4 CARD 10",
+    ),
+    (
+        "a plain row with a part",
+        " L  A         COST      1\n",
+        "20 CARD 8",
+    ),
+    (
+        "a part without a number",
+        " DL S         COST\n",
+        "8 CARD 8 NUMBER 1",
+    ),
+    (
+        "a combination after another row",
+        " DL S         COST      1\n L  A\n DL S         A         1\n",
+        "4 CARD 10",
+    ),
+];
+
+// Cards of a revision of the sum that are refused.
+const REVISION_CARDS: Frame = Frame {
+    before: &[REVISE, SUM_ROWS, SUM_COLUMNS, b"NAME          NEXT\n"],
+    after: &[ENDATA],
+};
+
+const REVISION_STOP: Stop = Stop {
+    status: 12,
+    listing: &[b"CONVERT T        ROWS 4 COLUMNS 2 ENTRIES 4\nSTOP 12 DECK FAULT "],
+};
+
+const REVISION_FAULTS: [Fault; 6] = [
+    (
+        "a part on a row that comes later",
+        "ROWS\n BEFORE       B\n DL U         B         1\n",
+        "6 CARD 22",
+    ),
+    (
+        "a plain type for a combination",
+        "ROWS\n MODIFY\n L  S\n",
+        "3 CARD 22",
+    ),
+    (
+        "a combination's type for a plain row",
+        "ROWS\n MODIFY\n DL A         COST      1\n",
+        "3 CARD 22",
+    ),
+    (
+        "a row without a name modified",
+        "ROWS\n MODIFY\n Q\n",
+        "15 CARD 22",
+    ),
+    (
+        "an unknown row of an unknown type",
+        "ROWS\n MODIFY\n Q  NOROW\n",
+        "24 CARD 22",
+    ),
+    (
+        "an entry put on a combination",
+        "COLUMNS\n MODIFY\n    X         S         1\n",
+        "28 CARD 22",
+    ),
+];
+
+// Other decks that are refused for a combination.
+const OTHER_FAULTS: [Row; 3] = [
     Row {
         name: "an entry on a combination",
         job: &[
             SOLVE,
-            b"NAME          T
-ROWS
- N  COST
- L  A
- L  B
- DL S         A         1              B         1
-COLUMNS
-    X         COST      -1
-    X         A         1
-    X         S         1
-    Y         COST      -1
-    Y         B         1
-RHS
-    B1        A         3
-    B1        B         3
-    B1        S         4
-ENDATA
-",
+            SUM_ROWS,
+            SUM_OF_B1_TO_X,
+            b"    X         S         1\n",
+            SUM_OF_B1_FROM_Y,
         ],
         status: 12,
         listing: b"STOP 12 DECK FAULT 28 CARD 17\n",
@@ -50,107 +127,6 @@ ENDATA
         listing: b"STOP 12 DECK FAULT 9 CARD 12\n",
     },
     Row {
-        name: "a part on the combination itself",
-        job: &[
-            CONVERT,
-            b"NAME          T
-ROWS
- N  COST
- DL S         S         1
-COLUMNS
-    X         COST      1
-ENDATA
-",
-        ],
-        status: 12,
-        listing: b"STOP 12 DECK FAULT 6 CARD 8\n",
-    },
-    Row {
-        name: "a part on a later row",
-        job: &[
-            CONVERT,
-            b"NAME          T
-ROWS
- N  COST
- DL S         A         1
- L  A
-COLUMNS
-    X         COST      1
-ENDATA
-",
-        ],
-        status: 12,
-        listing: b"STOP 12 DECK FAULT 6 CARD 8\n",
-    },
-    Row {
-        name: "a part twice",
-        job: &[
-            CONVERT,
-            b"NAME          T
-ROWS
- N  COST
- L  A
- DL S         A         1              COST      1
- DL S         A         2
-COLUMNS
-    X         COST      1
-ENDATA
-",
-        ],
-        status: 12,
-        listing: b"STOP 12 DECK FAULT 7 CARD 10\n",
-    },
-    Row {
-        name: "another type for a combination",
-        job: &[
-            CONVERT,
-            b"NAME          T
-ROWS
- N  COST
- L  A
- DL S         A         1
- DG S         COST      2
-COLUMNS
-    X         COST      1
-ENDATA
-",
-        ],
-        status: 12,
-        listing: b"STOP 12 DECK FAULT 4 CARD 10\n",
-    },
-    Row {
-        name: "a plain row with a part",
-        job: &[
-            CONVERT,
-            b"NAME          T
-ROWS
- N  COST
- L  A         COST      1
-COLUMNS
-    X         COST      1
-ENDATA
-",
-        ],
-        status: 12,
-        listing: b"STOP 12 DECK FAULT 20 CARD 8\n",
-    },
-    Row {
-        name: "a part without a number",
-        job: &[
-            CONVERT,
-            b"NAME          T
-ROWS
- N  COST
- DL S         COST
-COLUMNS
-    X         COST      1
-ENDATA
-",
-        ],
-        status: 12,
-        listing: b"STOP 12 DECK FAULT 8 CARD 8 NUMBER 1\n",
-    },
-    Row {
         name: "a part without a row",
         job: &[
             CONVERT,
@@ -165,123 +141,16 @@ ENDATA
         status: 12,
         listing: b"STOP 12 DECK FAULT 15 CARD 8\n",
     },
-    Row {
-        name: "a combination after another row",
-        job: &[
-            CONVERT,
-            b"NAME          T
-ROWS
- N  COST
- DL S         COST      1
- L  A
- DL S         A         1
-COLUMNS
-    X         COST      1
-ENDATA
-",
-        ],
-        status: 12,
-        listing: b"STOP 12 DECK FAULT 4 CARD 10\n",
-    },
-    Row {
-        name: "a part on a row that comes later",
-        job: &[
-            REVISE,
-            SUM,
-            b"NAME          NEXT
-ROWS
- BEFORE       B
- DL U         B         1
-ENDATA
-",
-        ],
-        status: 12,
-        listing: b"CONVERT T        ROWS 4 COLUMNS 2 ENTRIES 4\nSTOP 12 DECK FAULT 6 CARD 22\n",
-    },
-    Row {
-        name: "a plain type for a combination",
-        job: &[
-            REVISE,
-            SUM,
-            b"NAME          NEXT
-ROWS
- MODIFY
- L  S
-ENDATA
-",
-        ],
-        status: 12,
-        listing: b"CONVERT T        ROWS 4 COLUMNS 2 ENTRIES 4\nSTOP 12 DECK FAULT 3 CARD 22\n",
-    },
-    Row {
-        name: "a combination's type for a plain row",
-        job: &[
-            REVISE,
-            SUM,
-            b"NAME          NEXT
-ROWS
- MODIFY
- DL A         COST      1
-ENDATA
-",
-        ],
-        status: 12,
-        listing: b"CONVERT T        ROWS 4 COLUMNS 2 ENTRIES 4\nSTOP 12 DECK FAULT 3 CARD 22\n",
-    },
-    Row {
-        name: "a row without a name modified",
-        job: &[
-            REVISE,
-            SUM,
-            b"NAME          NEXT
-ROWS
- MODIFY
- Q
-ENDATA
-",
-        ],
-        status: 12,
-        listing: b"CONVERT T        ROWS 4 COLUMNS 2 ENTRIES 4\nSTOP 12 DECK FAULT 15 CARD 22\n",
-    },
-    Row {
-        name: "an unknown row of an unknown type",
-        job: &[
-            REVISE,
-            SUM,
-            b"NAME          NEXT
-ROWS
- MODIFY
- Q  NOROW
-ENDATA
-",
-        ],
-        status: 12,
-        listing: b"CONVERT T        ROWS 4 COLUMNS 2 ENTRIES 4\nSTOP 12 DECK FAULT 24 CARD 22\n",
-    },
-    Row {
-        name: "an entry put on a combination",
-        job: &[
-            REVISE,
-            SUM,
-            b"NAME          NEXT
-COLUMNS
- MODIFY
-    X         S         1
-ENDATA
-",
-        ],
-        status: 12,
-        listing: b"CONVERT T        ROWS 4 COLUMNS 2 ENTRIES 4\nSTOP 12 DECK FAULT 28 CARD 22\n",
-    },
 ];
 
-/// Revisions of combinations, and the decks that are written of them.
-pub const REVISIONS: [DeckRow; 5] = [
+// Revisions of combinations, and the decks that are written of them.
+const REVISIONS: [DeckRow; 5] = [
     DeckRow {
         name: "a part replaced and another type",
         job: &[
             REVISE_AND_SOLVE,
-            SUM,
+            SUM_ROWS,
+            SUM_COLUMNS,
             b"NAME          NEXT
 ROWS
  MODIFY
@@ -339,7 +208,8 @@ ENDATA
          EXIT
          PEND
 ",
-            SUM,
+            SUM_ROWS,
+            SUM_COLUMNS,
             b"NAME          NEXT
 ROWS
  DELETE
@@ -365,7 +235,8 @@ END 2
         name: "a combination inserted on two cards",
         job: &[
             REVISE_AND_SOLVE,
-            SUM,
+            SUM_ROWS,
+            SUM_COLUMNS,
             b"NAME          NEXT
 ROWS
  BEFORE       B
@@ -419,7 +290,8 @@ ENDATA
         name: "no parts left",
         job: &[
             REVISE_AND_SOLVE,
-            SUM,
+            SUM_ROWS,
+            SUM_COLUMNS,
             b"NAME          NEXT
 ROWS
  DELETE
@@ -542,3 +414,24 @@ ENDATA
 ",
     },
 ];
+
+#[test]
+fn cards_are_refused_for_combinations(rt: HostRuntime) -> Result<(), Fail> {
+    let alloc = rt.alloc();
+    assert_eq!(rt;
+        first_unrefused(alloc, &ROW_CARDS, &DECK_FAULT, &ROW_FAULTS)?,
+        None
+    );
+    assert_eq!(rt;
+        first_unrefused(alloc, &REVISION_CARDS, &REVISION_STOP, &REVISION_FAULTS)?,
+        None
+    );
+    assert_eq!(rt; first_unreported(alloc, &OTHER_FAULTS)?, None);
+    Ok(())
+}
+
+#[test]
+fn revisions_state_combinations(rt: HostRuntime) -> Result<(), Fail> {
+    assert_eq!(rt; first_unpunched(rt.alloc(), &REVISIONS)?, None);
+    Ok(())
+}

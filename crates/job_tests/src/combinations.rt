@@ -1,9 +1,10 @@
 // Combination rows: plans over them, and the sums that are refused.
-use crate::combination_decks::{FAULTS, REVISIONS};
 use crate::rows::Row;
-use crate::runs::{first_unpunched, first_unreported, is_begun};
+use crate::runs::{first_unreported, is_begun};
 use std::test::Fail;
-use test_decks::problems::{CHAIRS, GREAT_PRODUCT, NESTED};
+use test_decks::problems::{
+    CHAIRS, GREAT_PRODUCT, NESTED, SUM_OF_B1_FROM_Y, SUM_OF_B1_TO_X, SUM_ROWS,
+};
 use test_decks::programs::{SOLVE, SOLVE_MAX, SOLVE_RANGE};
 
 // The listing of a combination that is the sum of two rows, solved.
@@ -28,26 +29,7 @@ END 0
 const PLANS: [Row; 10] = [
     Row {
         name: "a combination row",
-        job: &[
-            SOLVE,
-            b"NAME          T
-ROWS
- N  COST
- L  A
- L  B
- DL S         A         1              B         1
-COLUMNS
-    X         COST      -1
-    X         A         1
-    Y         COST      -1
-    Y         B         1
-RHS
-    B1        A         3
-    B1        B         3
-    B1        S         4
-ENDATA
-",
-        ],
+        job: &[SOLVE, SUM_ROWS, SUM_OF_B1_TO_X, SUM_OF_B1_FROM_Y],
         status: 0,
         listing: SUM_SOLVED,
     },
@@ -398,8 +380,6 @@ WAY NONE
 fn combinations_are_the_sums_of_their_parts(rt: HostRuntime) -> Result<(), Fail> {
     let alloc = rt.alloc();
     assert_eq!(rt; first_unreported(alloc, &PLANS)?, None);
-    assert_eq!(rt; first_unreported(alloc, &FAULTS)?, None);
-    assert_eq!(rt; first_unpunched(alloc, &REVISIONS)?, None);
     for row in &OVERFLOWS {
         assert!(rt; is_begun(alloc, row)?, "{}", row.name);
     }

@@ -1,10 +1,122 @@
 // Worked jobs that stop at a fault of their control cards, of a statement or of a deck.
+use crate::frames::{DECK_FAULT, Fault, Frame, Stop, first_unrefused};
 use crate::rows::Row;
-use test_decks::problems::{ONE, TESTPROB_CARDS};
+use crate::runs::first_unreported;
+use std::test::Fail;
+use test_decks::problems::{ENDATA, ONE, TESTPROB_CARDS};
 use test_decks::programs::{SOLVE, SOLVE_BND1};
 
-/// Jobs whose control cards are refused.
-pub const CONTROL_FAULTS: [Row; 8] = [
+// Cards of a control program that are refused.
+const CONTROL_CARDS: Frame = Frame {
+    before: &[b"         PROGRAM\n"],
+    after: &[b"         PEND\n"],
+};
+
+const CONTROL_STOP: Stop = Stop {
+    status: 8,
+    listing: &[b"STOP 8 CONTROL FAULT "],
+};
+
+const CONTROL_FAULTS: [Fault; 7] = [
+    ("control no label", "         GOTO(HERE)\n", "6 CARD 2"),
+    ("control unknown verb", "         SOLVE\n", "3 CARD 2"),
+    (
+        "control unknown cell",
+        "         MOVE(XFOO,'A')\n",
+        "8 CARD 2",
+    ),
+    (
+        "control bad argument",
+        "         MOVE(XOBJ,5)\n",
+        "7 CARD 2",
+    ),
+    ("control unclosed", "         TITLE('ABC\n", "10 CARD 2"),
+    (
+        "limit not whole",
+        "         MOVE(XITERLIM,5.)\n         MOVE(XITERLIM,.5)\n",
+        "7 CARD 3",
+    ),
+    ("limit some", "         MOVE(XITERLIM,'SOME')\n", "7 CARD 2"),
+];
+
+// Statements after CONVERT of which the last is refused.
+const STATEMENTS: Frame = Frame {
+    before: &[b"         PROGRAM\n         CONVERT\n"],
+    after: &[b"         PEND\n", ONE],
+};
+
+const VERB_STOP: Stop = Stop {
+    status: 10,
+    listing: &[b"CONVERT ONE      ROWS 2 COLUMNS 1 ENTRIES 2\nSTOP 10 VERB FAULT "],
+};
+
+const VERB_FAULTS: [Fault; 5] = [
+    ("no second deck", "         CONVERT\n", "1 CARD 3"),
+    ("no setup", "         PRIMAL\n", "3 CARD 3"),
+    (
+        "objective not free",
+        "         MOVE(XOBJ,'LOW')\n         SETUP\n",
+        "11 CARD 4",
+    ),
+    (
+        "no right hand side",
+        "         MOVE(XRHS,'Z')\n         SETUP\n",
+        "12 CARD 4",
+    ),
+    ("no bound set", "         SETUP('BOUND','Z')\n", "14 CARD 3"),
+];
+
+// Cards after the row of a deck, of which one is refused.
+const DECK_CARDS: Frame = Frame {
+    before: &[SOLVE, b"NAME          T\nROWS\n N  COST\n"],
+    after: &[ENDATA],
+};
+
+const DECK_FAULTS: [Fault; 8] = [
+    ("deck bad row type", " Q  R1\n", "3 CARD 11"),
+    (
+        "deck number bad character",
+        "COLUMNS\n    X         COST      1.2.3\n",
+        "8 CARD 12 NUMBER 2 COLUMN 28",
+    ),
+    (
+        "deck number exponent",
+        "COLUMNS\n    X         COST      1E19\n",
+        "8 CARD 12 NUMBER 4",
+    ),
+    (
+        "deck duplicate entry",
+        "COLUMNS\n    X         COST      1\n    X         COST      1\n",
+        "7 CARD 13",
+    ),
+    (
+        "deck column split",
+        "COLUMNS
+    X         COST      1
+    Y         COST      1
+    X         COST      2
+",
+        "5 CARD 14",
+    ),
+    (
+        "deck marker",
+        "COLUMNS\n    M1        'MARKER'\n",
+        "14 CARD 12",
+    ),
+    (
+        "deck bad bound type",
+        "COLUMNS
+    X         COST      1
+BOUNDS
+ BV BND       X         1
+",
+        "10 CARD 14",
+    ),
+    ("deck unknown section", "OBJSENSE\n", "2 CARD 11"),
+];
+
+// Jobs with other faults.
+const OTHER_FAULTS: [Row; 8] = [
     Row {
         name: "empty job",
         job: &[],
@@ -12,135 +124,10 @@ pub const CONTROL_FAULTS: [Row; 8] = [
         listing: b"STOP 8 CONTROL FAULT 1 CARD 0\n",
     },
     Row {
-        name: "control no label",
-        job: &[b"         PROGRAM\n         GOTO(HERE)\n         PEND\n"],
-        status: 8,
-        listing: b"STOP 8 CONTROL FAULT 6 CARD 2\n",
-    },
-    Row {
-        name: "control unknown verb",
-        job: &[b"         PROGRAM\n         SOLVE\n         PEND\n"],
-        status: 8,
-        listing: b"STOP 8 CONTROL FAULT 3 CARD 2\n",
-    },
-    Row {
-        name: "control unknown cell",
-        job: &[b"         PROGRAM\n         MOVE(XFOO,'A')\n         PEND\n"],
-        status: 8,
-        listing: b"STOP 8 CONTROL FAULT 8 CARD 2\n",
-    },
-    Row {
-        name: "control bad argument",
-        job: &[b"         PROGRAM\n         MOVE(XOBJ,5)\n         PEND\n"],
-        status: 8,
-        listing: b"STOP 8 CONTROL FAULT 7 CARD 2\n",
-    },
-    Row {
-        name: "control unclosed",
-        job: &[b"         PROGRAM\n         TITLE('ABC\n         PEND\n"],
-        status: 8,
-        listing: b"STOP 8 CONTROL FAULT 10 CARD 2\n",
-    },
-    Row {
-        name: "limit not whole",
-        job: &[
-            b"         PROGRAM
-         MOVE(XITERLIM,5.)
-         MOVE(XITERLIM,.5)
-         PEND
-",
-        ],
-        status: 8,
-        listing: b"STOP 8 CONTROL FAULT 7 CARD 3\n",
-    },
-    Row {
-        name: "limit some",
-        job: &[b"         PROGRAM\n         MOVE(XITERLIM,'SOME')\n         PEND\n"],
-        status: 8,
-        listing: b"STOP 8 CONTROL FAULT 7 CARD 2\n",
-    },
-];
-
-/// Jobs of which a statement is refused.
-pub const VERB_FAULTS: [Row; 8] = [
-    Row {
-        name: "no second deck",
-        job: &[
-            b"         PROGRAM
-         CONVERT
-         CONVERT
-         PEND
-",
-            ONE,
-        ],
-        status: 10,
-        listing: b"CONVERT ONE      ROWS 2 COLUMNS 1 ENTRIES 2\nSTOP 10 VERB FAULT 1 CARD 3\n",
-    },
-    Row {
         name: "no problem",
-        job: &[
-            b"         PROGRAM
-         SETUP
-         PEND
-",
-            ONE,
-        ],
+        job: &[b"         PROGRAM\n         SETUP\n         PEND\n", ONE],
         status: 10,
         listing: b"STOP 10 VERB FAULT 2 CARD 2\n",
-    },
-    Row {
-        name: "no setup",
-        job: &[
-            b"         PROGRAM
-         CONVERT
-         PRIMAL
-         PEND
-",
-            ONE,
-        ],
-        status: 10,
-        listing: b"CONVERT ONE      ROWS 2 COLUMNS 1 ENTRIES 2\nSTOP 10 VERB FAULT 3 CARD 3\n",
-    },
-    Row {
-        name: "objective not free",
-        job: &[
-            b"         PROGRAM
-         CONVERT
-         MOVE(XOBJ,'LOW')
-         SETUP
-         PEND
-",
-            ONE,
-        ],
-        status: 10,
-        listing: b"CONVERT ONE      ROWS 2 COLUMNS 1 ENTRIES 2\nSTOP 10 VERB FAULT 11 CARD 4\n",
-    },
-    Row {
-        name: "no right hand side",
-        job: &[
-            b"         PROGRAM
-         CONVERT
-         MOVE(XRHS,'Z')
-         SETUP
-         PEND
-",
-            ONE,
-        ],
-        status: 10,
-        listing: b"CONVERT ONE      ROWS 2 COLUMNS 1 ENTRIES 2\nSTOP 10 VERB FAULT 12 CARD 4\n",
-    },
-    Row {
-        name: "no bound set",
-        job: &[
-            b"         PROGRAM
-         CONVERT
-         SETUP('BOUND','Z')
-         PEND
-",
-            ONE,
-        ],
-        status: 10,
-        listing: b"CONVERT ONE      ROWS 2 COLUMNS 1 ENTRIES 2\nSTOP 10 VERB FAULT 14 CARD 3\n",
     },
     Row {
         name: "mark cleared by xobj",
@@ -169,10 +156,6 @@ STOP 10 VERB FAULT 4 CARD 6
         status: 10,
         listing: b"STOP 10 VERB FAULT 1 CARD 2\n",
     },
-];
-
-/// Jobs of which a card is refused.
-pub const DECK_FAULTS: [Row; 12] = [
     Row {
         name: "card of 81 bytes",
         job: &[
@@ -206,129 +189,6 @@ pub const DECK_FAULTS: [Row; 12] = [
         listing: b"STOP 13 CARD FAULT 4 CARD 3\n",
     },
     Row {
-        name: "deck bad row type",
-        job: &[
-            SOLVE,
-            b"NAME          T
-ROWS
- N  COST
- Q  R1
-ENDATA
-",
-        ],
-        status: 12,
-        listing: b"STOP 12 DECK FAULT 3 CARD 11\n",
-    },
-    Row {
-        name: "deck number bad character",
-        job: &[
-            SOLVE,
-            b"NAME          T
-ROWS
- N  COST
-COLUMNS
-    X         COST      1.2.3
-ENDATA
-",
-        ],
-        status: 12,
-        listing: b"STOP 12 DECK FAULT 8 CARD 12 NUMBER 2 COLUMN 28\n",
-    },
-    Row {
-        name: "deck number exponent",
-        job: &[
-            SOLVE,
-            b"NAME          T
-ROWS
- N  COST
-COLUMNS
-    X         COST      1E19
-ENDATA
-",
-        ],
-        status: 12,
-        listing: b"STOP 12 DECK FAULT 8 CARD 12 NUMBER 4\n",
-    },
-    Row {
-        name: "deck duplicate entry",
-        job: &[
-            SOLVE,
-            b"NAME          T
-ROWS
- N  COST
-COLUMNS
-    X         COST      1
-    X         COST      1
-ENDATA
-",
-        ],
-        status: 12,
-        listing: b"STOP 12 DECK FAULT 7 CARD 13\n",
-    },
-    Row {
-        name: "deck column split",
-        job: &[
-            SOLVE,
-            b"NAME          T
-ROWS
- N  COST
-COLUMNS
-    X         COST      1
-    Y         COST      1
-    X         COST      2
-ENDATA
-",
-        ],
-        status: 12,
-        listing: b"STOP 12 DECK FAULT 5 CARD 14\n",
-    },
-    Row {
-        name: "deck marker",
-        job: &[
-            SOLVE,
-            b"NAME          T
-ROWS
- N  COST
-COLUMNS
-    M1        'MARKER'
-ENDATA
-",
-        ],
-        status: 12,
-        listing: b"STOP 12 DECK FAULT 14 CARD 12\n",
-    },
-    Row {
-        name: "deck bad bound type",
-        job: &[
-            SOLVE,
-            b"NAME          T
-ROWS
- N  COST
-COLUMNS
-    X         COST      1
-BOUNDS
- BV BND       X         1
-ENDATA
-",
-        ],
-        status: 12,
-        listing: b"STOP 12 DECK FAULT 10 CARD 14\n",
-    },
-    Row {
-        name: "deck unknown section",
-        job: &[
-            SOLVE,
-            b"NAME          T
-ROWS
- N  COST
-OBJSENSE
-ENDATA
-",
-        ],
-        status: 12,
-        listing: b"STOP 12 DECK FAULT 2 CARD 11\n",
-    },
-    Row {
         name: "deck without endata",
         job: &[SOLVE_BND1, TESTPROB_CARDS],
         status: 12,
@@ -341,3 +201,18 @@ ENDATA
         listing: b"STOP 12 DECK FAULT 2 CARD 28\n",
     },
 ];
+
+#[test]
+fn faults_are_reported_with_their_cards(rt: HostRuntime) -> Result<(), Fail> {
+    let alloc = rt.alloc();
+    let tables: [(&Frame, &Stop, &[Fault]); 3] = [
+        (&CONTROL_CARDS, &CONTROL_STOP, &CONTROL_FAULTS),
+        (&STATEMENTS, &VERB_STOP, &VERB_FAULTS),
+        (&DECK_CARDS, &DECK_FAULT, &DECK_FAULTS),
+    ];
+    for (cards, stop, faults) in tables {
+        assert_eq!(rt; first_unrefused(alloc, cards, stop, faults)?, None);
+    }
+    assert_eq!(rt; first_unreported(alloc, &OTHER_FAULTS)?, None);
+    Ok(())
+}

@@ -1,72 +1,47 @@
 // Free decks: decks whose cards between others are changed, as CONVERT reads them and BCDOUT writes them out.
+use crate::frames::{DECK_FAULT, Frame, Stop, is_refused};
 use crate::jobs::answer_of;
 use crate::sections::{COLUMNS, NAME_ONE, RHS, ROWS};
 use std::alloc::Global;
 use std::test::Fail;
 use test_decks::problems::ENDATA;
 
-/// Cards with which a deck has a fault, and the line on which the listing ends.
-pub struct Faulty {
-    pub cards: &'static str,
-    pub line: &'static [u8],
+/// Cards with a fault, and the fault's number with its place, as the listing tells them.
+pub type Faulty = (&'static str, &'static str);
+
+/// Cards without a fault, the lines of the listing that tell sizes, and the parts that are written of the cards.
+pub type Lawful = (&'static str, &'static [u8], &'static [&'static [u8]]);
+
+/// Cases of one place in a job: their cards, those that have a fault with their stop, and those that have none with their listing and
+/// the deck that is written out.
+pub struct Place {
+    pub cards: Frame,
+    pub stop: Stop,
+    pub faulty: &'static [Faulty],
+    pub listing: Frame,
+    pub deck: Frame,
+    pub lawful: &'static [Lawful],
 }
 
-/// Cards with which a deck has no fault, the lines of the listing that tell sizes, and the deck that is written out, in parts.
-pub struct Lawful {
-    pub cards: &'static str,
-    pub lines: &'static [u8],
-    pub deck: &'static [&'static [u8]],
+// Whether the job with these cards is converted, and written out as this deck.
+fn is_lawful(alloc: Global, place: &Place, case: &Lawful) -> Result<bool, Fail> {
+    let (cards, lines, deck) = *case;
+    let job = place.cards.around(alloc, cards.as_bytes())?;
+    let listing = place.listing.around(alloc, lines)?;
+    let deck = place.deck.around(alloc, &deck.concat(alloc)?)?;
+    Ok(answer_of(alloc, &job)?.is_punched(0, &listing, &deck))
 }
 
-/// The parts before the cards of a case, what the listing has before its line, and the parts after the cards.
-pub struct Around {
-    pub before: &'static [&'static [u8]],
-    pub listing: &'static [u8],
-    pub after: &'static [&'static [u8]],
-}
-
-// The job of a case.
-fn job_of(alloc: Global, around: &Around, cards: &str) -> Result<Vec<u8>, Fail> {
-    let mut job = around.before.concat(alloc)?;
-    job.extend_from_slice(cards.as_bytes())?;
-    job.extend_from_slice(&around.after.concat(alloc)?)?;
-    Ok(job)
-}
-
-// The listing of a case: the lines before its own, its own, and what follows them.
-fn listing_of(alloc: Global, around: &Around, lines: &[u8], end: &[u8]) -> Result<Vec<u8>, Fail> {
-    let mut listing = Vec::from_slice(alloc, around.listing)?;
-    listing.extend_from_slice(lines)?;
-    listing.extend_from_slice(end)?;
-    Ok(listing)
-}
-
-/// The cards of the first of these cases that hasn't this fault.
-pub fn first_unrefused(
-    alloc: Global,
-    around: &Around,
-    cases: &[Faulty],
-) -> Result<Option<&'static str>, Fail> {
-    for case in cases {
-        let answer = answer_of(alloc, &job_of(alloc, around, case.cards)?)?;
-        if !answer.is(12, &listing_of(alloc, around, case.line, b"")?) {
-            return Ok(Some(case.cards));
+/// The cards of the first case of this place that is answered otherwise.
+pub fn first_unmet(alloc: Global, place: &Place) -> Result<Option<&'static str>, Fail> {
+    for (cards, fault) in place.faulty {
+        if !is_refused(alloc, &place.cards, &place.stop, cards, fault)? {
+            return Ok(Some(*cards));
         }
     }
-    Ok(None)
-}
-
-/// The cards of the first of these cases that isn't read as this deck.
-pub fn first_misread(
-    alloc: Global,
-    around: &Around,
-    cases: &[Lawful],
-) -> Result<Option<&'static str>, Fail> {
-    for case in cases {
-        let answer = answer_of(alloc, &job_of(alloc, around, case.cards)?)?;
-        let listing = listing_of(alloc, around, case.lines, b"END 0\n")?;
-        if !answer.is_punched(0, &listing, &case.deck.concat(alloc)?) {
-            return Ok(Some(case.cards));
+    for case in place.lawful {
+        if !is_lawful(alloc, place, case)? {
+            return Ok(Some(case.0));
         }
     }
     Ok(None)
@@ -91,420 +66,247 @@ const FREE_COLUMNS: &[u8] = b"COLUMNS\n X COST 1 LOW 1\n";
 
 const FREE_RHS: &[u8] = b"RHS\n LOW 1\n";
 
+// The listing of a free deck without a fault.
+const WRITTEN: Frame = Frame {
+    before: &[],
+    after: &[b"END 0\n"],
+};
+
+// The lines of a deck of so many cards, with the rows and the column of the free deck.
+const OF_10_CARDS: &[u8] =
+    b"CONVERT ONE      ROWS 2 COLUMNS 1 ENTRIES 2\nBCDOUT  ONE      CARDS 10\n";
+
+const OF_12_CARDS: &[u8] =
+    b"CONVERT ONE      ROWS 2 COLUMNS 1 ENTRIES 2\nBCDOUT  ONE      CARDS 12\n";
+
 // A card of COLUMNS, card 13 of the job.
-const ENTRY_AROUND: Around = Around {
-    before: &[BCDOUT, FREE_NAME, FREE_ROWS, b"COLUMNS\n"],
-    listing: b"",
-    after: &[FREE_RHS, ENDATA],
+const ENTRIES: Place = Place {
+    cards: Frame {
+        before: &[BCDOUT, FREE_NAME, FREE_ROWS, b"COLUMNS\n"],
+        after: &[FREE_RHS, ENDATA],
+    },
+    stop: DECK_FAULT,
+    faulty: &ENTRY_FAULTS,
+    listing: WRITTEN,
+    deck: Frame {
+        before: &[NAME_ONE, ROWS],
+        after: &[RHS, ENDATA],
+    },
+    lawful: &ENTRY_DECKS,
 };
 
 const ENTRY_FAULTS: [Faulty; 18] = [
-    Faulty {
-        cards: " X COST\n",
-        line: b"STOP 12 DECK FAULT 25 CARD 13\n",
-    },
-    Faulty {
-        cards: " X COST 1 LOW\n",
-        line: b"STOP 12 DECK FAULT 25 CARD 13\n",
-    },
-    Faulty {
-        cards: " X COST 1 LOW 1 LOW\n",
-        line: b"STOP 12 DECK FAULT 25 CARD 13\n",
-    },
-    Faulty {
-        cards: " X\n",
-        line: b"STOP 12 DECK FAULT 25 CARD 13\n",
-    },
-    Faulty {
-        cards: " LONGNAME9 COST 1\n",
-        line: b"STOP 12 DECK FAULT 26 CARD 13\n",
-    },
-    Faulty {
-        cards: " X LONGNAME9 1\n",
-        line: b"STOP 12 DECK FAULT 26 CARD 13\n",
-    },
-    Faulty {
-        cards: " X COST 1 LONGNAME9 1\n",
-        line: b"STOP 12 DECK FAULT 26 CARD 13\n",
-    },
-    Faulty {
-        cards: " X COST 1234567890123\n",
-        line: b"STOP 12 DECK FAULT 27 CARD 13\n",
-    },
-    Faulty {
-        cards: " LONGNAME9 COST 1234567890123\n",
-        line: b"STOP 12 DECK FAULT 26 CARD 13\n",
-    },
-    Faulty {
-        cards: " X COST 1 LOW 1.2.3\n",
-        line: b"STOP 12 DECK FAULT 8 CARD 13 NUMBER 2 COLUMN 18\n",
-    },
-    Faulty {
-        cards: " X COST 1 LOW Q\n",
-        line: b"STOP 12 DECK FAULT 8 CARD 13 NUMBER 2 COLUMN 15\n",
-    },
-    Faulty {
-        cards: "   X   COST   E1\n",
-        line: b"STOP 12 DECK FAULT 8 CARD 13 NUMBER 3\n",
-    },
-    Faulty {
-        cards: " X COST 1E19\n",
-        line: b"STOP 12 DECK FAULT 8 CARD 13 NUMBER 4\n",
-    },
-    Faulty {
-        cards: " X COST 1 COST 1\n",
-        line: b"STOP 12 DECK FAULT 7 CARD 13\n",
-    },
-    Faulty {
-        cards: " X NOROW 1\n",
-        line: b"STOP 12 DECK FAULT 6 CARD 13\n",
-    },
-    Faulty {
-        cards: " M1 'MARKER' 'INTORG'\n",
-        line: b"STOP 12 DECK FAULT 14 CARD 13\n",
-    },
-    Faulty {
-        cards: " M1 'MARKER'\n",
-        line: b"STOP 12 DECK FAULT 25 CARD 13\n",
-    },
-    Faulty {
-        cards: "X COST 1\n",
-        line: b"STOP 12 DECK FAULT 2 CARD 13\n",
-    },
+    (" X COST\n", "25 CARD 13"),
+    (" X COST 1 LOW\n", "25 CARD 13"),
+    (" X COST 1 LOW 1 LOW\n", "25 CARD 13"),
+    (" X\n", "25 CARD 13"),
+    (" LONGNAME9 COST 1\n", "26 CARD 13"),
+    (" X LONGNAME9 1\n", "26 CARD 13"),
+    (" X COST 1 LONGNAME9 1\n", "26 CARD 13"),
+    (" X COST 1234567890123\n", "27 CARD 13"),
+    (" LONGNAME9 COST 1234567890123\n", "26 CARD 13"),
+    (" X COST 1 LOW 1.2.3\n", "8 CARD 13 NUMBER 2 COLUMN 18"),
+    (" X COST 1 LOW Q\n", "8 CARD 13 NUMBER 2 COLUMN 15"),
+    ("   X   COST   E1\n", "8 CARD 13 NUMBER 3"),
+    (" X COST 1E19\n", "8 CARD 13 NUMBER 4"),
+    (" X COST 1 COST 1\n", "7 CARD 13"),
+    (" X NOROW 1\n", "6 CARD 13"),
+    (" M1 'MARKER' 'INTORG'\n", "14 CARD 13"),
+    (" M1 'MARKER'\n", "25 CARD 13"),
+    ("X COST 1\n", "2 CARD 13"),
 ];
 
 const ENTRY_DECKS: [Lawful; 2] = [
-    Lawful {
-        cards: " EIGHTLET COST 123456789012 LOW 1\n",
-        lines: b"CONVERT ONE      ROWS 2 COLUMNS 1 ENTRIES 2\nBCDOUT  ONE      CARDS 10\n",
-        deck: &[
-            NAME_ONE,
-            ROWS,
-            b"COLUMNS\n    EIGHTLET  COST      123456789012\n    EIGHTLET  LOW       1\n",
-            RHS,
-            ENDATA,
-        ],
-    },
-    Lawful {
-        cards: "                                                            X COST 1 LOW 1\n",
-        lines: b"CONVERT ONE      ROWS 2 COLUMNS 1 ENTRIES 2\nBCDOUT  ONE      CARDS 10\n",
-        deck: &[NAME_ONE, ROWS, COLUMNS, RHS, ENDATA],
-    },
+    (
+        " EIGHTLET COST 123456789012 LOW 1\n",
+        OF_10_CARDS,
+        &[b"COLUMNS\n    EIGHTLET  COST      123456789012\n    EIGHTLET  LOW       1\n"],
+    ),
+    (
+        "                                                            X COST 1 LOW 1\n",
+        OF_10_CARDS,
+        &[COLUMNS],
+    ),
 ];
 
 // A third card of ROWS, card 12.
-const ROW_AROUND: Around = Around {
-    before: &[BCDOUT, FREE_NAME, FREE_ROWS],
-    listing: b"",
-    after: &[FREE_COLUMNS, FREE_RHS, ENDATA],
+const THIRD_ROW: Place = Place {
+    cards: Frame {
+        before: &[BCDOUT, FREE_NAME, FREE_ROWS],
+        after: &[FREE_COLUMNS, FREE_RHS, ENDATA],
+    },
+    stop: DECK_FAULT,
+    faulty: &ROW_FAULTS,
+    listing: WRITTEN,
+    deck: Frame {
+        before: &[NAME_ONE, ROWS],
+        after: &[COLUMNS, RHS, ENDATA],
+    },
+    lawful: &ROW_DECKS,
 };
 
 const ROW_FAULTS: [Faulty; 16] = [
-    Faulty {
-        cards: " Q R X\n",
-        line: b"STOP 12 DECK FAULT 3 CARD 12\n",
-    },
-    Faulty {
-        cards: " Q R\n",
-        line: b"STOP 12 DECK FAULT 3 CARD 12\n",
-    },
-    Faulty {
-        cards: " L\n",
-        line: b"STOP 12 DECK FAULT 25 CARD 12\n",
-    },
-    Faulty {
-        cards: " L A B 1\n",
-        line: b"STOP 12 DECK FAULT 25 CARD 12\n",
-    },
-    Faulty {
-        cards: " G LOW\n",
-        line: b"STOP 12 DECK FAULT 4 CARD 12\n",
-    },
-    Faulty {
-        cards: " DN\n",
-        line: b"STOP 12 DECK FAULT 25 CARD 12\n",
-    },
-    Faulty {
-        cards: " DN S COST\n",
-        line: b"STOP 12 DECK FAULT 25 CARD 12\n",
-    },
-    Faulty {
-        cards: " DL S COST 1 LOW\n",
-        line: b"STOP 12 DECK FAULT 25 CARD 12\n",
-    },
-    Faulty {
-        cards: " L LONGNAME9\n",
-        line: b"STOP 12 DECK FAULT 26 CARD 12\n",
-    },
-    Faulty {
-        cards: " Q LONGNAME9\n",
-        line: b"STOP 12 DECK FAULT 3 CARD 12\n",
-    },
-    Faulty {
-        cards: " DL LONGNAME9 COST 1\n",
-        line: b"STOP 12 DECK FAULT 26 CARD 12\n",
-    },
-    Faulty {
-        cards: " DL S LONGNAME9 1\n",
-        line: b"STOP 12 DECK FAULT 26 CARD 12\n",
-    },
-    Faulty {
-        cards: " DL S COST 1234567890123\n",
-        line: b"STOP 12 DECK FAULT 27 CARD 12\n",
-    },
-    Faulty {
-        cards: " DL S S 1\n",
-        line: b"STOP 12 DECK FAULT 6 CARD 12\n",
-    },
-    Faulty {
-        cards: " DL COST COST 1\n",
-        line: b"STOP 12 DECK FAULT 4 CARD 12\n",
-    },
-    Faulty {
-        cards: " DL S COST 1 LOW 1.2.3\n",
-        line: b"STOP 12 DECK FAULT 8 CARD 12 NUMBER 2 COLUMN 21\n",
-    },
+    (" Q R X\n", "3 CARD 12"),
+    (" Q R\n", "3 CARD 12"),
+    (" L\n", "25 CARD 12"),
+    (" L A B 1\n", "25 CARD 12"),
+    (" G LOW\n", "4 CARD 12"),
+    (" DN\n", "25 CARD 12"),
+    (" DN S COST\n", "25 CARD 12"),
+    (" DL S COST 1 LOW\n", "25 CARD 12"),
+    (" L LONGNAME9\n", "26 CARD 12"),
+    (" Q LONGNAME9\n", "3 CARD 12"),
+    (" DL LONGNAME9 COST 1\n", "26 CARD 12"),
+    (" DL S LONGNAME9 1\n", "26 CARD 12"),
+    (" DL S COST 1234567890123\n", "27 CARD 12"),
+    (" DL S S 1\n", "6 CARD 12"),
+    (" DL COST COST 1\n", "4 CARD 12"),
+    (" DL S COST 1 LOW 1.2.3\n", "8 CARD 12 NUMBER 2 COLUMN 21"),
 ];
 
 const ROW_DECKS: [Lawful; 2] = [
-    Lawful {
-        cards: " L A\n",
-        lines: b"CONVERT ONE      ROWS 3 COLUMNS 1 ENTRIES 2\nBCDOUT  ONE      CARDS 11\n",
-        deck: &[NAME_ONE, ROWS, b" L  A\n", COLUMNS, RHS, ENDATA],
-    },
-    Lawful {
-        cards: " DN S\n DL T COST 1\n DG U COST 1 LOW -2\n DG U T 3\n",
-        lines: b"CONVERT ONE      ROWS 5 COLUMNS 1 ENTRIES 2\nBCDOUT  ONE      CARDS 15\n",
-        deck: &[
-            NAME_ONE,
-            ROWS,
+    (
+        " L A\n",
+        b"CONVERT ONE      ROWS 3 COLUMNS 1 ENTRIES 2\nBCDOUT  ONE      CARDS 11\n",
+        &[b" L  A\n"],
+    ),
+    (
+        " DN S\n DL T COST 1\n DG U COST 1 LOW -2\n DG U T 3\n",
+        b"CONVERT ONE      ROWS 5 COLUMNS 1 ENTRIES 2\nBCDOUT  ONE      CARDS 15\n",
+        &[
             b" DN S
  DL T         COST      1
  DG U         COST      1
  DG U         LOW       -2
  DG U         T         3
 ",
-            COLUMNS,
-            RHS,
-            ENDATA,
         ],
-    },
+    ),
 ];
 
 // A section between RHS and ENDATA, whose first data card is card 17.
-const SET_AROUND: Around = Around {
-    before: &[BCDOUT, FREE_NAME, FREE_ROWS, FREE_COLUMNS, FREE_RHS],
-    listing: b"",
-    after: &[ENDATA],
+const SETS: Place = Place {
+    cards: Frame {
+        before: &[BCDOUT, FREE_NAME, FREE_ROWS, FREE_COLUMNS, FREE_RHS],
+        after: &[ENDATA],
+    },
+    stop: DECK_FAULT,
+    faulty: &SET_FAULTS,
+    listing: WRITTEN,
+    deck: Frame {
+        before: &[NAME_ONE, ROWS, COLUMNS, RHS],
+        after: &[ENDATA],
+    },
+    lawful: &SET_DECKS,
 };
 
 const SET_FAULTS: [Faulty; 12] = [
-    Faulty {
-        cards: "BOUNDS\n UP X\n",
-        line: b"STOP 12 DECK FAULT 25 CARD 17\n",
-    },
-    Faulty {
-        cards: "BOUNDS\n MI B X 1\n",
-        line: b"STOP 12 DECK FAULT 25 CARD 17\n",
-    },
-    Faulty {
-        cards: "BOUNDS\n FR B X 1\n",
-        line: b"STOP 12 DECK FAULT 25 CARD 17\n",
-    },
-    Faulty {
-        cards: "BOUNDS\n BV\n",
-        line: b"STOP 12 DECK FAULT 10 CARD 17\n",
-    },
-    Faulty {
-        cards: "BOUNDS\n BV B X 1\n",
-        line: b"STOP 12 DECK FAULT 10 CARD 17\n",
-    },
-    Faulty {
-        cards: "BOUNDS\n FX B X 12345678901E1\n",
-        line: b"STOP 12 DECK FAULT 27 CARD 17\n",
-    },
-    Faulty {
-        cards: "BOUNDS\n UP B Y 1\n",
-        line: b"STOP 12 DECK FAULT 11 CARD 17\n",
-    },
-    Faulty {
-        cards: "BOUNDS\n UP LONGNAME9 X 1\n",
-        line: b"STOP 12 DECK FAULT 26 CARD 17\n",
-    },
-    Faulty {
-        cards: "RANGES\n COST 1 LOW 1\n",
-        line: b"STOP 12 DECK FAULT 9 CARD 17\n",
-    },
-    Faulty {
-        cards: "RANGES\n R\n",
-        line: b"STOP 12 DECK FAULT 25 CARD 17\n",
-    },
-    Faulty {
-        cards: "RANGES\n LOW 1 LOW 1\n",
-        line: b"STOP 12 DECK FAULT 7 CARD 17\n",
-    },
-    Faulty {
-        cards: "RANGES\n R LOW 1 LOW 1 X\n",
-        line: b"STOP 12 DECK FAULT 25 CARD 17\n",
-    },
+    ("BOUNDS\n UP X\n", "25 CARD 17"),
+    ("BOUNDS\n MI B X 1\n", "25 CARD 17"),
+    ("BOUNDS\n FR B X 1\n", "25 CARD 17"),
+    ("BOUNDS\n BV\n", "10 CARD 17"),
+    ("BOUNDS\n BV B X 1\n", "10 CARD 17"),
+    ("BOUNDS\n FX B X 12345678901E1\n", "27 CARD 17"),
+    ("BOUNDS\n UP B Y 1\n", "11 CARD 17"),
+    ("BOUNDS\n UP LONGNAME9 X 1\n", "26 CARD 17"),
+    ("RANGES\n COST 1 LOW 1\n", "9 CARD 17"),
+    ("RANGES\n R\n", "25 CARD 17"),
+    ("RANGES\n LOW 1 LOW 1\n", "7 CARD 17"),
+    ("RANGES\n R LOW 1 LOW 1 X\n", "25 CARD 17"),
 ];
 
 const SET_DECKS: [Lawful; 6] = [
-    Lawful {
-        cards: "BOUNDS\n FR X\n",
-        lines: b"CONVERT ONE      ROWS 2 COLUMNS 1 ENTRIES 2\nBCDOUT  ONE      CARDS 12\n",
-        deck: &[
-            NAME_ONE,
-            ROWS,
-            COLUMNS,
-            RHS,
-            b"BOUNDS\n FR           X\n",
-            ENDATA,
-        ],
-    },
-    Lawful {
-        cards: "BOUNDS\n FR B X\n",
-        lines: b"CONVERT ONE      ROWS 2 COLUMNS 1 ENTRIES 2\nBCDOUT  ONE      CARDS 12\n",
-        deck: &[
-            NAME_ONE,
-            ROWS,
-            COLUMNS,
-            RHS,
-            b"BOUNDS\n FR B         X\n",
-            ENDATA,
-        ],
-    },
-    Lawful {
-        cards: "BOUNDS\n UP X 1\n",
-        lines: b"CONVERT ONE      ROWS 2 COLUMNS 1 ENTRIES 2\nBCDOUT  ONE      CARDS 12\n",
-        deck: &[
-            NAME_ONE,
-            ROWS,
-            COLUMNS,
-            RHS,
-            b"BOUNDS\n UP           X         1\n",
-            ENDATA,
-        ],
-    },
-    Lawful {
-        cards: "BOUNDS\n UP B X 1\n",
-        lines: b"CONVERT ONE      ROWS 2 COLUMNS 1 ENTRIES 2\nBCDOUT  ONE      CARDS 12\n",
-        deck: &[
-            NAME_ONE,
-            ROWS,
-            COLUMNS,
-            RHS,
-            b"BOUNDS\n UP B         X         1\n",
-            ENDATA,
-        ],
-    },
-    Lawful {
-        cards: "RANGES\n LOW 1\n",
-        lines: b"CONVERT ONE      ROWS 2 COLUMNS 1 ENTRIES 2\nBCDOUT  ONE      CARDS 12\n",
-        deck: &[
-            NAME_ONE,
-            ROWS,
-            COLUMNS,
-            RHS,
-            b"RANGES\n              LOW       1\n",
-            ENDATA,
-        ],
-    },
-    Lawful {
-        cards: "RANGES\n R LOW 1\n",
-        lines: b"CONVERT ONE      ROWS 2 COLUMNS 1 ENTRIES 2\nBCDOUT  ONE      CARDS 12\n",
-        deck: &[
-            NAME_ONE,
-            ROWS,
-            COLUMNS,
-            RHS,
-            b"RANGES\n    R         LOW       1\n",
-            ENDATA,
-        ],
-    },
+    (
+        "BOUNDS\n FR X\n",
+        OF_12_CARDS,
+        &[b"BOUNDS\n FR           X\n"],
+    ),
+    (
+        "BOUNDS\n FR B X\n",
+        OF_12_CARDS,
+        &[b"BOUNDS\n FR B         X\n"],
+    ),
+    (
+        "BOUNDS\n UP X 1\n",
+        OF_12_CARDS,
+        &[b"BOUNDS\n UP           X         1\n"],
+    ),
+    (
+        "BOUNDS\n UP B X 1\n",
+        OF_12_CARDS,
+        &[b"BOUNDS\n UP B         X         1\n"],
+    ),
+    (
+        "RANGES\n LOW 1\n",
+        OF_12_CARDS,
+        &[b"RANGES\n              LOW       1\n"],
+    ),
+    (
+        "RANGES\n R LOW 1\n",
+        OF_12_CARDS,
+        &[b"RANGES\n    R         LOW       1\n"],
+    ),
 ];
 
 // The NAME card, card 8: it begins a free deck, or a fixed one, of which card 10 has a fault.
-const NAME_AROUND: Around = Around {
-    before: &[BCDOUT],
-    listing: b"",
-    after: &[FREE_ROWS, FREE_COLUMNS, FREE_RHS, ENDATA],
+const NAMES: Place = Place {
+    cards: Frame {
+        before: &[BCDOUT],
+        after: &[FREE_ROWS, FREE_COLUMNS, FREE_RHS, ENDATA],
+    },
+    stop: DECK_FAULT,
+    faulty: &NAME_FAULTS,
+    listing: WRITTEN,
+    deck: Frame {
+        before: &[],
+        after: &[ROWS, COLUMNS, RHS, ENDATA],
+    },
+    lawful: &NAME_DECKS,
 };
 
 const NAME_FAULTS: [Faulty; 9] = [
-    Faulty {
-        cards: "NAME          ONE      FREE\n",
-        line: b"STOP 12 DECK FAULT 20 CARD 10\n",
-    },
-    Faulty {
-        cards: "NAME          ONE      XFREE\n",
-        line: b"STOP 12 DECK FAULT 20 CARD 10\n",
-    },
-    Faulty {
-        cards: "NAME          ONE     X FREE\n",
-        line: b"STOP 12 DECK FAULT 20 CARD 10\n",
-    },
-    Faulty {
-        cards: "NAME          ONE       FREE X\n",
-        line: b"STOP 12 DECK FAULT 20 CARD 10\n",
-    },
-    Faulty {
-        cards: "NAME          ONE       FREE                                                   X\n",
-        line: b"STOP 12 DECK FAULT 20 CARD 10\n",
-    },
-    Faulty {
-        cards: "NAME          ONE       FREED\n",
-        line: b"STOP 12 DECK FAULT 20 CARD 10\n",
-    },
-    Faulty {
-        cards: "NAME ONE FREE\n",
-        line: b"STOP 12 DECK FAULT 20 CARD 10\n",
-    },
-    Faulty {
-        cards: "NAME          ONE       free\n",
-        line: b"STOP 12 DECK FAULT 20 CARD 10\n",
-    },
-    Faulty {
-        cards: "NAME          A NAME  FREE\n",
-        line: b"STOP 12 DECK FAULT 20 CARD 10\n",
-    },
+    ("NAME          ONE      FREE\n", "20 CARD 10"),
+    ("NAME          ONE      XFREE\n", "20 CARD 10"),
+    ("NAME          ONE     X FREE\n", "20 CARD 10"),
+    ("NAME          ONE       FREE X\n", "20 CARD 10"),
+    (
+        "NAME          ONE       FREE                                                   X\n",
+        "20 CARD 10",
+    ),
+    ("NAME          ONE       FREED\n", "20 CARD 10"),
+    ("NAME ONE FREE\n", "20 CARD 10"),
+    ("NAME          ONE       free\n", "20 CARD 10"),
+    ("NAME          A NAME  FREE\n", "20 CARD 10"),
 ];
 
 const NAME_DECKS: [Lawful; 2] = [
-    Lawful {
-        cards: "NAME          A NAME    FREE\n",
-        lines: b"CONVERT A NAME   ROWS 2 COLUMNS 1 ENTRIES 2\nBCDOUT  A NAME   CARDS 10\n",
-        deck: &[b"NAME          A NAME\n", ROWS, COLUMNS, RHS, ENDATA],
-    },
-    Lawful {
-        cards: "NAME                    FREE\n",
-        lines: b"CONVERT          ROWS 2 COLUMNS 1 ENTRIES 2\nBCDOUT           CARDS 10\n",
-        deck: &[b"NAME\n", ROWS, COLUMNS, RHS, ENDATA],
-    },
+    (
+        "NAME          A NAME    FREE\n",
+        b"CONVERT A NAME   ROWS 2 COLUMNS 1 ENTRIES 2\nBCDOUT  A NAME   CARDS 10\n",
+        &[b"NAME          A NAME\n"],
+    ),
+    (
+        "NAME                    FREE\n",
+        b"CONVERT          ROWS 2 COLUMNS 1 ENTRIES 2\nBCDOUT           CARDS 10\n",
+        &[b"NAME\n"],
+    ),
 ];
 
 #[test]
 fn words_of_entries(rt: HostRuntime) -> Result<(), Fail> {
-    let alloc = rt.alloc();
-    assert_eq!(rt; first_unrefused(alloc, &ENTRY_AROUND, &ENTRY_FAULTS)?, None);
-    assert_eq!(rt; first_misread(alloc, &ENTRY_AROUND, &ENTRY_DECKS)?, None);
+    assert_eq!(rt; first_unmet(rt.alloc(), &ENTRIES)?, None);
     Ok(())
 }
 
 #[test]
 fn words_of_rows_and_sets(rt: HostRuntime) -> Result<(), Fail> {
-    let alloc = rt.alloc();
-    assert_eq!(rt; first_unrefused(alloc, &ROW_AROUND, &ROW_FAULTS)?, None);
-    assert_eq!(rt; first_misread(alloc, &ROW_AROUND, &ROW_DECKS)?, None);
-    assert_eq!(rt; first_unrefused(alloc, &SET_AROUND, &SET_FAULTS)?, None);
-    assert_eq!(rt; first_misread(alloc, &SET_AROUND, &SET_DECKS)?, None);
+    assert_eq!(rt; first_unmet(rt.alloc(), &THIRD_ROW)?, None);
+    assert_eq!(rt; first_unmet(rt.alloc(), &SETS)?, None);
     Ok(())
 }
 
 #[test]
 fn name_cards_of_free_decks(rt: HostRuntime) -> Result<(), Fail> {
-    let alloc = rt.alloc();
-    assert_eq!(rt; first_unrefused(alloc, &NAME_AROUND, &NAME_FAULTS)?, None);
-    assert_eq!(rt; first_misread(alloc, &NAME_AROUND, &NAME_DECKS)?, None);
+    assert_eq!(rt; first_unmet(rt.alloc(), &NAMES)?, None);
     Ok(())
 }

@@ -16,6 +16,8 @@ mod engines;
 #[cfg(test)]
 mod faults;
 #[cfg(test)]
+mod frames;
+#[cfg(test)]
 mod free_decks;
 #[cfg(test)]
 mod free_revisions;

@@ -1,7 +1,6 @@
 // Jobs without words over devices that don't fail.
 use crate::bases::BASES;
 use crate::dual_paths::DUAL_PATHS;
-use crate::faults::{CONTROL_FAULTS, DECK_FAULTS, VERB_FAULTS};
 use crate::jobs::{answer_of, answer_of_parts};
 use crate::overflows::OVERFLOWS;
 use crate::parametric_runs::PARAMETRIC;
@@ -66,14 +65,6 @@ fn parametric_runs_are_exact(rt: HostRuntime) -> Result<(), Fail> {
 #[test]
 fn verdicts_and_limits_end_a_run(rt: HostRuntime) -> Result<(), Fail> {
     assert_eq!(rt; first_unreported(rt.alloc(), &VERDICTS)?, None);
-    Ok(())
-}
-
-#[test]
-fn faults_are_reported_with_their_cards(rt: HostRuntime) -> Result<(), Fail> {
-    assert_eq!(rt; first_unreported(rt.alloc(), &CONTROL_FAULTS)?, None);
-    assert_eq!(rt; first_unreported(rt.alloc(), &VERB_FAULTS)?, None);
-    assert_eq!(rt; first_unreported(rt.alloc(), &DECK_FAULTS)?, None);
     Ok(())
 }
 
