@@ -1,11 +1,11 @@
 // Paths that the dual simplex method follows.
-use crate::rows::DeckRow;
+use crate::rows::Row;
 use test_decks::problems::{CONFLICT, ENDATA, ENDLESS, PLAN, TESTPROB_CARDS};
 use test_decks::programs::{DUAL, DUAL_BND};
 
 /// Programs of DUAL, with their listings.
-pub const DUAL_PATHS: [DeckRow; 14] = [
-    DeckRow {
+pub const DUAL_PATHS: [Row; 14] = [
+    Row {
         name: "dual testprob",
         job: &[
             b"         PROGRAM
@@ -37,9 +37,8 @@ NUMBER COLUMN AT ACTIVITY COST LOWER UPPER REDUCED
     7 ZTHREE   BS 6 9 0 NONE 0
 END 0
 ",
-        cards: b"",
     },
-    DeckRow {
+    Row {
         name: "dual infeasible",
         job: &[DUAL, CONFLICT],
         status: 1,
@@ -50,9 +49,8 @@ DUAL INFEASIBLE STEPS 1 RAY CHECKED
     3 HIGH     1
 END 1
 ",
-        cards: b"",
     },
-    DeckRow {
+    Row {
         name: "dual wrong prices",
         job: &[DUAL, ENDLESS],
         status: 10,
@@ -60,9 +58,8 @@ END 1
 SETUP   T        MIN
 STOP 10 VERB FAULT 16 CARD 4 VARIABLE 2
 ",
-        cards: b"",
     },
-    DeckRow {
+    Row {
         name: "dual of a plan",
         job: &[DUAL_BND, PLAN],
         status: 0,
@@ -83,9 +80,8 @@ NUMBER COLUMN AT ACTIVITY COST LOWER UPPER REDUCED
     7 Z        LL 0 4 0 1 1
 END 0
 ",
-        cards: b"",
     },
-    DeckRow {
+    Row {
         name: "dual and primal at an optimal basis",
         job: &[
             b"         PROGRAM
@@ -107,9 +103,8 @@ DUAL OPTIMAL STEPS 0 OBJECTIVE 9 CHECKED
 PRIMAL OPTIMAL STEPS 0 OBJECTIVE 9 CHECKED
 END 0
 ",
-        cards: b"",
     },
-    DeckRow {
+    Row {
         name: "dual past its limit",
         job: &[
             b"         PROGRAM
@@ -127,9 +122,8 @@ END 0
 SETUP   PLAN     MIN
 STOP 16 ITERATION LIMIT 1 CARD 5
 ",
-        cards: b"",
     },
-    DeckRow {
+    Row {
         name: "dual at its limit",
         job: &[
             b"         PROGRAM
@@ -148,9 +142,8 @@ SETUP   PLAN     MIN
 DUAL OPTIMAL STEPS 2 OBJECTIVE 9 CHECKED
 END 0
 ",
-        cards: b"",
     },
-    DeckRow {
+    Row {
         name: "dual after another right hand side",
         job: &[
             b"         PROGRAM
@@ -184,9 +177,8 @@ NUMBER COLUMN AT ACTIVITY COST LOWER UPPER REDUCED
     7 Z        LL 0 4 0 1 2
 END 0
 ",
-        cards: b"",
     },
-    DeckRow {
+    Row {
         name: "ties of the ratio test",
         job: &[
             DUAL,
@@ -219,9 +211,8 @@ NUMBER COLUMN AT ACTIVITY COST LOWER UPPER REDUCED
     4 Y        LL 0 4 0 NONE 0
 END 0
 ",
-        cards: b"",
     },
-    DeckRow {
+    Row {
         name: "dual maximises",
         job: &[
             b"         PROGRAM
@@ -265,9 +256,8 @@ NUMBER COLUMN AT ACTIVITY COST LOWER UPPER REDUCED
     5 Y        BS 1 -2 0 NONE 0
 END 0
 ",
-        cards: b"",
     },
-    DeckRow {
+    Row {
         name: "free and fixed columns",
         job: &[
             DUAL_BND,
@@ -302,9 +292,8 @@ NUMBER COLUMN AT ACTIVITY COST LOWER UPPER REDUCED
     4 W        BS 3 0 NONE NONE 0
 END 0
 ",
-        cards: b"",
     },
-    DeckRow {
+    Row {
         name: "dual with a range",
         job: &[
             b"         PROGRAM
@@ -342,9 +331,8 @@ NUMBER COLUMN AT ACTIVITY COST LOWER UPPER REDUCED
     3 X        BS 3 1 0 NONE 0
 END 0
 ",
-        cards: b"",
     },
-    DeckRow {
+    Row {
         name: "dual with crossed limits",
         job: &[
             DUAL_BND,
@@ -368,9 +356,8 @@ SETUP   T        MIN
 DUAL INFEASIBLE STEPS 0 CROSSED 3 CHECKED
 END 1
 ",
-        cards: b"",
     },
-    DeckRow {
+    Row {
         name: "dual and a demand",
         job: &[
             b"         PROGRAM
@@ -402,6 +389,5 @@ NUMBER COLUMN AT ACTIVITY COST LOWER UPPER REDUCED
     4 X        BS 3 1 0 NONE 0
 END 0
 ",
-        cards: b"",
     },
 ];

@@ -1,5 +1,5 @@
 // Jobs without words over devices that don't fail.
-use crate::bases::BASES;
+use crate::bases::{INSERTED_BASES, PUNCHED_BASES};
 use crate::dual_paths::DUAL_PATHS;
 use crate::jobs::{answer_of, answer_of_parts};
 use crate::overflows::OVERFLOWS;
@@ -45,32 +45,26 @@ pub fn first_unpunched(alloc: Global, rows: &[DeckRow]) -> Result<Option<&'stati
 }
 
 #[test]
-fn plans_are_solved(rt: HostRuntime) -> Result<(), Fail> {
-    assert_eq!(rt; first_unreported(rt.alloc(), &PLANS)?, None);
+fn jobs_have_their_listings(rt: HostRuntime) -> Result<(), Fail> {
+    let tables: [&[Row]; 7] = [
+        &PLANS,
+        &RANGES,
+        &PARAMETRIC,
+        &VERDICTS,
+        &REVISIONS,
+        &INSERTED_BASES,
+        &DUAL_PATHS,
+    ];
+    for rows in tables {
+        assert_eq!(rt; first_unreported(rt.alloc(), rows)?, None);
+    }
     Ok(())
 }
 
 #[test]
-fn intervals_are_exact(rt: HostRuntime) -> Result<(), Fail> {
-    assert_eq!(rt; first_unreported(rt.alloc(), &RANGES)?, None);
-    Ok(())
-}
-
-#[test]
-fn parametric_runs_are_exact(rt: HostRuntime) -> Result<(), Fail> {
-    assert_eq!(rt; first_unreported(rt.alloc(), &PARAMETRIC)?, None);
-    Ok(())
-}
-
-#[test]
-fn verdicts_and_limits_end_a_run(rt: HostRuntime) -> Result<(), Fail> {
-    assert_eq!(rt; first_unreported(rt.alloc(), &VERDICTS)?, None);
-    Ok(())
-}
-
-#[test]
-fn problems_are_revised(rt: HostRuntime) -> Result<(), Fail> {
-    assert_eq!(rt; first_unreported(rt.alloc(), &REVISIONS)?, None);
+fn jobs_punch_their_decks(rt: HostRuntime) -> Result<(), Fail> {
+    assert_eq!(rt; first_unpunched(rt.alloc(), &DECKS)?, None);
+    assert_eq!(rt; first_unpunched(rt.alloc(), &PUNCHED_BASES)?, None);
     Ok(())
 }
 
@@ -82,34 +76,11 @@ fn numbers_that_grow_too_large_end_a_run(rt: HostRuntime) -> Result<(), Fail> {
     Ok(())
 }
 
-// A job of so many bytes of one kind.
-fn repeated(alloc: Global, byte: u8, count: usize) -> Result<Vec<u8>, Fail> {
-    Ok(vec![in alloc; byte; count]?)
-}
-
 #[test]
 fn long_jobs_are_refused(rt: HostRuntime) -> Result<(), Fail> {
     for (byte, count) in [(b'\n', 200_001), (b'X', 16_400_001)] {
-        let job = repeated(rt.alloc(), byte, count)?;
+        let job = vec![in rt.alloc(); byte; count]?;
         assert!(rt; answer_of(rt.alloc(), &job)?.is(13, b"STOP 13 CARD FAULT 2\n"));
     }
-    Ok(())
-}
-
-#[test]
-fn decks_are_punched(rt: HostRuntime) -> Result<(), Fail> {
-    assert_eq!(rt; first_unpunched(rt.alloc(), &DECKS)?, None);
-    Ok(())
-}
-
-#[test]
-fn bases_go_out_and_come_in(rt: HostRuntime) -> Result<(), Fail> {
-    assert_eq!(rt; first_unpunched(rt.alloc(), &BASES)?, None);
-    Ok(())
-}
-
-#[test]
-fn dual_paths_are_followed(rt: HostRuntime) -> Result<(), Fail> {
-    assert_eq!(rt; first_unpunched(rt.alloc(), &DUAL_PATHS)?, None);
     Ok(())
 }
