@@ -36,33 +36,6 @@ fn add_full_column(alloc: Global, deck: &mut Vec<u8>, column: u32) -> Result<(),
     Ok(())
 }
 
-// A deck with the rows R1000, R1001 and on, up to that before this number.
-fn deck_of_rows(alloc: Global, end: u32) -> Result<Vec<u8>, Fail> {
-    let mut deck = Vec::new(alloc);
-    add_rows(alloc, &mut deck, end)?;
-    deck.extend_from_slice(b"ENDATA\n")?;
-    Ok(deck)
-}
-
-// A deck with one row and columns from C10000 to that before this number.
-fn deck_of_columns(alloc: Global, end: u32) -> Result<Vec<u8>, Fail> {
-    let mut deck = Vec::new(alloc);
-    add_rows(alloc, &mut deck, 1001)?;
-    add_columns(alloc, &mut deck, end)?;
-    deck.extend_from_slice(b"ENDATA\n")?;
-    Ok(deck)
-}
-
-// A deck with 1,000 rows and columns from C10000 to that before this number, each with an entry on each row.
-fn deck_of_full_columns(alloc: Global, end: u32) -> Result<Vec<u8>, Fail> {
-    let mut deck = Vec::new(alloc);
-    add_rows(alloc, &mut deck, 2000)?;
-    for column in 10000..end {
-        add_full_column(alloc, &mut deck, column)?;
-    }
-    Ok(deck)
-}
-
 // A deck at a limit: rows up to that before a number, columns up to that before a number, or 1,000 rows with 50 full columns and
 // these cards after them.
 #[derive(Clone, Copy)]
@@ -72,16 +45,28 @@ enum LargeDeck {
     FullColumns(&'static [u8]),
 }
 
-fn built(alloc: Global, deck: LargeDeck) -> Result<Vec<u8>, Fail> {
-    match deck {
-        LargeDeck::Rows(end) => deck_of_rows(alloc, end),
-        LargeDeck::Columns(end) => deck_of_columns(alloc, end),
-        LargeDeck::FullColumns(cards) => {
-            let mut deck = deck_of_full_columns(alloc, 10050)?;
-            deck.extend_from_slice(cards)?;
-            Ok(deck)
+fn built(alloc: Global, large: LargeDeck) -> Result<Vec<u8>, Fail> {
+    let mut deck = Vec::new(alloc);
+    let last_cards: &[u8] = match large {
+        LargeDeck::Rows(end) => {
+            add_rows(alloc, &mut deck, end)?;
+            b"ENDATA\n"
         }
-    }
+        LargeDeck::Columns(end) => {
+            add_rows(alloc, &mut deck, 1001)?;
+            add_columns(alloc, &mut deck, end)?;
+            b"ENDATA\n"
+        }
+        LargeDeck::FullColumns(cards) => {
+            add_rows(alloc, &mut deck, 2000)?;
+            for column in 10000..10050 {
+                add_full_column(alloc, &mut deck, column)?;
+            }
+            cards
+        }
+    };
+    deck.extend_from_slice(last_cards)?;
+    Ok(deck)
 }
 
 // 1,000 rows may be, and their cards are those up to 1,002. 5,000 columns may be, and their cards are those up to 5,004. 1,000 rows
