@@ -4,29 +4,6 @@ use mps_convert::{CardStop, DeckFault, DeckFaultKind, convert};
 use std::alloc::Global;
 use std::test::Fail;
 
-pub const TESTPROB: &[u8] = b"NAME          TESTPROB
-ROWS
- N  COST
- L  LIM1
- G  LIM2
- E  MYEQN
-COLUMNS
-    XONE      COST      1              LIM1      1
-    XONE      LIM2      1
-    YTWO      COST      4              LIM1      1
-    YTWO      MYEQN     -1
-    ZTHREE    COST      9              LIM2      1
-    ZTHREE    MYEQN     1
-RHS
-    RHS       LIM1      5              LIM2      10
-    RHS       MYEQN     7
-BOUNDS
- UP BND1      XONE      4
- LO BND1      YTWO      -1
- UP BND1      YTWO      1
-ENDATA
-";
-
 // The fault with which the conversion of a job stops that is one deck.
 pub fn fault_of(alloc: Global, deck: &[u8]) -> Result<Option<(u32, DeckFaultKind)>, Fail> {
     let mut source = SureSource::new(alloc, deck)?;

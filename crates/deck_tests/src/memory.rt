@@ -1,14 +1,17 @@
-use crate::decks::TESTPROB;
 use card_reader::read_job;
 use job_devices::SureSource;
 use mps_convert::{CardStop, convert};
 use problem_file::Problem;
 use std::alloc::Global;
 use std::test::Fail;
+use test_decks::problems::{ENDATA, TESTPROB_CARDS};
 
 // The problem of TESTPROB, or none where memory runs out on the way. Another stop fails.
 fn converted(alloc: Global) -> Result<Option<Problem>, Fail> {
-    let Ok(mut source) = SureSource::new(alloc, TESTPROB) else {
+    let Ok(deck) = [TESTPROB_CARDS, ENDATA].concat(alloc) else {
+        return Ok(None);
+    };
+    let Ok(mut source) = SureSource::new(alloc, &deck) else {
         return Ok(None);
     };
     let cards = match read_job(alloc, &mut source) {

@@ -1,4 +1,3 @@
-use crate::decks::TESTPROB;
 use card_reader::read_job;
 use frac128::Frac;
 use job_devices::SureSource;
@@ -7,6 +6,7 @@ use name_table::Name;
 use problem_file::Problem;
 use std::alloc::Global;
 use std::test::Fail;
+use test_decks::problems::{ENDATA, TESTPROB_CARDS};
 
 // The problem of a job that is one deck.
 pub fn problem_of(alloc: Global, deck: &[u8], name: Option<Name>) -> Result<Problem, Fail> {
@@ -22,9 +22,15 @@ pub fn problem_of(alloc: Global, deck: &[u8], name: Option<Name>) -> Result<Prob
     Ok(problem)
 }
 
+// The problem TESTPROB, of this name or of its own.
+pub fn testprob(alloc: Global, name: Option<Name>) -> Result<Problem, Fail> {
+    let deck = [TESTPROB_CARDS, ENDATA].concat(alloc)?;
+    problem_of(alloc, &deck, name)
+}
+
 #[test]
 fn testprob_is_numbered(rt: HostRuntime) -> Result<(), Fail> {
-    let problem = problem_of(rt.alloc(), TESTPROB, None)?;
+    let problem = testprob(rt.alloc(), None)?;
     assert_eq!(rt; problem.row_count(), 4);
     assert_eq!(rt; problem.column_count(), 3);
     let column = problem.columns().last().ok_or("a column")?;
@@ -35,7 +41,7 @@ fn testprob_is_numbered(rt: HostRuntime) -> Result<(), Fail> {
 
 #[test]
 fn the_sets_of_testprob_are_numbered(rt: HostRuntime) -> Result<(), Fail> {
-    let problem = problem_of(rt.alloc(), TESTPROB, None)?;
+    let problem = testprob(rt.alloc(), None)?;
     let set = problem.bounds().first().ok_or("a set")?;
     let bound = set.items.last().ok_or("a bound")?;
     assert_eq!(rt; (set.items.len(), bound.column), (3, 2));
@@ -46,10 +52,10 @@ fn the_sets_of_testprob_are_numbered(rt: HostRuntime) -> Result<(), Fail> {
 
 #[test]
 fn a_name_is_given_or_the_decks_own(rt: HostRuntime) -> Result<(), Fail> {
-    let own = problem_of(rt.alloc(), TESTPROB, None)?;
+    let own = testprob(rt.alloc(), None)?;
     assert_eq!(rt; own.name().bytes(), b"TESTPROB".as_slice());
     let other = Name::of(b"OTHER").ok_or("a name")?;
-    let named = problem_of(rt.alloc(), TESTPROB, Some(other))?;
+    let named = testprob(rt.alloc(), Some(other))?;
     assert_eq!(rt; named.name(), other);
     Ok(())
 }
