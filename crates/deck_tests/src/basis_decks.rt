@@ -141,66 +141,73 @@ ENDATA
     Ok(())
 }
 
-const SECTIONS: [(&[u8], u32, DeckFaultKind); 8] = [
+// A kind of fault; decks or cards that have it, and the card of it.
+type Faults = (DeckFaultKind, &'static [(&'static [u8], u32)]);
+
+const SECTIONS: [Faults; 3] = [
     (
-        b"NAME          S\nROWS\nENDATA\n",
-        2,
         DeckFaultKind::SectionOrder,
+        &[
+            (b"NAME          S\nROWS\nENDATA\n", 2),
+            (b"NAME          S\nNAME\nENDATA\n", 2),
+            (b"NAM           S\nENDATA\n", 1),
+            (b" UL A\nENDATA\n", 1),
+            (b"NAME          S\nENDATA\nENDATA\n", 3),
+            (b"NAME          S\nENDATA\n UL A\n", 3),
+        ],
     ),
     (
-        b"NAME          S\nNAME\nENDATA\n",
-        2,
-        DeckFaultKind::SectionOrder,
-    ),
-    (b"NAM           S\nENDATA\n", 1, DeckFaultKind::SectionOrder),
-    (b" UL A\nENDATA\n", 1, DeckFaultKind::SectionOrder),
-    (
-        b"NAME          S\nROW\nENDATA\n",
-        2,
         DeckFaultKind::UnknownSection,
-    ),
-    (b"NAME          S\n UL A\n\n", 3, DeckFaultKind::NoEndata),
-    (
-        b"NAME          S\nENDATA\nENDATA\n",
-        3,
-        DeckFaultKind::SectionOrder,
+        &[(b"NAME          S\nROW\nENDATA\n", 2)],
     ),
     (
-        b"NAME          S\nENDATA\n UL A\n",
-        3,
-        DeckFaultKind::SectionOrder,
+        DeckFaultKind::NoEndata,
+        &[(b"NAME          S\n UL A\n\n", 3)],
     ),
 ];
 
 // Data cards, each of them or two after a NAME card and before ENDATA.
-const DATA_CARDS: [(&[u8], u32, DeckFaultKind); 19] = [
-    (b" XX A         UPR", 2, DeckFaultKind::BadBasisCode),
-    (b"    A         UPR", 2, DeckFaultKind::BadBasisCode),
-    (b" UL NONE", 2, DeckFaultKind::UnknownColumn),
-    (b" XL NONE      NONE", 2, DeckFaultKind::UnknownColumn),
-    (b" XL A         NONE", 2, DeckFaultKind::UnknownRow),
-    (b" XL A", 2, DeckFaultKind::UnknownRow),
-    (b" XL A         LOR\n UL A", 3, DeckFaultKind::NamedTwice),
-    (b" UL A\n XL A         LOR", 3, DeckFaultKind::NamedTwice),
+const DATA_CARDS: [Faults; 6] = [
     (
-        b" XL A         LOR\n XL C         LOR",
-        3,
+        DeckFaultKind::BadBasisCode,
+        &[(b" XX A         UPR", 2), (b"    A         UPR", 2)],
+    ),
+    (
+        DeckFaultKind::UnknownColumn,
+        &[(b" UL NONE", 2), (b" XL NONE      NONE", 2)],
+    ),
+    (
+        DeckFaultKind::UnknownRow,
+        &[(b" XL A         NONE", 2), (b" XL A", 2)],
+    ),
+    (
         DeckFaultKind::NamedTwice,
+        &[
+            (b" XL A         LOR\n UL A", 3),
+            (b" UL A\n XL A         LOR", 3),
+            (b" XL A         LOR\n XL C         LOR", 3),
+            (b" UL B\n LL B", 3),
+        ],
     ),
-    (b" UL B\n LL B", 3, DeckFaultKind::NamedTwice),
-    (b" XL A         UPR", 2, DeckFaultKind::NoSuchLimit),
-    (b" XU A         LOR", 2, DeckFaultKind::NoSuchLimit),
-    (b" XL A         COST", 2, DeckFaultKind::NoSuchLimit),
-    (b" LL B", 2, DeckFaultKind::NoSuchLimit),
-    (b" LL B         UPR", 2, DeckFaultKind::NoSuchLimit),
-    (b" LL A         UPR", 2, DeckFaultKind::ExtraField),
-    (b" XL A         LOR       1", 2, DeckFaultKind::ExtraField),
     (
-        b" XL A         LOR                      B",
-        2,
-        DeckFaultKind::ExtraField,
+        DeckFaultKind::NoSuchLimit,
+        &[
+            (b" XL A         UPR", 2),
+            (b" XU A         LOR", 2),
+            (b" XL A         COST", 2),
+            (b" LL B", 2),
+            (b" LL B         UPR", 2),
+        ],
     ),
-    (b" XLXA         LOR", 2, DeckFaultKind::ExtraField),
+    (
+        DeckFaultKind::ExtraField,
+        &[
+            (b" LL A         UPR", 2),
+            (b" XL A         LOR       1", 2),
+            (b" XL A         LOR                      B", 2),
+            (b" XLXA         LOR", 2),
+        ],
+    ),
 ];
 
 // The cards before and after those that are listed.
@@ -208,7 +215,7 @@ const DATA_CARDS: [(&[u8], u32, DeckFaultKind); 19] = [
 struct Group {
     name: &'static str,
     before: &'static [u8],
-    listed: &'static [(&'static [u8], u32, DeckFaultKind)],
+    listed: &'static [Faults],
     after: &'static [u8],
 }
 
@@ -230,12 +237,14 @@ const GROUPS: [Group; 2] = [
 #[test]
 fn basis_decks_have_faults(rt: HostRuntime) -> Result<(), Fail> {
     for group in &GROUPS {
-        for (cards, card, kind) in group.listed {
-            let mut deck = Vec::from_slice(rt.alloc(), group.before)?;
-            deck.extend_from_slice(cards)?;
-            deck.extend_from_slice(group.after)?;
-            let found = reading(rt.alloc(), SMALL, &deck)?.err();
-            assert_eq!(rt; found, Some((*card, *kind)), "{}", group.name);
+        for (kind, faulty) in group.listed {
+            for (cards, card) in *faulty {
+                let mut deck = Vec::from_slice(rt.alloc(), group.before)?;
+                deck.extend_from_slice(cards)?;
+                deck.extend_from_slice(group.after)?;
+                let found = reading(rt.alloc(), SMALL, &deck)?.err();
+                assert_eq!(rt; found, Some((*card, *kind)), "{}", group.name);
+            }
         }
     }
     Ok(())
