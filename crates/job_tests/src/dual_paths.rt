@@ -1,10 +1,12 @@
 // Paths that the dual simplex method follows.
+use crate::frames::{Case, Frame, OverProblem, first_unanswered};
 use crate::rows::Row;
+use std::test::Fail;
 use test_decks::problems::{CONFLICT, ENDATA, ENDLESS, PLAN, TESTPROB_CARDS};
 use test_decks::programs::{DUAL, DUAL_BND};
 
 /// Programs of DUAL, with their listings.
-pub const DUAL_PATHS: [Row; 14] = [
+pub const DUAL_PATHS: [Row; 9] = [
     Row {
         name: "dual testprob",
         job: &[
@@ -57,125 +59,6 @@ END 1
         listing: b"CONVERT T        ROWS 1 COLUMNS 1 ENTRIES 1
 SETUP   T        MIN
 STOP 10 VERB FAULT 16 CARD 4 VARIABLE 2
-",
-    },
-    Row {
-        name: "dual of a plan",
-        job: &[DUAL_BND, PLAN],
-        status: 0,
-        listing: b"CONVERT PLAN     ROWS 4 COLUMNS 3 ENTRIES 12
-SETUP   PLAN     MIN
-DUAL OPTIMAL STEPS 2 OBJECTIVE 9 CHECKED
-SOLUTION OPTIMAL
-SECTION 1 - ROWS
-NUMBER ROW AT ACTIVITY SLACK LOWER UPPER DUAL
-    1 COST     BS 9 -9 NONE NONE 0
-    2 A        LL 4 0 4 NONE 1
-    3 B        LL 5 0 5 NONE 1
-    4 C        BS 4 2 NONE 6 0
-SECTION 2 - COLUMNS
-NUMBER COLUMN AT ACTIVITY COST LOWER UPPER REDUCED
-    5 X        BS 1 3 0 2 0
-    6 Y        BS 3 2 0 NONE 0
-    7 Z        LL 0 4 0 1 1
-END 0
-",
-    },
-    Row {
-        name: "dual and primal at an optimal basis",
-        job: &[
-            b"         PROGRAM
-         CONVERT
-         SETUP('BOUND','BND')
-         DUAL
-         DUAL
-         PRIMAL
-         EXIT
-         PEND
-",
-            PLAN,
-        ],
-        status: 0,
-        listing: b"CONVERT PLAN     ROWS 4 COLUMNS 3 ENTRIES 12
-SETUP   PLAN     MIN
-DUAL OPTIMAL STEPS 2 OBJECTIVE 9 CHECKED
-DUAL OPTIMAL STEPS 0 OBJECTIVE 9 CHECKED
-PRIMAL OPTIMAL STEPS 0 OBJECTIVE 9 CHECKED
-END 0
-",
-    },
-    Row {
-        name: "dual past its limit",
-        job: &[
-            b"         PROGRAM
-         CONVERT
-         SETUP('BOUND','BND')
-         MOVE(XITERLIM,1)
-         DUAL
-         EXIT
-         PEND
-",
-            PLAN,
-        ],
-        status: 16,
-        listing: b"CONVERT PLAN     ROWS 4 COLUMNS 3 ENTRIES 12
-SETUP   PLAN     MIN
-STOP 16 ITERATION LIMIT 1 CARD 5
-",
-    },
-    Row {
-        name: "dual at its limit",
-        job: &[
-            b"         PROGRAM
-         CONVERT
-         SETUP('BOUND','BND')
-         MOVE(XITERLIM,2)
-         DUAL
-         EXIT
-         PEND
-",
-            PLAN,
-        ],
-        status: 0,
-        listing: b"CONVERT PLAN     ROWS 4 COLUMNS 3 ENTRIES 12
-SETUP   PLAN     MIN
-DUAL OPTIMAL STEPS 2 OBJECTIVE 9 CHECKED
-END 0
-",
-    },
-    Row {
-        name: "dual after another right hand side",
-        job: &[
-            b"         PROGRAM
-         CONVERT
-         SETUP('BOUND','BND')
-         PRIMAL
-         MOVE(XRHS,'S')
-         DUAL
-         SOLUTION
-         EXIT
-         PEND
-",
-            PLAN,
-        ],
-        status: 0,
-        listing: b"CONVERT PLAN     ROWS 4 COLUMNS 3 ENTRIES 12
-SETUP   PLAN     MIN
-PRIMAL OPTIMAL STEPS 3 OBJECTIVE 9 CHECKED
-DUAL OPTIMAL STEPS 1 OBJECTIVE 14 CHECKED
-SOLUTION OPTIMAL
-SECTION 1 - ROWS
-NUMBER ROW AT ACTIVITY SLACK LOWER UPPER DUAL
-    1 COST     BS 14 -14 NONE NONE 0
-    2 A        BS 6 -3 3 NONE 0
-    3 B        LL 8 0 8 NONE 2
-    4 C        BS 6 0 NONE 6 0
-SECTION 2 - COLUMNS
-NUMBER COLUMN AT ACTIVITY COST LOWER UPPER REDUCED
-    5 X        UL 2 3 0 2 -1
-    6 Y        BS 4 2 0 NONE 0
-    7 Z        LL 0 4 0 1 2
-END 0
 ",
     },
     Row {
@@ -391,3 +274,87 @@ END 0
 ",
     },
 ];
+
+// Programs over the plan of three columns, with the set BND of bounds.
+const OVER_PLAN: OverProblem = OverProblem {
+    job: Frame {
+        before: &[b"         PROGRAM\n         CONVERT\n         SETUP('BOUND','BND')\n"],
+        after: &[b"         EXIT\n         PEND\n", PLAN],
+    },
+    listing: b"CONVERT PLAN     ROWS 4 COLUMNS 3 ENTRIES 12\nSETUP   PLAN     MIN\n",
+};
+
+const PLAN_PATHS: [Case; 5] = [
+    Case {
+        name: "dual of a plan",
+        statements: b"         DUAL\n         SOLUTION\n",
+        status: 0,
+        lines: b"DUAL OPTIMAL STEPS 2 OBJECTIVE 9 CHECKED
+SOLUTION OPTIMAL
+SECTION 1 - ROWS
+NUMBER ROW AT ACTIVITY SLACK LOWER UPPER DUAL
+    1 COST     BS 9 -9 NONE NONE 0
+    2 A        LL 4 0 4 NONE 1
+    3 B        LL 5 0 5 NONE 1
+    4 C        BS 4 2 NONE 6 0
+SECTION 2 - COLUMNS
+NUMBER COLUMN AT ACTIVITY COST LOWER UPPER REDUCED
+    5 X        BS 1 3 0 2 0
+    6 Y        BS 3 2 0 NONE 0
+    7 Z        LL 0 4 0 1 1
+END 0
+",
+    },
+    Case {
+        name: "dual and primal at an optimal basis",
+        statements: b"         DUAL\n         DUAL\n         PRIMAL\n",
+        status: 0,
+        lines: b"DUAL OPTIMAL STEPS 2 OBJECTIVE 9 CHECKED
+DUAL OPTIMAL STEPS 0 OBJECTIVE 9 CHECKED
+PRIMAL OPTIMAL STEPS 0 OBJECTIVE 9 CHECKED
+END 0
+",
+    },
+    Case {
+        name: "dual past its limit",
+        statements: b"         MOVE(XITERLIM,1)\n         DUAL\n",
+        status: 16,
+        lines: b"STOP 16 ITERATION LIMIT 1 CARD 5\n",
+    },
+    Case {
+        name: "dual at its limit",
+        statements: b"         MOVE(XITERLIM,2)\n         DUAL\n",
+        status: 0,
+        lines: b"DUAL OPTIMAL STEPS 2 OBJECTIVE 9 CHECKED\nEND 0\n",
+    },
+    Case {
+        name: "dual after another right hand side",
+        statements: b"         PRIMAL\n         MOVE(XRHS,'S')\n         DUAL\n         SOLUTION\n",
+        status: 0,
+        lines: b"PRIMAL OPTIMAL STEPS 3 OBJECTIVE 9 CHECKED
+DUAL OPTIMAL STEPS 1 OBJECTIVE 14 CHECKED
+SOLUTION OPTIMAL
+SECTION 1 - ROWS
+NUMBER ROW AT ACTIVITY SLACK LOWER UPPER DUAL
+    1 COST     BS 14 -14 NONE NONE 0
+    2 A        BS 6 -3 3 NONE 0
+    3 B        LL 8 0 8 NONE 2
+    4 C        BS 6 0 NONE 6 0
+SECTION 2 - COLUMNS
+NUMBER COLUMN AT ACTIVITY COST LOWER UPPER REDUCED
+    5 X        UL 2 3 0 2 -1
+    6 Y        BS 4 2 0 NONE 0
+    7 Z        LL 0 4 0 1 2
+END 0
+",
+    },
+];
+
+#[test]
+fn paths_over_a_plan_are_followed(rt: HostRuntime) -> Result<(), Fail> {
+    assert_eq!(rt;
+        first_unanswered(rt.alloc(), &OVER_PLAN, &PLAN_PATHS)?,
+        None
+    );
+    Ok(())
+}

@@ -63,3 +63,35 @@ pub fn first_unrefused(
     }
     Ok(None)
 }
+
+/// Jobs over one problem: what stands around the statements of a case in the program, with the deck of the problem after it, and the
+/// first lines of each listing.
+pub struct OverProblem {
+    pub job: Frame,
+    pub listing: &'static [u8],
+}
+
+/// A job over a problem: its statements, and the lines of its listing after the first.
+pub struct Case {
+    pub name: &'static str,
+    pub statements: &'static [u8],
+    pub status: u8,
+    pub lines: &'static [u8],
+}
+
+/// The name of the first of these cases that has another status or listing.
+pub fn first_unanswered(
+    alloc: Global,
+    jobs: &OverProblem,
+    cases: &[Case],
+) -> Result<Option<&'static str>, Fail> {
+    for case in cases {
+        let job = jobs.job.around(alloc, case.statements)?;
+        let mut listing = Vec::from_slice(alloc, jobs.listing)?;
+        listing.extend_from_slice(case.lines)?;
+        if !answer_of(alloc, &job)?.is(case.status, &listing) {
+            return Ok(Some(case.name));
+        }
+    }
+    Ok(None)
+}

@@ -1,30 +1,32 @@
 // Worked jobs that revise a problem.
+use crate::frames::{Case, Fault, Frame, OverProblem, Stop, first_unanswered, first_unrefused};
 use crate::rows::Row;
-use test_decks::problems::{ONE, REVISED_SIDE};
+use crate::runs::first_unreported;
+use std::test::Fail;
+use test_decks::problems::{ENDATA, ONE, REVISED_SIDE};
 use test_decks::programs::REVISE;
 
-/// Revisions, with their faults.
-pub const REVISIONS: [Row; 10] = [
-    Row {
+// Programs over the problem ONE and a revision of its right-hand side.
+const OVER_ONE: OverProblem = OverProblem {
+    job: Frame {
+        before: &[b"         PROGRAM\n         CONVERT\n"],
+        after: &[b"         EXIT\n         PEND\n", ONE, REVISED_SIDE],
+    },
+    listing: b"CONVERT ONE      ROWS 2 COLUMNS 1 ENTRIES 2\n",
+};
+
+const SIDE_REVISIONS: [Case; 4] = [
+    Case {
         name: "revise right hand side",
-        job: &[
-            b"         PROGRAM
-         CONVERT
-         SETUP
+        statements: b"         SETUP
          PRIMAL
          MOVE(XPBNAME,'NEW')
          REVISE
          SETUP
          PRIMAL
-         EXIT
-         PEND
 ",
-            ONE,
-            REVISED_SIDE,
-        ],
         status: 0,
-        listing: b"CONVERT ONE      ROWS 2 COLUMNS 1 ENTRIES 2
-SETUP   ONE      MIN
+        lines: b"SETUP   ONE      MIN
 PRIMAL OPTIMAL STEPS 1 OBJECTIVE 1 CHECKED
 REVISE  NEW      ROWS 2 COLUMNS 1 ENTRIES 2
 SETUP   NEW      MIN
@@ -32,6 +34,59 @@ PRIMAL OPTIMAL STEPS 1 OBJECTIVE 2 CHECKED
 END 0
 ",
     },
+    Case {
+        name: "revise keeps the old problem",
+        statements: b"         REVISE\n         MOVE(XPBNAME,'ONE')\n         SETUP\n         PRIMAL\n",
+        status: 0,
+        lines: b"REVISE  REV      ROWS 2 COLUMNS 1 ENTRIES 2
+SETUP   ONE      MIN
+PRIMAL OPTIMAL STEPS 1 OBJECTIVE 1 CHECKED
+END 0
+",
+    },
+    Case {
+        name: "revise clears the setup",
+        statements: b"         SETUP\n         REVISE\n         PRIMAL\n",
+        status: 10,
+        lines: b"SETUP   ONE      MIN
+REVISE  REV      ROWS 2 COLUMNS 1 ENTRIES 2
+STOP 10 VERB FAULT 3 CARD 5
+",
+    },
+    Case {
+        name: "revise of an unknown name",
+        statements: b"         MOVE(XOLDNAME,'TWO')\n         REVISE\n",
+        status: 10,
+        lines: b"STOP 10 VERB FAULT 2 CARD 4\n",
+    },
+];
+
+// Cards of a revision that are refused.
+const REVISION_CARDS: Frame = Frame {
+    before: &[REVISE, ONE, b"NAME          REV\n"],
+    after: &[ENDATA],
+};
+
+const REVISION_STOP: Stop = Stop {
+    status: 12,
+    listing: &[b"CONVERT ONE      ROWS 2 COLUMNS 1 ENTRIES 2\nSTOP 12 DECK FAULT "],
+};
+
+const REVISION_FAULTS: [Fault; 2] = [
+    (
+        "revise delete missing",
+        "ROWS\n DELETE\n G  ZZ\n",
+        "23 CARD 19",
+    ),
+    (
+        "revise unknown action",
+        "ROWS\n CHANGE\n G  LOW\n",
+        "21 CARD 18",
+    ),
+];
+
+// Other revisions.
+const OTHER_REVISIONS: [Row; 4] = [
     Row {
         name: "revise delete row",
         job: &[
@@ -47,59 +102,6 @@ ENDATA
         status: 0,
         listing: b"CONVERT ONE      ROWS 2 COLUMNS 1 ENTRIES 2
 REVISE  REV      ROWS 1 COLUMNS 1 ENTRIES 1
-END 0
-",
-    },
-    Row {
-        name: "revise delete missing",
-        job: &[
-            REVISE,
-            ONE,
-            b"NAME          REV
-ROWS
- DELETE
- G  ZZ
-ENDATA
-",
-        ],
-        status: 12,
-        listing: b"CONVERT ONE      ROWS 2 COLUMNS 1 ENTRIES 2\nSTOP 12 DECK FAULT 23 CARD 19\n",
-    },
-    Row {
-        name: "revise unknown action",
-        job: &[
-            REVISE,
-            ONE,
-            b"NAME          REV
-ROWS
- CHANGE
- G  LOW
-ENDATA
-",
-        ],
-        status: 12,
-        listing: b"CONVERT ONE      ROWS 2 COLUMNS 1 ENTRIES 2\nSTOP 12 DECK FAULT 21 CARD 18\n",
-    },
-    Row {
-        name: "revise keeps the old problem",
-        job: &[
-            b"         PROGRAM
-         CONVERT
-         REVISE
-         MOVE(XPBNAME,'ONE')
-         SETUP
-         PRIMAL
-         EXIT
-         PEND
-",
-            ONE,
-            REVISED_SIDE,
-        ],
-        status: 0,
-        listing: b"CONVERT ONE      ROWS 2 COLUMNS 1 ENTRIES 2
-REVISE  REV      ROWS 2 COLUMNS 1 ENTRIES 2
-SETUP   ONE      MIN
-PRIMAL OPTIMAL STEPS 1 OBJECTIVE 1 CHECKED
 END 0
 ",
     },
@@ -135,27 +137,6 @@ END 0
 ",
     },
     Row {
-        name: "revise clears the setup",
-        job: &[
-            b"         PROGRAM
-         CONVERT
-         SETUP
-         REVISE
-         PRIMAL
-         EXIT
-         PEND
-",
-            ONE,
-            REVISED_SIDE,
-        ],
-        status: 10,
-        listing: b"CONVERT ONE      ROWS 2 COLUMNS 1 ENTRIES 2
-SETUP   ONE      MIN
-REVISE  REV      ROWS 2 COLUMNS 1 ENTRIES 2
-STOP 10 VERB FAULT 3 CARD 5
-",
-    },
-    Row {
         name: "revise without a problem",
         job: &[
             b"         PROGRAM
@@ -169,25 +150,21 @@ STOP 10 VERB FAULT 3 CARD 5
         listing: b"STOP 10 VERB FAULT 2 CARD 2\n",
     },
     Row {
-        name: "revise of an unknown name",
-        job: &[
-            b"         PROGRAM
-         CONVERT
-         MOVE(XOLDNAME,'TWO')
-         REVISE
-         EXIT
-         PEND
-",
-            ONE,
-            REVISED_SIDE,
-        ],
-        status: 10,
-        listing: b"CONVERT ONE      ROWS 2 COLUMNS 1 ENTRIES 2\nSTOP 10 VERB FAULT 2 CARD 4\n",
-    },
-    Row {
         name: "revise without a deck",
         job: &[REVISE, ONE],
         status: 10,
         listing: b"CONVERT ONE      ROWS 2 COLUMNS 1 ENTRIES 2\nSTOP 10 VERB FAULT 1 CARD 3\n",
     },
 ];
+
+#[test]
+fn problems_are_revised(rt: HostRuntime) -> Result<(), Fail> {
+    let alloc = rt.alloc();
+    assert_eq!(rt; first_unanswered(alloc, &OVER_ONE, &SIDE_REVISIONS)?, None);
+    assert_eq!(rt;
+        first_unrefused(alloc, &REVISION_CARDS, &REVISION_STOP, &REVISION_FAULTS)?,
+        None
+    );
+    assert_eq!(rt; first_unreported(alloc, &OTHER_REVISIONS)?, None);
+    Ok(())
+}

@@ -7,7 +7,6 @@ use crate::parametric_runs::PARAMETRIC;
 use crate::plans::PLANS;
 use crate::punched::DECKS;
 use crate::ranges::RANGES;
-use crate::revisions::REVISIONS;
 use crate::rows::{DeckRow, Row};
 use crate::verdicts::VERDICTS;
 use std::alloc::Global;
@@ -46,12 +45,11 @@ pub fn first_unpunched(alloc: Global, rows: &[DeckRow]) -> Result<Option<&'stati
 
 #[test]
 fn jobs_have_their_listings(rt: HostRuntime) -> Result<(), Fail> {
-    let tables: [&[Row]; 7] = [
+    let tables: [&[Row]; 6] = [
         &PLANS,
         &RANGES,
         &PARAMETRIC,
         &VERDICTS,
-        &REVISIONS,
         &INSERTED_BASES,
         &DUAL_PATHS,
     ];
