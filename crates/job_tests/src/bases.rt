@@ -1,200 +1,64 @@
 // Bases that go out as decks and come in again.
-use crate::frames::{Fault, Frame, Stop, first_unrefused};
-use crate::jobs::answer_of;
-use crate::rows::{DeckRow, Row};
-use std::alloc::Global;
+use crate::frames::{DeckCase, Fault, Frame, Jobs, Refusals, SET_UP, SET_UP_BND, Stop};
+use crate::testprob::OVER_TESTPROB;
 use std::test::Fail;
-use test_decks::problems::{ENDATA, SINGULAR, SMALL, TESTPROB_BASIS, TESTPROB_CARDS, TWINS};
-use test_decks::programs::{INSERT, INSERT_BND};
+use test_decks::problems::{SINGULAR, SMALL, TESTPROB_BASIS, TWINS};
+use test_decks::programs::INSERT_BND;
 
-/// Programs of PUNCH, with and without INSERT before it, with their listings and the cards that they punch.
-pub const PUNCHED_BASES: [DeckRow; 3] = [
-    DeckRow {
+// Programs of PUNCH and INSERT over TESTPROB.
+const TESTPROB_BASES: [DeckCase; 2] = [
+    DeckCase {
         name: "punch basis",
-        job: &[
-            b"         PROGRAM
-         CONVERT
-         SETUP('BOUND','BND1')
-         PRIMAL
-         PUNCH
-         EXIT
-         PEND
-",
-            TESTPROB_CARDS,
-            ENDATA,
-        ],
+        statements: b"         PRIMAL\n         PUNCH\n",
+        decks: b"",
         status: 0,
-        listing: b"CONVERT TESTPROB ROWS 4 COLUMNS 3 ENTRIES 9
-SETUP   TESTPROB MIN
-PRIMAL OPTIMAL STEPS 3 OBJECTIVE 54 CHECKED
-PUNCH   TESTPROB CARDS 4
-END 0
-",
-        cards: TESTPROB_BASIS,
+        lines: b"PRIMAL OPTIMAL STEPS 3 OBJECTIVE 54 CHECKED\nPUNCH   TESTPROB CARDS 4\nEND 0\n",
+        cards: &[TESTPROB_BASIS],
     },
-    DeckRow {
+    DeckCase {
         name: "insert basis",
-        job: &[
-            b"         PROGRAM
-         CONVERT
-         SETUP('BOUND','BND1')
-         INSERT
-         PRIMAL
-         PUNCH
-         EXIT
-         PEND
-",
-            TESTPROB_CARDS,
-            ENDATA,
-            TESTPROB_BASIS,
-        ],
+        statements: b"         INSERT\n         PRIMAL\n         PUNCH\n",
+        decks: TESTPROB_BASIS,
         status: 0,
-        listing: b"CONVERT TESTPROB ROWS 4 COLUMNS 3 ENTRIES 9
-SETUP   TESTPROB MIN
-INSERT  TESTPROB BASIC 2
+        lines: b"INSERT  TESTPROB BASIC 2
 PRIMAL OPTIMAL STEPS 0 OBJECTIVE 54 CHECKED
 PUNCH   TESTPROB CARDS 4
 END 0
 ",
-        cards: TESTPROB_BASIS,
-    },
-    DeckRow {
-        name: "a basis of three columns",
-        job: &[
-            b"         PROGRAM
-         CONVERT
-         SETUP
-         INSERT
-         PUNCH
-         EXIT
-         PEND
-",
-            SINGULAR,
-            b"NAME          S
- XL Q         A
- XL P         B
- XL T         D
-ENDATA
-",
-        ],
-        status: 0,
-        listing: b"CONVERT SING     ROWS 4 COLUMNS 3 ENTRIES 10
-SETUP   SING     MIN
-INSERT  S        BASIC 3
-PUNCH   SING     CARDS 5
-END 0
-",
-        cards: b"NAME          SING
- XL P         A
- XL Q         B
- XL T         D
-ENDATA
-",
+        cards: &[TESTPROB_BASIS],
     },
 ];
 
-/// Programs of INSERT that punch nothing.
-pub const INSERTED_BASES: [Row; 3] = [
-    Row {
-        name: "insert singular",
-        job: &[
-            INSERT,
-            TWINS,
-            b"NAME          S
- XL X         A
- XL Y         B
-ENDATA
-",
-        ],
-        status: 10,
-        listing: b"CONVERT T        ROWS 3 COLUMNS 2 ENTRIES 6
-SETUP   T        MIN
-STOP 10 VERB FAULT 15 CARD 4
-    1 COST     1
-    4 X        -1
-    5 Y        1
-",
-    },
-    Row {
-        name: "insert bad code",
-        job: &[
-            INSERT,
-            TWINS,
-            b"NAME          S
- XX X         A
- XL Y         B
-ENDATA
-",
-        ],
-        status: 12,
-        listing: b"CONVERT T        ROWS 3 COLUMNS 2 ENTRIES 6
-SETUP   T        MIN
-STOP 12 DECK FAULT 30 CARD 21
-",
-    },
-    Row {
-        name: "a singular basis",
-        job: &[
-            INSERT,
-            SINGULAR,
-            b"NAME          S
- XL Q         A
- XL P         B
-ENDATA
-",
-        ],
-        status: 10,
-        listing: b"CONVERT SING     ROWS 4 COLUMNS 3 ENTRIES 10
-SETUP   SING     MIN
-STOP 10 VERB FAULT 15 CARD 4
-    1 COST     -1
-    4 D        1
-    5 P        -2
-    6 Q        1
-",
-    },
-];
-
-// The first lines of a listing of the small problem.
-const SMALL_SET_UP: &[u8] = b"CONVERT SMALL    ROWS 4 COLUMNS 3 ENTRIES 9\nSETUP   SMALL    MIN\n";
-
-// A program over the small problem: its statements after SETUP, the decks of bases, the lines of the listing after those of SETUP,
-// and the cards that are punched.
-struct OverSmall {
-    name: &'static str,
-    statements: &'static [u8],
-    bases: &'static [u8],
-    status: u8,
-    lines: &'static [u8],
-    cards: &'static [u8],
-}
-
-const STATEMENTS: Frame = Frame {
-    before: &[b"         PROGRAM\n         CONVERT\n         SETUP('BOUND','BND')\n"],
-    after: &[b"         EXIT\n         PEND\n", SMALL],
+// Programs over the small problem.
+const OVER_SMALL: Jobs = Jobs {
+    program: SET_UP_BND,
+    problem: &[SMALL],
+    listing: SMALL_SET_UP,
 };
 
-const SMALL_BASES: [OverSmall; 8] = [
-    OverSmall {
+const SMALL_SET_UP: &[u8] = b"CONVERT SMALL    ROWS 4 COLUMNS 3 ENTRIES 9\nSETUP   SMALL    MIN\n";
+
+const SMALL_BASES: [DeckCase; 8] = [
+    DeckCase {
         name: "punch with upper limits",
         statements: b"         PRIMAL\n         PUNCH\n",
-        bases: b"",
+        decks: b"",
         status: 0,
         lines: b"PRIMAL OPTIMAL STEPS 2 OBJECTIVE -7 CHECKED\nPUNCH   SMALL    CARDS 4\nEND 0\n",
-        cards: b"NAME          SMALL\n XL C         EQ\n UL A\nENDATA\n",
+        cards: &[b"NAME          SMALL\n XL C         EQ\n UL A\nENDATA\n"],
     },
-    OverSmall {
+    DeckCase {
         name: "punch of the opening basis",
         statements: b"         PUNCH\n",
-        bases: b"",
+        decks: b"",
         status: 0,
         lines: b"PUNCH   SMALL    CARDS 2\nEND 0\n",
-        cards: b"NAME          SMALL\nENDATA\n",
+        cards: &[b"NAME          SMALL\nENDATA\n"],
     },
-    OverSmall {
+    DeckCase {
         name: "insert and punch",
         statements: b"         INSERT\n         PUNCH\n         PRIMAL\n",
-        bases: b"NAME          START
+        decks: b"NAME          START
  XU A         UPR
  XL C         EQ
  UL B
@@ -206,28 +70,28 @@ PUNCH   SMALL    CARDS 4
 PRIMAL OPTIMAL STEPS 1 OBJECTIVE -7 CHECKED
 END 0
 ",
-        cards: b"NAME          SMALL\n XU A         UPR\n XL C         EQ\nENDATA\n",
+        cards: &[b"NAME          SMALL\n XU A         UPR\n XL C         EQ\nENDATA\n"],
     },
-    OverSmall {
+    DeckCase {
         name: "insert of limits",
         statements: b"         INSERT\n         PUNCH\n",
-        bases: b"NAME          S\n LL A\n UL C\nENDATA\n",
+        decks: b"NAME          S\n LL A\n UL C\nENDATA\n",
         status: 0,
         lines: b"INSERT  S        BASIC 0\nPUNCH   SMALL    CARDS 3\nEND 0\n",
-        cards: b"NAME          SMALL\n UL C\nENDATA\n",
+        cards: &[b"NAME          SMALL\n UL C\nENDATA\n"],
     },
-    OverSmall {
+    DeckCase {
         name: "insert of no card",
         statements: b"         INSERT\n         PRIMAL\n",
-        bases: b"NAME          NOTHING   FREE\nENDATA\n",
+        decks: b"NAME          NOTHING   FREE\nENDATA\n",
         status: 0,
         lines: b"INSERT  NOTHING  BASIC 0\nPRIMAL OPTIMAL STEPS 2 OBJECTIVE -7 CHECKED\nEND 0\n",
-        cards: b"",
+        cards: &[],
     },
-    OverSmall {
+    DeckCase {
         name: "insert by the name of the deck",
         statements: b"         MOVE(XDATA,'SECOND')\n         INSERT\n         INSERT\n",
-        bases: b"NAME          FIRST
+        decks: b"NAME          FIRST
 ENDATA
 NAME          SECOND
 ENDATA
@@ -236,38 +100,37 @@ ENDATA
 ",
         status: 10,
         lines: b"INSERT  SECOND   BASIC 0\nSTOP 10 VERB FAULT 1 CARD 6\n",
-        cards: b"",
+        cards: &[],
     },
-    OverSmall {
+    DeckCase {
         name: "insert clears the mark",
         statements: b"         PRIMAL\n         INSERT\n         SOLUTION\n",
-        bases: b"NAME          S\nENDATA\n",
+        decks: b"NAME          S\nENDATA\n",
         status: 10,
         lines: b"PRIMAL OPTIMAL STEPS 2 OBJECTIVE -7 CHECKED
 INSERT  S        BASIC 0
 STOP 10 VERB FAULT 4 CARD 6
 ",
-        cards: b"",
+        cards: &[],
     },
-    OverSmall {
+    DeckCase {
         name: "no basis deck",
         statements: b"         INSERT\n",
-        bases: b"",
+        decks: b"",
         status: 10,
         lines: b"STOP 10 VERB FAULT 1 CARD 4\n",
-        cards: b"",
+        cards: &[],
     },
 ];
 
 // Decks of bases of the small problem that are refused.
-const BASIS_CARDS: Frame = Frame {
-    before: &[INSERT_BND, SMALL],
-    after: &[],
-};
-
-const BASIS_STOP: Stop = Stop {
-    status: 12,
-    listing: &[SMALL_SET_UP, b"STOP 12 DECK FAULT "],
+const BASIS_CARDS: Refusals = Refusals {
+    job: Frame {
+        before: &[INSERT_BND, SMALL],
+        after: &[],
+    },
+    listing: SMALL_SET_UP,
+    stop: Stop::Deck,
 };
 
 const BASIS_FAULTS: [Fault; 3] = [
@@ -288,23 +151,90 @@ const BASIS_FAULTS: [Fault; 3] = [
     ),
 ];
 
-// Whether the program is answered so.
-fn is_answered(alloc: Global, program: &OverSmall) -> Result<bool, Fail> {
-    let mut job = STATEMENTS.around(alloc, program.statements)?;
-    job.extend_from_slice(program.bases)?;
-    let mut listing = Vec::from_slice(alloc, SMALL_SET_UP)?;
-    listing.extend_from_slice(program.lines)?;
-    Ok(answer_of(alloc, &job)?.is_punched(program.status, &listing, program.cards))
-}
+// Programs over the twins, whose columns stand for no basis together.
+const OVER_TWINS: Jobs = Jobs {
+    program: SET_UP,
+    problem: &[TWINS],
+    listing: b"CONVERT T        ROWS 3 COLUMNS 2 ENTRIES 6\nSETUP   T        MIN\n",
+};
+
+const TWIN_BASES: [DeckCase; 2] = [
+    DeckCase {
+        name: "insert singular",
+        statements: b"         INSERT\n",
+        decks: b"NAME          S\n XL X         A\n XL Y         B\nENDATA\n",
+        status: 10,
+        lines: b"STOP 10 VERB FAULT 15 CARD 4
+    1 COST     1
+    4 X        -1
+    5 Y        1
+",
+        cards: &[],
+    },
+    DeckCase {
+        name: "insert bad code",
+        statements: b"         INSERT\n",
+        decks: b"NAME          S\n XX X         A\n XL Y         B\nENDATA\n",
+        status: 12,
+        lines: b"STOP 12 DECK FAULT 30 CARD 21\n",
+        cards: &[],
+    },
+];
+
+// Programs over the singular problem.
+const OVER_SINGULAR: Jobs = Jobs {
+    program: SET_UP,
+    problem: &[SINGULAR],
+    listing: b"CONVERT SING     ROWS 4 COLUMNS 3 ENTRIES 10\nSETUP   SING     MIN\n",
+};
+
+const SINGULAR_BASES: [DeckCase; 2] = [
+    DeckCase {
+        name: "a basis of three columns",
+        statements: b"         INSERT\n         PUNCH\n",
+        decks: b"NAME          S
+ XL Q         A
+ XL P         B
+ XL T         D
+ENDATA
+",
+        status: 0,
+        lines: b"INSERT  S        BASIC 3\nPUNCH   SING     CARDS 5\nEND 0\n",
+        cards: &[
+            b"NAME          SING
+ XL P         A
+ XL Q         B
+ XL T         D
+ENDATA
+",
+        ],
+    },
+    DeckCase {
+        name: "a singular basis",
+        statements: b"         INSERT\n",
+        decks: b"NAME          S\n XL Q         A\n XL P         B\nENDATA\n",
+        status: 10,
+        lines: b"STOP 10 VERB FAULT 15 CARD 4
+    1 COST     -1
+    4 D        1
+    5 P        -2
+    6 Q        1
+",
+        cards: &[],
+    },
+];
 
 #[test]
-fn bases_of_a_small_problem_go_out_and_come_in(rt: HostRuntime) -> Result<(), Fail> {
-    for program in &SMALL_BASES {
-        assert!(rt; is_answered(rt.alloc(), program)?, "{}", program.name);
+fn bases_go_out_and_come_in(rt: HostRuntime) -> Result<(), Fail> {
+    let tables: [(&Jobs, &[DeckCase]); 4] = [
+        (&OVER_TESTPROB, &TESTPROB_BASES),
+        (&OVER_SMALL, &SMALL_BASES),
+        (&OVER_TWINS, &TWIN_BASES),
+        (&OVER_SINGULAR, &SINGULAR_BASES),
+    ];
+    for (jobs, cases) in tables {
+        assert_eq!(rt; jobs.first_unpunched(rt.alloc(), cases)?, None);
     }
-    assert_eq!(rt;
-        first_unrefused(rt.alloc(), &BASIS_CARDS, &BASIS_STOP, &BASIS_FAULTS)?,
-        None
-    );
+    assert_eq!(rt; BASIS_CARDS.first_unmet(rt.alloc(), &BASIS_FAULTS)?, None);
     Ok(())
 }

@@ -1,15 +1,19 @@
 // Combination rows: cards that are refused for one, and revisions that state them.
-use crate::frames::{DECK_FAULT, Fault, Frame, Stop, first_unrefused};
+use crate::frames::{CONVERTED, DeckCase, Fault, Frame, Jobs, Refusals, Stop};
 use crate::rows::{DeckRow, Row};
 use crate::runs::{first_unpunched, first_unreported};
 use std::test::Fail;
 use test_decks::problems::{ENDATA, SUM_COLUMNS, SUM_OF_B1_FROM_Y, SUM_OF_B1_TO_X, SUM_ROWS};
-use test_decks::programs::{CONVERT, REVISE, REVISE_AND_SOLVE, SOLVE};
+use test_decks::programs::{CONVERT, REVISE, SOLVE};
 
 // Cards of ROWS after the objective that are refused for a combination.
-const ROW_CARDS: Frame = Frame {
-    before: &[CONVERT, b"NAME          T\nROWS\n N  COST\n"],
-    after: &[b"COLUMNS\n    X         COST      1\n", ENDATA],
+const ROW_CARDS: Refusals = Refusals {
+    job: Frame {
+        before: &[CONVERT, b"NAME          T\nROWS\n N  COST\n"],
+        after: &[b"COLUMNS\n    X         COST      1\n", ENDATA],
+    },
+    listing: b"",
+    stop: Stop::Deck,
 };
 
 const ROW_FAULTS: [Fault; 7] = [
@@ -51,14 +55,13 @@ const ROW_FAULTS: [Fault; 7] = [
 ];
 
 // Cards of a revision of the sum that are refused.
-const REVISION_CARDS: Frame = Frame {
-    before: &[REVISE, SUM_ROWS, SUM_COLUMNS, b"NAME          NEXT\n"],
-    after: &[ENDATA],
-};
-
-const REVISION_STOP: Stop = Stop {
-    status: 12,
-    listing: &[b"CONVERT T        ROWS 4 COLUMNS 2 ENTRIES 4\nSTOP 12 DECK FAULT "],
+const REVISION_CARDS: Refusals = Refusals {
+    job: Frame {
+        before: &[REVISE, SUM_ROWS, SUM_COLUMNS, b"NAME          NEXT\n"],
+        after: &[ENDATA],
+    },
+    listing: SUM_CONVERTED,
+    stop: Stop::Deck,
 };
 
 const REVISION_FAULTS: [Fault; 6] = [
@@ -143,24 +146,49 @@ ENDATA
     },
 ];
 
-// Revisions of combinations, and the decks that are written of them.
-const REVISIONS: [DeckRow; 5] = [
-    DeckRow {
+// Programs over the sum of two rows.
+const OVER_SUM: Jobs = Jobs {
+    program: CONVERTED,
+    problem: &[SUM_ROWS, SUM_COLUMNS],
+    listing: SUM_CONVERTED,
+};
+
+const SUM_CONVERTED: &[u8] = b"CONVERT T        ROWS 4 COLUMNS 2 ENTRIES 4\n";
+
+// The columns of the sum and its right-hand side, as BCDOUT writes them.
+const SUM_WRITTEN: &[u8] = b"COLUMNS
+    X         COST      -1
+    X         A         1
+    Y         COST      -1
+    Y         B         1
+RHS
+    B         A         3
+    B         B         3
+    B         S         4
+ENDATA
+";
+
+// Revises a problem, solves it, and writes it out.
+const REVISED_AND_SOLVED: &[u8] = b"         REVISE
+         SETUP
+         PRIMAL
+         SOLUTION
+         BCDOUT
+";
+
+// Revisions of the sum, and the decks that are written of them.
+const SUM_REVISIONS: [DeckCase; 4] = [
+    DeckCase {
         name: "a part replaced and another type",
-        job: &[
-            REVISE_AND_SOLVE,
-            SUM_ROWS,
-            SUM_COLUMNS,
-            b"NAME          NEXT
+        statements: REVISED_AND_SOLVED,
+        decks: b"NAME          NEXT
 ROWS
  MODIFY
  DG S         A         2
 ENDATA
 ",
-        ],
         status: 0,
-        listing: b"CONVERT T        ROWS 4 COLUMNS 2 ENTRIES 4
-REVISE  NEXT     ROWS 4 COLUMNS 2 ENTRIES 4
+        lines: b"REVISE  NEXT     ROWS 4 COLUMNS 2 ENTRIES 4
 SETUP   NEXT     MIN
 PRIMAL OPTIMAL STEPS 3 OBJECTIVE -6 CHECKED
 SOLUTION OPTIMAL
@@ -177,49 +205,29 @@ NUMBER COLUMN AT ACTIVITY COST LOWER UPPER REDUCED
 BCDOUT  NEXT     CARDS 17
 END 0
 ",
-        cards: b"NAME          NEXT
+        cards: &[
+            b"NAME          NEXT
 ROWS
  N  COST
  L  A
  L  B
  DG S         A         2
  DG S         B         1
-COLUMNS
-    X         COST      -1
-    X         A         1
-    Y         COST      -1
-    Y         B         1
-RHS
-    B         A         3
-    B         B         3
-    B         S         4
-ENDATA
 ",
+            SUM_WRITTEN,
+        ],
     },
-    DeckRow {
+    DeckCase {
         name: "a part's row deleted",
-        job: &[
-            b"         PROGRAM
-         CONVERT
-         REVISE
-         SETUP
-         PRIMAL
-         BCDOUT
-         EXIT
-         PEND
-",
-            SUM_ROWS,
-            SUM_COLUMNS,
-            b"NAME          NEXT
+        statements: b"         REVISE\n         SETUP\n         PRIMAL\n         BCDOUT\n",
+        decks: b"NAME          NEXT
 ROWS
  DELETE
     A
 ENDATA
 ",
-        ],
         status: 2,
-        listing: b"CONVERT T        ROWS 4 COLUMNS 2 ENTRIES 4
-REVISE  NEXT     ROWS 3 COLUMNS 2 ENTRIES 3
+        lines: b"REVISE  NEXT     ROWS 3 COLUMNS 2 ENTRIES 3
 SETUP   NEXT     MIN
 PRIMAL UNBOUNDED STEPS 0 OBJECTIVE 0 CHECKED
     1 COST     0 -1
@@ -229,25 +237,20 @@ PRIMAL UNBOUNDED STEPS 0 OBJECTIVE 0 CHECKED
     5 Y        0 0
 END 2
 ",
-        cards: b"",
+        cards: &[],
     },
-    DeckRow {
+    DeckCase {
         name: "a combination inserted on two cards",
-        job: &[
-            REVISE_AND_SOLVE,
-            SUM_ROWS,
-            SUM_COLUMNS,
-            b"NAME          NEXT
+        statements: REVISED_AND_SOLVED,
+        decks: b"NAME          NEXT
 ROWS
  BEFORE       B
  DL U         A         1
  DL U         COST      0
 ENDATA
 ",
-        ],
         status: 0,
-        listing: b"CONVERT T        ROWS 4 COLUMNS 2 ENTRIES 4
-REVISE  NEXT     ROWS 5 COLUMNS 2 ENTRIES 4
+        lines: b"REVISE  NEXT     ROWS 5 COLUMNS 2 ENTRIES 4
 SETUP   NEXT     MIN
 PRIMAL OPTIMAL STEPS 2 OBJECTIVE -3 CHECKED
 SOLUTION OPTIMAL
@@ -265,7 +268,8 @@ NUMBER COLUMN AT ACTIVITY COST LOWER UPPER REDUCED
 BCDOUT  NEXT     CARDS 19
 END 0
 ",
-        cards: b"NAME          NEXT
+        cards: &[
+            b"NAME          NEXT
 ROWS
  N  COST
  L  A
@@ -274,25 +278,14 @@ ROWS
  L  B
  DL S         A         1
  DL S         B         1
-COLUMNS
-    X         COST      -1
-    X         A         1
-    Y         COST      -1
-    Y         B         1
-RHS
-    B         A         3
-    B         B         3
-    B         S         4
-ENDATA
 ",
+            SUM_WRITTEN,
+        ],
     },
-    DeckRow {
+    DeckCase {
         name: "no parts left",
-        job: &[
-            REVISE_AND_SOLVE,
-            SUM_ROWS,
-            SUM_COLUMNS,
-            b"NAME          NEXT
+        statements: REVISED_AND_SOLVED,
+        decks: b"NAME          NEXT
 ROWS
  DELETE
     A
@@ -303,10 +296,8 @@ COLUMNS
     Y         COST      1
 ENDATA
 ",
-        ],
         status: 0,
-        listing: b"CONVERT T        ROWS 4 COLUMNS 2 ENTRIES 4
-REVISE  NEXT     ROWS 2 COLUMNS 2 ENTRIES 2
+        lines: b"REVISE  NEXT     ROWS 2 COLUMNS 2 ENTRIES 2
 SETUP   NEXT     MIN
 PRIMAL OPTIMAL STEPS 0 OBJECTIVE 0 CHECKED
 SOLUTION OPTIMAL
@@ -321,7 +312,8 @@ NUMBER COLUMN AT ACTIVITY COST LOWER UPPER REDUCED
 BCDOUT  NEXT     CARDS 10
 END 0
 ",
-        cards: b"NAME          NEXT
+        cards: &[
+            b"NAME          NEXT
 ROWS
  N  COST
  DL S
@@ -332,11 +324,33 @@ RHS
     B         S         4
 ENDATA
 ",
+        ],
     },
-    DeckRow {
-        name: "written and converted again",
-        job: &[
-            b"         PROGRAM
+];
+
+// The rows, right-hand sides and ranges of a problem with other combinations, as BCDOUT writes them.
+const ROWS_WRITTEN: &[u8] = b"ROWS
+ DL S
+ N  COST
+ L  A
+ DG U         A         .50
+ DG U         COST      -2
+ DN V         U         1
+ DN V         A         0
+";
+
+const SIDES_WRITTEN: &[u8] = b"RHS
+    B         U         1
+RANGES
+    R         U         2
+ENDATA
+";
+
+// A revision of other combinations.
+const OTHER_REVISIONS: [DeckRow; 1] = [DeckRow {
+    name: "written and converted again",
+    job: &[
+        b"         PROGRAM
          CONVERT
          BCDOUT
          REVISE
@@ -367,71 +381,43 @@ COLUMNS
     X         A
 ENDATA
 ",
-        ],
-        status: 0,
-        listing: b"CONVERT T        ROWS 5 COLUMNS 2 ENTRIES 2
+    ],
+    status: 0,
+    listing: b"CONVERT T        ROWS 5 COLUMNS 2 ENTRIES 2
 BCDOUT  T        CARDS 17
 REVISE  NEXT     ROWS 6 COLUMNS 2 ENTRIES 1
 BCDOUT  NEXT     CARDS 19
 END 0
 ",
-        cards: b"NAME          T
-ROWS
- DL S
- N  COST
- L  A
- DG U         A         .50
- DG U         COST      -2
- DN V         U         1
- DN V         A         0
-COLUMNS
-    X         A         1
-    Y         A         1
-RHS
-    B         U         1
-RANGES
-    R         U         2
-ENDATA
-NAME          NEXT
-ROWS
- DL S
- N  COST
- L  A
- DG U         A         .50
- DG U         COST      -2
- DN V         U         1
- DN V         A         0
- DE W         V         1
+    cards: &[
+        b"NAME          T\n",
+        ROWS_WRITTEN,
+        b"COLUMNS\n    X         A         1\n    Y         A         1\n",
+        SIDES_WRITTEN,
+        b"NAME          NEXT\n",
+        ROWS_WRITTEN,
+        b" DE W         V         1
  DE W         U         1E1
 COLUMNS
     X         COST      0
     Y         A         1
-RHS
-    B         U         1
-RANGES
-    R         U         2
-ENDATA
 ",
-    },
-];
+        SIDES_WRITTEN,
+    ],
+}];
 
 #[test]
 fn cards_are_refused_for_combinations(rt: HostRuntime) -> Result<(), Fail> {
     let alloc = rt.alloc();
-    assert_eq!(rt;
-        first_unrefused(alloc, &ROW_CARDS, &DECK_FAULT, &ROW_FAULTS)?,
-        None
-    );
-    assert_eq!(rt;
-        first_unrefused(alloc, &REVISION_CARDS, &REVISION_STOP, &REVISION_FAULTS)?,
-        None
-    );
+    assert_eq!(rt; ROW_CARDS.first_unmet(alloc, &ROW_FAULTS)?, None);
+    assert_eq!(rt; REVISION_CARDS.first_unmet(alloc, &REVISION_FAULTS)?, None);
     assert_eq!(rt; first_unreported(alloc, &OTHER_FAULTS)?, None);
     Ok(())
 }
 
 #[test]
 fn revisions_state_combinations(rt: HostRuntime) -> Result<(), Fail> {
-    assert_eq!(rt; first_unpunched(rt.alloc(), &REVISIONS)?, None);
+    assert_eq!(rt; OVER_SUM.first_unpunched(rt.alloc(), &SUM_REVISIONS)?, None);
+    assert_eq!(rt; first_unpunched(rt.alloc(), &OTHER_REVISIONS)?, None);
     Ok(())
 }

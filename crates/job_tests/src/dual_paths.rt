@@ -1,45 +1,14 @@
 // Paths that the dual simplex method follows.
-use crate::frames::{Case, Frame, OverProblem, first_unanswered};
+use crate::frames::{Case, Jobs, SET_UP_BND};
 use crate::rows::Row;
+use crate::runs::first_unreported;
+use crate::testprob::OVER_TESTPROB;
 use std::test::Fail;
-use test_decks::problems::{CONFLICT, ENDATA, ENDLESS, PLAN, TESTPROB_CARDS};
+use test_decks::problems::{CONFLICT, ENDLESS, PLAN};
 use test_decks::programs::{DUAL, DUAL_BND};
 
-/// Programs of DUAL, with their listings.
-pub const DUAL_PATHS: [Row; 9] = [
-    Row {
-        name: "dual testprob",
-        job: &[
-            b"         PROGRAM
-         CONVERT
-         SETUP('BOUND','BND1')
-         DUAL
-         SOLUTION
-         EXIT
-         PEND
-",
-            TESTPROB_CARDS,
-            ENDATA,
-        ],
-        status: 0,
-        listing: b"CONVERT TESTPROB ROWS 4 COLUMNS 3 ENTRIES 9
-SETUP   TESTPROB MIN
-DUAL OPTIMAL STEPS 3 OBJECTIVE 54 CHECKED
-SOLUTION OPTIMAL
-SECTION 1 - ROWS
-NUMBER ROW AT ACTIVITY SLACK LOWER UPPER DUAL
-    1 COST     BS 54 -54 NONE NONE 0
-    2 LIM1     BS 3 2 NONE 5 0
-    3 LIM2     LL 10 0 10 NONE 1
-    4 MYEQN    EQ 7 0 7 7 8
-SECTION 2 - COLUMNS
-NUMBER COLUMN AT ACTIVITY COST LOWER UPPER REDUCED
-    5 XONE     BS 4 1 0 4 0
-    6 YTWO     LL -1 4 -1 1 12
-    7 ZTHREE   BS 6 9 0 NONE 0
-END 0
-",
-    },
+// Programs of DUAL over other problems.
+const OTHER_PATHS: [Row; 8] = [
     Row {
         name: "dual infeasible",
         job: &[DUAL, CONFLICT],
@@ -275,12 +244,32 @@ END 0
     },
 ];
 
+// A program of DUAL over TESTPROB.
+const TESTPROB_PATHS: [Case; 1] = [Case {
+    name: "dual testprob",
+    statements: b"         DUAL\n         SOLUTION\n",
+    status: 0,
+    lines: b"DUAL OPTIMAL STEPS 3 OBJECTIVE 54 CHECKED
+SOLUTION OPTIMAL
+SECTION 1 - ROWS
+NUMBER ROW AT ACTIVITY SLACK LOWER UPPER DUAL
+    1 COST     BS 54 -54 NONE NONE 0
+    2 LIM1     BS 3 2 NONE 5 0
+    3 LIM2     LL 10 0 10 NONE 1
+    4 MYEQN    EQ 7 0 7 7 8
+SECTION 2 - COLUMNS
+NUMBER COLUMN AT ACTIVITY COST LOWER UPPER REDUCED
+    5 XONE     BS 4 1 0 4 0
+    6 YTWO     LL -1 4 -1 1 12
+    7 ZTHREE   BS 6 9 0 NONE 0
+END 0
+",
+}];
+
 // Programs over the plan of three columns, with the set BND of bounds.
-const OVER_PLAN: OverProblem = OverProblem {
-    job: Frame {
-        before: &[b"         PROGRAM\n         CONVERT\n         SETUP('BOUND','BND')\n"],
-        after: &[b"         EXIT\n         PEND\n", PLAN],
-    },
+const OVER_PLAN: Jobs = Jobs {
+    program: SET_UP_BND,
+    problem: &[PLAN],
     listing: b"CONVERT PLAN     ROWS 4 COLUMNS 3 ENTRIES 12\nSETUP   PLAN     MIN\n",
 };
 
@@ -351,10 +340,13 @@ END 0
 ];
 
 #[test]
-fn paths_over_a_plan_are_followed(rt: HostRuntime) -> Result<(), Fail> {
+fn dual_paths_are_followed(rt: HostRuntime) -> Result<(), Fail> {
+    let alloc = rt.alloc();
     assert_eq!(rt;
-        first_unanswered(rt.alloc(), &OVER_PLAN, &PLAN_PATHS)?,
+        OVER_TESTPROB.first_unanswered(alloc, &TESTPROB_PATHS)?,
         None
     );
+    assert_eq!(rt; OVER_PLAN.first_unanswered(alloc, &PLAN_PATHS)?, None);
+    assert_eq!(rt; first_unreported(alloc, &OTHER_PATHS)?, None);
     Ok(())
 }

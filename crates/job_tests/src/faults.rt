@@ -1,20 +1,22 @@
 // Worked jobs that stop at a fault of their control cards, of a statement or of a deck.
-use crate::frames::{DECK_FAULT, Fault, Frame, Stop, first_unrefused};
+use crate::frames::{CONVERTED, Case, Fault, Frame, Jobs, Refusals, Stop};
 use crate::rows::Row;
 use crate::runs::first_unreported;
 use std::test::Fail;
 use test_decks::problems::{ENDATA, ONE, TESTPROB_CARDS};
 use test_decks::programs::{SOLVE, SOLVE_BND1};
 
-// Cards of a control program that are refused.
-const CONTROL_CARDS: Frame = Frame {
-    before: &[b"         PROGRAM\n"],
-    after: &[b"         PEND\n"],
-};
+// The line of the problem ONE.
+const ONE_CONVERTED: &[u8] = b"CONVERT ONE      ROWS 2 COLUMNS 1 ENTRIES 2\n";
 
-const CONTROL_STOP: Stop = Stop {
-    status: 8,
-    listing: &[b"STOP 8 CONTROL FAULT "],
+// Cards of a control program.
+const CONTROL_CARDS: Refusals = Refusals {
+    job: Frame {
+        before: &[b"         PROGRAM\n"],
+        after: &[b"         PEND\n"],
+    },
+    listing: b"",
+    stop: Stop::Control,
 };
 
 const CONTROL_FAULTS: [Fault; 7] = [
@@ -39,15 +41,14 @@ const CONTROL_FAULTS: [Fault; 7] = [
     ("limit some", "         MOVE(XITERLIM,'SOME')\n", "7 CARD 2"),
 ];
 
-// Statements after CONVERT of which the last is refused.
-const STATEMENTS: Frame = Frame {
-    before: &[b"         PROGRAM\n         CONVERT\n"],
-    after: &[b"         PEND\n", ONE],
-};
-
-const VERB_STOP: Stop = Stop {
-    status: 10,
-    listing: &[b"CONVERT ONE      ROWS 2 COLUMNS 1 ENTRIES 2\nSTOP 10 VERB FAULT "],
+// Statements after CONVERT, of which the last is refused.
+const STATEMENTS: Refusals = Refusals {
+    job: Frame {
+        before: &[CONVERTED],
+        after: &[b"         PEND\n", ONE],
+    },
+    listing: ONE_CONVERTED,
+    stop: Stop::Verb,
 };
 
 const VERB_FAULTS: [Fault; 5] = [
@@ -66,10 +67,14 @@ const VERB_FAULTS: [Fault; 5] = [
     ("no bound set", "         SETUP('BOUND','Z')\n", "14 CARD 3"),
 ];
 
-// Cards after the row of a deck, of which one is refused.
-const DECK_CARDS: Frame = Frame {
-    before: &[SOLVE, b"NAME          T\nROWS\n N  COST\n"],
-    after: &[ENDATA],
+// Cards after the row of a deck.
+const DECK_CARDS: Refusals = Refusals {
+    job: Frame {
+        before: &[SOLVE, b"NAME          T\nROWS\n N  COST\n"],
+        after: &[ENDATA],
+    },
+    listing: b"",
+    stop: Stop::Deck,
 };
 
 const DECK_FAULTS: [Fault; 8] = [
@@ -115,8 +120,55 @@ BOUNDS
     ("deck unknown section", "OBJSENSE\n", "2 CARD 11"),
 ];
 
+// A card that isn't one, in the place of SETUP.
+const CARDS: Refusals = Refusals {
+    job: Frame {
+        before: &[CONVERTED],
+        after: &[
+            b"         PRIMAL
+         SOLUTION
+         EXIT
+         PEND
+",
+            ONE,
+        ],
+    },
+    listing: b"",
+    stop: Stop::Card,
+};
+
+const CARD_FAULTS: [Fault; 2] = [
+    (
+        "card of 81 bytes",
+        "         SETUPXXXXXXXXXXXXXXXXXXXXXXXXXXXXXXXXXXXXXXXXXXXXXXXXXXXXXXXXXXXXXXXXXXX\n",
+        "3 CARD 3",
+    ),
+    ("card with tab", "         SETUP\tX\n", "4 CARD 3"),
+];
+
+// A program over the problem ONE that has no plan to show any more.
+const OVER_ONE: Jobs = Jobs {
+    program: CONVERTED,
+    problem: &[ONE],
+    listing: ONE_CONVERTED,
+};
+
+const NO_PLAN: [Case; 1] = [Case {
+    name: "mark cleared by xobj",
+    statements: b"         SETUP
+         PRIMAL
+         MOVE(XOBJ,'COST')
+         SOLUTION
+",
+    status: 10,
+    lines: b"SETUP   ONE      MIN
+PRIMAL OPTIMAL STEPS 1 OBJECTIVE 1 CHECKED
+STOP 10 VERB FAULT 4 CARD 6
+",
+}];
+
 // Jobs with other faults.
-const OTHER_FAULTS: [Row; 8] = [
+const OTHER_FAULTS: [Row; 5] = [
     Row {
         name: "empty job",
         job: &[],
@@ -130,63 +182,10 @@ const OTHER_FAULTS: [Row; 8] = [
         listing: b"STOP 10 VERB FAULT 2 CARD 2\n",
     },
     Row {
-        name: "mark cleared by xobj",
-        job: &[
-            b"         PROGRAM
-         CONVERT
-         SETUP
-         PRIMAL
-         MOVE(XOBJ,'COST')
-         SOLUTION
-         EXIT
-         PEND
-",
-            ONE,
-        ],
-        status: 10,
-        listing: b"CONVERT ONE      ROWS 2 COLUMNS 1 ENTRIES 2
-SETUP   ONE      MIN
-PRIMAL OPTIMAL STEPS 1 OBJECTIVE 1 CHECKED
-STOP 10 VERB FAULT 4 CARD 6
-",
-    },
-    Row {
         name: "program alone",
         job: &[SOLVE_BND1],
         status: 10,
         listing: b"STOP 10 VERB FAULT 1 CARD 2\n",
-    },
-    Row {
-        name: "card of 81 bytes",
-        job: &[
-            b"         PROGRAM
-         CONVERT
-         SETUPXXXXXXXXXXXXXXXXXXXXXXXXXXXXXXXXXXXXXXXXXXXXXXXXXXXXXXXXXXXXXXXXXXX
-         PRIMAL
-         SOLUTION
-         EXIT
-         PEND
-",
-            ONE,
-        ],
-        status: 13,
-        listing: b"STOP 13 CARD FAULT 3 CARD 3\n",
-    },
-    Row {
-        name: "card with tab",
-        job: &[
-            b"         PROGRAM
-         CONVERT
-         SETUP\tX
-         PRIMAL
-         SOLUTION
-         EXIT
-         PEND
-",
-            ONE,
-        ],
-        status: 13,
-        listing: b"STOP 13 CARD FAULT 4 CARD 3\n",
     },
     Row {
         name: "deck without endata",
@@ -205,14 +204,16 @@ STOP 10 VERB FAULT 4 CARD 6
 #[test]
 fn faults_are_reported_with_their_cards(rt: HostRuntime) -> Result<(), Fail> {
     let alloc = rt.alloc();
-    let tables: [(&Frame, &Stop, &[Fault]); 3] = [
-        (&CONTROL_CARDS, &CONTROL_STOP, &CONTROL_FAULTS),
-        (&STATEMENTS, &VERB_STOP, &VERB_FAULTS),
-        (&DECK_CARDS, &DECK_FAULT, &DECK_FAULTS),
+    let tables: [(&Refusals, &[Fault]); 4] = [
+        (&CONTROL_CARDS, &CONTROL_FAULTS),
+        (&STATEMENTS, &VERB_FAULTS),
+        (&DECK_CARDS, &DECK_FAULTS),
+        (&CARDS, &CARD_FAULTS),
     ];
-    for (cards, stop, faults) in tables {
-        assert_eq!(rt; first_unrefused(alloc, cards, stop, faults)?, None);
+    for (refusals, faults) in tables {
+        assert_eq!(rt; refusals.first_unmet(alloc, faults)?, None);
     }
+    assert_eq!(rt; OVER_ONE.first_unanswered(alloc, &NO_PLAN)?, None);
     assert_eq!(rt; first_unreported(alloc, &OTHER_FAULTS)?, None);
     Ok(())
 }

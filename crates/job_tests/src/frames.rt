@@ -19,55 +19,87 @@ impl Frame {
     }
 }
 
-/// A stop at a fault: the status, and the parts of the listing before the number of the fault.
-pub struct Stop {
-    pub status: u8,
-    pub listing: &'static [&'static [u8]],
+/// What a job stops at.
+#[derive(Clone, Copy)]
+pub enum Stop {
+    Control,
+    Verb,
+    Deck,
+    Card,
 }
 
-/// The stop at a fault of the first deck of a job.
-pub const DECK_FAULT: Stop = Stop {
-    status: 12,
-    listing: &[b"STOP 12 DECK FAULT "],
-};
+impl Stop {
+    fn status(self) -> u8 {
+        match self {
+            Stop::Control => 8,
+            Stop::Verb => 10,
+            Stop::Deck => 12,
+            Stop::Card => 13,
+        }
+    }
 
-/// Whether the job with these cards stops at this fault.
-pub fn is_refused(
-    alloc: Global,
-    job: &Frame,
-    stop: &Stop,
-    cards: &str,
-    fault: &str,
-) -> Result<bool, Fail> {
-    let job = job.around(alloc, cards.as_bytes())?;
-    let mut listing = stop.listing.concat(alloc)?;
-    listing.extend_from_slice(fault.as_bytes())?;
-    listing.push(b'\n')?;
-    Ok(answer_of(alloc, &job)?.is(stop.status, &listing))
+    // The last line of the listing, before the number of the fault.
+    fn words(self) -> &'static [u8] {
+        match self {
+            Stop::Control => b"STOP 8 CONTROL FAULT ",
+            Stop::Verb => b"STOP 10 VERB FAULT ",
+            Stop::Deck => b"STOP 12 DECK FAULT ",
+            Stop::Card => b"STOP 13 CARD FAULT ",
+        }
+    }
 }
 
 /// Cards with a fault: what they show, the cards, and the fault's number with its place, as the listing tells them.
 pub type Fault = (&'static str, &'static str, &'static str);
 
-/// The name of the first of these cards that don't have this fault.
-pub fn first_unrefused(
-    alloc: Global,
-    job: &Frame,
-    stop: &Stop,
-    faults: &[Fault],
-) -> Result<Option<&'static str>, Fail> {
-    for (name, cards, fault) in faults {
-        if !is_refused(alloc, job, stop, cards, fault)? {
-            return Ok(Some(*name));
-        }
-    }
-    Ok(None)
+/// Jobs of which some cards have a fault: what stands around the cards, the lines of the listing before the last, and what the jobs
+/// stop at.
+pub struct Refusals {
+    pub job: Frame,
+    pub listing: &'static [u8],
+    pub stop: Stop,
 }
 
-/// Jobs over one problem: what stands around the statements of a case in the program, with the deck of the problem after it, and the
-/// first lines of each listing.
-pub struct OverProblem {
-    pub job: Frame,
+impl Refusals {
+    /// Whether the job with these cards stops at this fault.
+    pub fn has(&self, alloc: Global, cards: &str, fault: &str) -> Result<bool, Fail> {
+        let job = self.job.around(alloc, cards.as_bytes())?;
+        let mut listing = Vec::from_slice(alloc, self.listing)?;
+        listing.extend_from_slice(self.stop.words())?;
+        listing.extend_from_slice(fault.as_bytes())?;
+        listing.push(b'\n')?;
+        Ok(answer_of(alloc, &job)?.is(self.stop.status(), &listing))
+    }
+
+    /// The name of the first of these cards that don't have this fault.
+    pub fn first_unmet(
+        &self,
+        alloc: Global,
+        faults: &[Fault],
+    ) -> Result<Option<&'static str>, Fail> {
+        for (name, cards, fault) in faults {
+            if !self.has(alloc, cards, fault)? {
+                return Ok(Some(*name));
+            }
+        }
+        Ok(None)
+    }
+}
+
+/// The first cards of a program: it reads a problem, sets it up, or does so with the set BND of bounds.
+pub const CONVERTED: &[u8] = b"         PROGRAM\n         CONVERT\n";
+
+pub const SET_UP: &[u8] = b"         PROGRAM\n         CONVERT\n         SETUP\n";
+
+pub const SET_UP_BND: &[u8] = b"         PROGRAM
+         CONVERT
+         SETUP('BOUND','BND')
+";
+
+/// Jobs over one problem: the first cards of their programs, the problem's deck in parts, and the first lines of their listings.
+pub struct Jobs {
+    pub program: &'static [u8],
+    pub problem: &'static [&'static [u8]],
     pub listing: &'static [u8],
 }
 
@@ -79,19 +111,61 @@ pub struct Case {
     pub lines: &'static [u8],
 }
 
-/// The name of the first of these cases that has another status or listing.
-pub fn first_unanswered(
-    alloc: Global,
-    jobs: &OverProblem,
-    cases: &[Case],
-) -> Result<Option<&'static str>, Fail> {
-    for case in cases {
-        let job = jobs.job.around(alloc, case.statements)?;
-        let mut listing = Vec::from_slice(alloc, jobs.listing)?;
-        listing.extend_from_slice(case.lines)?;
-        if !answer_of(alloc, &job)?.is(case.status, &listing) {
-            return Ok(Some(case.name));
-        }
+/// A job over a problem that has other decks behind it, or punches some: also these decks, and the cards that it punches, in parts.
+pub struct DeckCase {
+    pub name: &'static str,
+    pub statements: &'static [u8],
+    pub decks: &'static [u8],
+    pub status: u8,
+    pub lines: &'static [u8],
+    pub cards: &'static [&'static [u8]],
+}
+
+impl Jobs {
+    // The job with these statements and these decks behind the problem's.
+    fn job(&self, alloc: Global, statements: &[u8], decks: &[u8]) -> Result<Vec<u8>, Fail> {
+        let mut job = Vec::from_slice(alloc, self.program)?;
+        job.extend_from_slice(statements)?;
+        job.extend_from_slice(b"         EXIT\n         PEND\n")?;
+        job.extend_from_slice(&self.problem.concat(alloc)?)?;
+        job.extend_from_slice(decks)?;
+        Ok(job)
     }
-    Ok(None)
+
+    fn listing(&self, alloc: Global, lines: &[u8]) -> Result<Vec<u8>, Fail> {
+        let mut listing = Vec::from_slice(alloc, self.listing)?;
+        listing.extend_from_slice(lines)?;
+        Ok(listing)
+    }
+
+    /// The name of the first of these cases that has another status or listing.
+    pub fn first_unanswered(
+        &self,
+        alloc: Global,
+        cases: &[Case],
+    ) -> Result<Option<&'static str>, Fail> {
+        for case in cases {
+            let answer = answer_of(alloc, &self.job(alloc, case.statements, b"")?)?;
+            if !answer.is(case.status, &self.listing(alloc, case.lines)?) {
+                return Ok(Some(case.name));
+            }
+        }
+        Ok(None)
+    }
+
+    /// The name of the first of these cases that has another status or listing, or punches other cards.
+    pub fn first_unpunched(
+        &self,
+        alloc: Global,
+        cases: &[DeckCase],
+    ) -> Result<Option<&'static str>, Fail> {
+        for case in cases {
+            let answer = answer_of(alloc, &self.job(alloc, case.statements, case.decks)?)?;
+            let listing = self.listing(alloc, case.lines)?;
+            if !answer.is_punched(case.status, &listing, &case.cards.concat(alloc)?) {
+                return Ok(Some(case.name));
+            }
+        }
+        Ok(None)
+    }
 }

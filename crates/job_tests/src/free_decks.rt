@@ -1,5 +1,5 @@
 // Free decks: decks whose cards between others are changed, as CONVERT reads them and BCDOUT writes them out.
-use crate::frames::{DECK_FAULT, Frame, Stop, is_refused};
+use crate::frames::{Frame, Refusals, Stop};
 use crate::jobs::answer_of;
 use crate::sections::{COLUMNS, NAME_ONE, RHS, ROWS};
 use std::alloc::Global;
@@ -12,11 +12,10 @@ pub type Faulty = (&'static str, &'static str);
 /// Cards without a fault, the lines of the listing that tell sizes, and the parts that are written of the cards.
 pub type Lawful = (&'static str, &'static [u8], &'static [&'static [u8]]);
 
-/// Cases of one place in a job: their cards, those that have a fault with their stop, and those that have none with their listing and
-/// the deck that is written out.
+/// Cases of one place in a job: the jobs, the cards that have a fault, those that have none, and what stands around the lines of their
+/// listing and around the cards that are written of them.
 pub struct Place {
-    pub cards: Frame,
-    pub stop: Stop,
+    pub cards: Refusals,
     pub faulty: &'static [Faulty],
     pub listing: Frame,
     pub deck: Frame,
@@ -26,7 +25,7 @@ pub struct Place {
 // Whether the job with these cards is converted, and written out as this deck.
 fn is_lawful(alloc: Global, place: &Place, case: &Lawful) -> Result<bool, Fail> {
     let (cards, lines, deck) = *case;
-    let job = place.cards.around(alloc, cards.as_bytes())?;
+    let job = place.cards.job.around(alloc, cards.as_bytes())?;
     let listing = place.listing.around(alloc, lines)?;
     let deck = place.deck.around(alloc, &deck.concat(alloc)?)?;
     Ok(answer_of(alloc, &job)?.is_punched(0, &listing, &deck))
@@ -35,7 +34,7 @@ fn is_lawful(alloc: Global, place: &Place, case: &Lawful) -> Result<bool, Fail> 
 /// The cards of the first case of this place that is answered otherwise.
 pub fn first_unmet(alloc: Global, place: &Place) -> Result<Option<&'static str>, Fail> {
     for (cards, fault) in place.faulty {
-        if !is_refused(alloc, &place.cards, &place.stop, cards, fault)? {
+        if !place.cards.has(alloc, cards, fault)? {
             return Ok(Some(*cards));
         }
     }
@@ -81,11 +80,14 @@ const OF_12_CARDS: &[u8] =
 
 // A card of COLUMNS, card 13 of the job.
 const ENTRIES: Place = Place {
-    cards: Frame {
-        before: &[BCDOUT, FREE_NAME, FREE_ROWS, b"COLUMNS\n"],
-        after: &[FREE_RHS, ENDATA],
+    cards: Refusals {
+        job: Frame {
+            before: &[BCDOUT, FREE_NAME, FREE_ROWS, b"COLUMNS\n"],
+            after: &[FREE_RHS, ENDATA],
+        },
+        listing: b"",
+        stop: Stop::Deck,
     },
-    stop: DECK_FAULT,
     faulty: &ENTRY_FAULTS,
     listing: WRITTEN,
     deck: Frame {
@@ -131,11 +133,14 @@ const ENTRY_DECKS: [Lawful; 2] = [
 
 // A third card of ROWS, card 12.
 const THIRD_ROW: Place = Place {
-    cards: Frame {
-        before: &[BCDOUT, FREE_NAME, FREE_ROWS],
-        after: &[FREE_COLUMNS, FREE_RHS, ENDATA],
+    cards: Refusals {
+        job: Frame {
+            before: &[BCDOUT, FREE_NAME, FREE_ROWS],
+            after: &[FREE_COLUMNS, FREE_RHS, ENDATA],
+        },
+        listing: b"",
+        stop: Stop::Deck,
     },
-    stop: DECK_FAULT,
     faulty: &ROW_FAULTS,
     listing: WRITTEN,
     deck: Frame {
@@ -186,11 +191,14 @@ const ROW_DECKS: [Lawful; 2] = [
 
 // A section between RHS and ENDATA, whose first data card is card 17.
 const SETS: Place = Place {
-    cards: Frame {
-        before: &[BCDOUT, FREE_NAME, FREE_ROWS, FREE_COLUMNS, FREE_RHS],
-        after: &[ENDATA],
+    cards: Refusals {
+        job: Frame {
+            before: &[BCDOUT, FREE_NAME, FREE_ROWS, FREE_COLUMNS, FREE_RHS],
+            after: &[ENDATA],
+        },
+        listing: b"",
+        stop: Stop::Deck,
     },
-    stop: DECK_FAULT,
     faulty: &SET_FAULTS,
     listing: WRITTEN,
     deck: Frame {
@@ -250,11 +258,14 @@ const SET_DECKS: [Lawful; 6] = [
 
 // The NAME card, card 8: it begins a free deck, or a fixed one, of which card 10 has a fault.
 const NAMES: Place = Place {
-    cards: Frame {
-        before: &[BCDOUT],
-        after: &[FREE_ROWS, FREE_COLUMNS, FREE_RHS, ENDATA],
+    cards: Refusals {
+        job: Frame {
+            before: &[BCDOUT],
+            after: &[FREE_ROWS, FREE_COLUMNS, FREE_RHS, ENDATA],
+        },
+        listing: b"",
+        stop: Stop::Deck,
     },
-    stop: DECK_FAULT,
     faulty: &NAME_FAULTS,
     listing: WRITTEN,
     deck: Frame {

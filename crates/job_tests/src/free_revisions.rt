@@ -1,5 +1,5 @@
 // Free revisions: revisions whose cards between others are changed, as REVISE reads them and BCDOUT writes the problem out.
-use crate::frames::{Frame, Stop};
+use crate::frames::{Frame, Refusals, Stop};
 use crate::free_decks::{Faulty, Lawful, Place, first_unmet};
 use crate::sections::{BOUNDS, COLUMNS, NAME_NEXT, RANGES, RHS, ROWS};
 use std::test::Fail;
@@ -10,9 +10,10 @@ const CONVERTED: &[u8] = b"CONVERT ONE      ROWS 2 COLUMNS 1 ENTRIES 2\n";
 
 // A free revision of a fixed deck: its cards from card 23 on.
 const REVISION: Place = Place {
-    cards: Frame {
-        before: &[
-            b"* A free revision.
+    cards: Refusals {
+        job: Frame {
+            before: &[
+                b"* A free revision.
 *
          PROGRAM
          CONVERT
@@ -21,14 +22,13 @@ const REVISION: Place = Place {
          EXIT
          PEND
 ",
-            RANGED_ONE,
-            b"NAME          NEXT      FREE\n",
-        ],
-        after: &[ENDATA],
-    },
-    stop: Stop {
-        status: 12,
-        listing: &[CONVERTED, b"STOP 12 DECK FAULT "],
+                RANGED_ONE,
+                b"NAME          NEXT      FREE\n",
+            ],
+            after: &[ENDATA],
+        },
+        listing: CONVERTED,
+        stop: Stop::Deck,
     },
     faulty: &REVISION_FAULTS,
     listing: Frame {

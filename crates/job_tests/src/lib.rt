@@ -44,6 +44,8 @@ mod runs;
 #[cfg(test)]
 mod sections;
 #[cfg(test)]
+mod testprob;
+#[cfg(test)]
 mod verdicts;
 #[cfg(test)]
 mod words;

@@ -17,7 +17,7 @@ pub const DECKS: [DeckRow; 2] = [
         ],
         status: 0,
         listing: b"CONVERT ONE      ROWS 2 COLUMNS 1 ENTRIES 2\nBCDOUT  ONE      CARDS 10\nEND 0\n",
-        cards: ONE,
+        cards: &[ONE],
     },
     DeckRow {
         name: "free revision",
@@ -73,7 +73,8 @@ NUMBER COLUMN AT ACTIVITY COST LOWER UPPER REDUCED
 BCDOUT  NEXT     CARDS 17
 END 0
 ",
-        cards: b"NAME          NEXT
+        cards: &[
+            b"NAME          NEXT
 ROWS
  N  COST
  G  LOW
@@ -91,5 +92,6 @@ BOUNDS
  UP BND       X         1
 ENDATA
 ",
+        ],
     },
 ];

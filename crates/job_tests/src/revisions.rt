@@ -1,5 +1,5 @@
 // Worked jobs that revise a problem.
-use crate::frames::{Case, Fault, Frame, OverProblem, Stop, first_unanswered, first_unrefused};
+use crate::frames::{CONVERTED, Case, Fault, Frame, Jobs, Refusals, Stop};
 use crate::rows::Row;
 use crate::runs::first_unreported;
 use std::test::Fail;
@@ -7,13 +7,13 @@ use test_decks::problems::{ENDATA, ONE, REVISED_SIDE};
 use test_decks::programs::REVISE;
 
 // Programs over the problem ONE and a revision of its right-hand side.
-const OVER_ONE: OverProblem = OverProblem {
-    job: Frame {
-        before: &[b"         PROGRAM\n         CONVERT\n"],
-        after: &[b"         EXIT\n         PEND\n", ONE, REVISED_SIDE],
-    },
-    listing: b"CONVERT ONE      ROWS 2 COLUMNS 1 ENTRIES 2\n",
+const OVER_ONE: Jobs = Jobs {
+    program: CONVERTED,
+    problem: &[ONE, REVISED_SIDE],
+    listing: ONE_CONVERTED,
 };
+
+const ONE_CONVERTED: &[u8] = b"CONVERT ONE      ROWS 2 COLUMNS 1 ENTRIES 2\n";
 
 const SIDE_REVISIONS: [Case; 4] = [
     Case {
@@ -62,14 +62,13 @@ STOP 10 VERB FAULT 3 CARD 5
 ];
 
 // Cards of a revision that are refused.
-const REVISION_CARDS: Frame = Frame {
-    before: &[REVISE, ONE, b"NAME          REV\n"],
-    after: &[ENDATA],
-};
-
-const REVISION_STOP: Stop = Stop {
-    status: 12,
-    listing: &[b"CONVERT ONE      ROWS 2 COLUMNS 1 ENTRIES 2\nSTOP 12 DECK FAULT "],
+const REVISION_CARDS: Refusals = Refusals {
+    job: Frame {
+        before: &[REVISE, ONE, b"NAME          REV\n"],
+        after: &[ENDATA],
+    },
+    listing: ONE_CONVERTED,
+    stop: Stop::Deck,
 };
 
 const REVISION_FAULTS: [Fault; 2] = [
@@ -160,11 +159,8 @@ END 0
 #[test]
 fn problems_are_revised(rt: HostRuntime) -> Result<(), Fail> {
     let alloc = rt.alloc();
-    assert_eq!(rt; first_unanswered(alloc, &OVER_ONE, &SIDE_REVISIONS)?, None);
-    assert_eq!(rt;
-        first_unrefused(alloc, &REVISION_CARDS, &REVISION_STOP, &REVISION_FAULTS)?,
-        None
-    );
+    assert_eq!(rt; OVER_ONE.first_unanswered(alloc, &SIDE_REVISIONS)?, None);
+    assert_eq!(rt; REVISION_CARDS.first_unmet(alloc, &REVISION_FAULTS)?, None);
     assert_eq!(rt; first_unreported(alloc, &OTHER_REVISIONS)?, None);
     Ok(())
 }

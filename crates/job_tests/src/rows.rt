@@ -18,5 +18,6 @@ pub struct DeckRow {
     pub job: &'static [&'static [u8]],
     pub status: u8,
     pub listing: &'static [u8],
-    pub cards: &'static [u8],
+    /// The parts of the decks that it punches.
+    pub cards: &'static [&'static [u8]],
 }

@@ -1,10 +1,13 @@
 // Worked jobs that end with a verdict, or at a limit.
+use crate::frames::Case;
 use crate::rows::Row;
-use test_decks::problems::{BEALE, CONFLICT, CROSSED, ENDATA, ENDLESS, TESTPROB_CARDS};
+use crate::testprob::OVER_TESTPROB;
+use std::test::Fail;
+use test_decks::problems::{BEALE, CONFLICT, CROSSED, ENDLESS};
 use test_decks::programs::{SOLVE, SOLVE_BND, SOLVE_IN_NO_STEP};
 
 /// Runs that end with a verdict, or at a limit.
-pub const VERDICTS: [Row; 7] = [
+pub const VERDICTS: [Row; 6] = [
     Row {
         name: "negative upper crossed",
         job: &[SOLVE_BND, CROSSED],
@@ -62,27 +65,6 @@ STOP 16 ITERATION LIMIT 0 CARD 5
 ",
     },
     Row {
-        name: "iteration limit 2",
-        job: &[
-            b"         PROGRAM
-         CONVERT
-         SETUP('BOUND','BND1')
-         MOVE(XITERLIM,2)
-         PRIMAL
-         SOLUTION
-         EXIT
-         PEND
-",
-            TESTPROB_CARDS,
-            ENDATA,
-        ],
-        status: 16,
-        listing: b"CONVERT TESTPROB ROWS 4 COLUMNS 3 ENTRIES 9
-SETUP   TESTPROB MIN
-STOP 16 ITERATION LIMIT 2 CARD 5
-",
-    },
-    Row {
         name: "a limit after none",
         job: &[
             b"         PROGRAM
@@ -110,3 +92,20 @@ STOP 16 ITERATION LIMIT 5 CARD 6
         listing: b"STOP 17 STATEMENT LIMIT\n",
     },
 ];
+
+// A path over TESTPROB that ends at its limit.
+const TESTPROB_LIMITS: [Case; 1] = [Case {
+    name: "iteration limit 2",
+    statements: b"         MOVE(XITERLIM,2)\n         PRIMAL\n         SOLUTION\n",
+    status: 16,
+    lines: b"STOP 16 ITERATION LIMIT 2 CARD 5\n",
+}];
+
+#[test]
+fn a_limit_ends_a_path(rt: HostRuntime) -> Result<(), Fail> {
+    assert_eq!(rt;
+        OVER_TESTPROB.first_unanswered(rt.alloc(), &TESTPROB_LIMITS)?,
+        None
+    );
+    Ok(())
+}

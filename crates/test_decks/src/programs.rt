@@ -76,18 +76,6 @@ pub const SOLVE_IN_NO_STEP: &[u8] = b"         PROGRAM
          PEND
 ";
 
-/// Revises a problem, solves it, and writes it out.
-pub const REVISE_AND_SOLVE: &[u8] = b"         PROGRAM
-         CONVERT
-         REVISE
-         SETUP
-         PRIMAL
-         SOLUTION
-         BCDOUT
-         EXIT
-         PEND
-";
-
 /// Follows the dual path and shows the plan.
 pub const DUAL: &[u8] = b"         PROGRAM
          CONVERT
@@ -108,16 +96,7 @@ pub const DUAL_BND: &[u8] = b"         PROGRAM
          PEND
 ";
 
-/// Reads a problem and the deck of a basis.
-pub const INSERT: &[u8] = b"         PROGRAM
-         CONVERT
-         SETUP
-         INSERT
-         EXIT
-         PEND
-";
-
-/// INSERT with the set BND of bounds.
+/// Reads a problem and the deck of a basis, with the set BND of bounds.
 pub const INSERT_BND: &[u8] = b"         PROGRAM
          CONVERT
          SETUP('BOUND','BND')
