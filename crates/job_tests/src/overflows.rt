@@ -1,7 +1,10 @@
 // Worked jobs in which a number grows too large.
 use crate::rows::Row;
-use test_decks::problems::{FAR_RANGE, GREAT_SLACK};
+use test_decks::problems::{FAR_RANGE, GREAT_SLACK, LIMIT_ROWS};
 use test_decks::programs::{SOLVE, SOLVE_BND, SOLVE_RANGE};
+
+// The cards after those of X where the limit is great.
+const GREAT_LIMIT: &[u8] = b"RHS\n    B         LIM       999999999E18\nENDATA\n";
 
 /// Jobs in which a number grows too large: what their listings begin with. Which operation is refused first is free.
 pub const OVERFLOWS: [Row; 6] = [
@@ -45,17 +48,10 @@ STOP 20 OVERFLOW F6\x20",
         name: "step overflow",
         job: &[
             SOLVE,
-            b"NAME          T
-ROWS
- N  COST
- L  LIM
-COLUMNS
-    X         COST      -1
-    X         LIM       .1E-18
-RHS
-    B         LIM       999999999E18
-ENDATA
-",
+            b"NAME          T\n",
+            LIMIT_ROWS,
+            b"    X         COST      -1\n    X         LIM       .1E-18\n",
+            GREAT_LIMIT,
         ],
         status: 20,
         listing: b"CONVERT T        ROWS 2 COLUMNS 1 ENTRIES 2
@@ -66,17 +62,10 @@ STOP 20 OVERFLOW F7\x20",
         name: "objective overflow",
         job: &[
             SOLVE,
-            b"NAME          T
-ROWS
- N  COST
- L  LIM
-COLUMNS
-    X         COST      -99999999E18
-    X         LIM       1
-RHS
-    B         LIM       999999999E18
-ENDATA
-",
+            b"NAME          T\n",
+            LIMIT_ROWS,
+            b"    X         COST      -99999999E18\n    X         LIM       1\n",
+            GREAT_LIMIT,
         ],
         status: 20,
         listing: b"CONVERT T        ROWS 2 COLUMNS 1 ENTRIES 2

@@ -1,8 +1,10 @@
 // Worked jobs whose plans are solved.
 use crate::rows::Row;
-use test_decks::problems::{BEALE, CROSSED, ENDATA, ENDLESS, GREAT_SLACK, ONE, TESTPROB_CARDS};
+use test_decks::problems::{
+    BEALE, CROSSED, ENDATA, ENDLESS, GREAT_SLACK, LIMIT_OF_4, LIMIT_ROWS, ONE, TESTPROB_CARDS,
+};
 use test_decks::programs::{
-    SOLVE, SOLVE_BND, SOLVE_BND1, SOLVE_IN_NO_STEP, SOLVE_MAX, SOLVE_RANGE,
+    LAB_IF_UNBOUNDED, SOLVE, SOLVE_BND, SOLVE_BND1, SOLVE_IN_NO_STEP, SOLVE_MAX, SOLVE_RANGE,
 };
 
 // The listing of TESTPROB, solved.
@@ -135,16 +137,8 @@ END 0
     Row {
         name: "unbounded demand solution",
         job: &[
-            b"         PROGRAM
-         CONVERT
-         SETUP
-         MVADR(XDOUNB,LAB)
-         PRIMAL
-         EXIT
-LAB      SOLUTION
-         EXIT
-         PEND
-",
+            LAB_IF_UNBOUNDED,
+            b"LAB      SOLUTION\n         EXIT\n         PEND\n",
             ENDLESS,
         ],
         status: 0,
@@ -295,17 +289,10 @@ END 0
         name: "maximise",
         job: &[
             SOLVE_MAX,
-            b"NAME          T
-ROWS
- N  COST
- L  LIM
-COLUMNS
-    X         COST      3
-    X         LIM       1
-RHS
-    B         LIM       4
-ENDATA
-",
+            b"NAME          T\n",
+            LIMIT_ROWS,
+            b"    X         COST      3\n",
+            LIMIT_OF_4,
         ],
         status: 0,
         listing: b"CONVERT T        ROWS 2 COLUMNS 1 ENTRIES 2
@@ -326,17 +313,10 @@ END 0
         name: "plain first",
         job: &[
             SOLVE_IN_NO_STEP,
-            b"NAME          FIRST
-ROWS
- N  COST
- L  LIM
-COLUMNS
-    X         COST      1
-    X         LIM       1
-RHS
-    B         LIM       4
-ENDATA
-",
+            b"NAME          FIRST\n",
+            LIMIT_ROWS,
+            b"    X         COST      1\n",
+            LIMIT_OF_4,
         ],
         status: 0,
         listing: b"CONVERT FIRST    ROWS 2 COLUMNS 1 ENTRIES 2

@@ -1,22 +1,13 @@
 // Worked jobs that ask for intervals.
 use crate::rows::Row;
 use test_decks::problems::{ENDATA, ENDLESS, ONE, TESTPROB_CARDS, TWO};
+use test_decks::programs::{LAB_IF_UNBOUNDED, RANGE_BND};
 
 /// Intervals in which a plan stays the best, and statements that ask for them too soon.
 pub const RANGES: [Row; 5] = [
     Row {
         name: "range two",
-        job: &[
-            b"         PROGRAM
-         CONVERT
-         SETUP('BOUND','BND')
-         PRIMAL
-         RANGE
-         EXIT
-         PEND
-",
-            TWO,
-        ],
+        job: &[RANGE_BND, TWO],
         status: 0,
         listing: b"CONVERT TWO      ROWS 3 COLUMNS 2 ENTRIES 5
 SETUP   TWO      MIN
@@ -68,16 +59,8 @@ END 0
     Row {
         name: "unbounded demand range",
         job: &[
-            b"         PROGRAM
-         CONVERT
-         SETUP
-         MVADR(XDOUNB,LAB)
-         PRIMAL
-         EXIT
-LAB      RANGE
-         EXIT
-         PEND
-",
+            LAB_IF_UNBOUNDED,
+            b"LAB      RANGE\n         EXIT\n         PEND\n",
             ENDLESS,
         ],
         status: 10,

@@ -3,7 +3,7 @@ use crate::frames::Case;
 use crate::rows::Row;
 use crate::testprob::OVER_TESTPROB;
 use std::test::Fail;
-use test_decks::problems::{BEALE, CONFLICT, CROSSED, ENDLESS};
+use test_decks::problems::{BEALE, CONFLICT, CROSSED, ENDLESS, LIMIT_OF_4, LIMIT_ROWS};
 use test_decks::programs::{SOLVE, SOLVE_BND, SOLVE_IN_NO_STEP};
 
 /// Runs that end with a verdict, or at a limit.
@@ -46,17 +46,10 @@ END 2
         name: "iteration limit 0",
         job: &[
             SOLVE_IN_NO_STEP,
-            b"NAME          FIRST
-ROWS
- N  COST
- L  LIM
-COLUMNS
-    X         COST      -1
-    X         LIM       1
-RHS
-    B         LIM       4
-ENDATA
-",
+            b"NAME          FIRST\n",
+            LIMIT_ROWS,
+            b"    X         COST      -1\n",
+            LIMIT_OF_4,
         ],
         status: 16,
         listing: b"CONVERT FIRST    ROWS 2 COLUMNS 1 ENTRIES 2

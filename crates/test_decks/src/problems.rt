@@ -378,6 +378,20 @@ COLUMNS
 ENDATA
 ";
 
+/// The cards after NAME, up to those of the column X, of a problem with one limit.
+pub const LIMIT_ROWS: &[u8] = b"ROWS
+ N  COST
+ L  LIM
+COLUMNS
+";
+
+/// What follows X's cost where the limit is 4.
+pub const LIMIT_OF_4: &[u8] = b"    X         LIM       1
+RHS
+    B         LIM       4
+ENDATA
+";
+
 /// A row whose slack is refused.
 pub const GREAT_SLACK: &[u8] = b"NAME          T
 ROWS
