@@ -1,14 +1,38 @@
 // Bases that go out as decks and come in again.
 use crate::frames::{DeckCase, Fault, Frame, Jobs, Refusals, SET_UP, SET_UP_BND, Stop};
-use crate::testprob::OVER_TESTPROB;
+use crate::over::OVER_TESTPROB;
 use std::test::Fail;
 use test_decks::problems::{SINGULAR, SMALL, TESTPROB_BASIS, TWINS};
 use test_decks::programs::INSERT_BND;
 
-// Programs of PUNCH and INSERT over TESTPROB.
-const TESTPROB_BASES: [DeckCase; 2] = [
+// Programs over the small problem.
+const OVER_SMALL: Jobs = Jobs {
+    program: SET_UP_BND,
+    problem: &[SMALL],
+    listing: SMALL_SET_UP,
+};
+
+// Programs over the twins, whose columns stand for no basis together.
+const OVER_TWINS: Jobs = Jobs {
+    program: SET_UP,
+    problem: &[TWINS],
+    listing: b"CONVERT T        ROWS 3 COLUMNS 2 ENTRIES 6\nSETUP   T        MIN\n",
+};
+
+// Programs over the singular problem.
+const OVER_SINGULAR: Jobs = Jobs {
+    program: SET_UP,
+    problem: &[SINGULAR],
+    listing: b"CONVERT SING     ROWS 4 COLUMNS 3 ENTRIES 10\nSETUP   SING     MIN\n",
+};
+
+const SMALL_SET_UP: &[u8] = b"CONVERT SMALL    ROWS 4 COLUMNS 3 ENTRIES 9\nSETUP   SMALL    MIN\n";
+
+// Programs of PUNCH and INSERT, with their listings and the cards that they punch.
+const BASES: [DeckCase; 14] = [
     DeckCase {
         name: "punch basis",
+        jobs: &OVER_TESTPROB,
         statements: b"         PRIMAL\n         PUNCH\n",
         decks: b"",
         status: 0,
@@ -17,6 +41,7 @@ const TESTPROB_BASES: [DeckCase; 2] = [
     },
     DeckCase {
         name: "insert basis",
+        jobs: &OVER_TESTPROB,
         statements: b"         INSERT\n         PRIMAL\n         PUNCH\n",
         decks: TESTPROB_BASIS,
         status: 0,
@@ -27,20 +52,9 @@ END 0
 ",
         cards: &[TESTPROB_BASIS],
     },
-];
-
-// Programs over the small problem.
-const OVER_SMALL: Jobs = Jobs {
-    program: SET_UP_BND,
-    problem: &[SMALL],
-    listing: SMALL_SET_UP,
-};
-
-const SMALL_SET_UP: &[u8] = b"CONVERT SMALL    ROWS 4 COLUMNS 3 ENTRIES 9\nSETUP   SMALL    MIN\n";
-
-const SMALL_BASES: [DeckCase; 8] = [
     DeckCase {
         name: "punch with upper limits",
+        jobs: &OVER_SMALL,
         statements: b"         PRIMAL\n         PUNCH\n",
         decks: b"",
         status: 0,
@@ -49,6 +63,7 @@ const SMALL_BASES: [DeckCase; 8] = [
     },
     DeckCase {
         name: "punch of the opening basis",
+        jobs: &OVER_SMALL,
         statements: b"         PUNCH\n",
         decks: b"",
         status: 0,
@@ -57,6 +72,7 @@ const SMALL_BASES: [DeckCase; 8] = [
     },
     DeckCase {
         name: "insert and punch",
+        jobs: &OVER_SMALL,
         statements: b"         INSERT\n         PUNCH\n         PRIMAL\n",
         decks: b"NAME          START
  XU A         UPR
@@ -74,6 +90,7 @@ END 0
     },
     DeckCase {
         name: "insert of limits",
+        jobs: &OVER_SMALL,
         statements: b"         INSERT\n         PUNCH\n",
         decks: b"NAME          S\n LL A\n UL C\nENDATA\n",
         status: 0,
@@ -82,6 +99,7 @@ END 0
     },
     DeckCase {
         name: "insert of no card",
+        jobs: &OVER_SMALL,
         statements: b"         INSERT\n         PRIMAL\n",
         decks: b"NAME          NOTHING   FREE\nENDATA\n",
         status: 0,
@@ -90,6 +108,7 @@ END 0
     },
     DeckCase {
         name: "insert by the name of the deck",
+        jobs: &OVER_SMALL,
         statements: b"         MOVE(XDATA,'SECOND')\n         INSERT\n         INSERT\n",
         decks: b"NAME          FIRST
 ENDATA
@@ -104,6 +123,7 @@ ENDATA
     },
     DeckCase {
         name: "insert clears the mark",
+        jobs: &OVER_SMALL,
         statements: b"         PRIMAL\n         INSERT\n         SOLUTION\n",
         decks: b"NAME          S\nENDATA\n",
         status: 10,
@@ -115,10 +135,68 @@ STOP 10 VERB FAULT 4 CARD 6
     },
     DeckCase {
         name: "no basis deck",
+        jobs: &OVER_SMALL,
         statements: b"         INSERT\n",
         decks: b"",
         status: 10,
         lines: b"STOP 10 VERB FAULT 1 CARD 4\n",
+        cards: &[],
+    },
+    DeckCase {
+        name: "insert singular",
+        jobs: &OVER_TWINS,
+        statements: b"         INSERT\n",
+        decks: b"NAME          S\n XL X         A\n XL Y         B\nENDATA\n",
+        status: 10,
+        lines: b"STOP 10 VERB FAULT 15 CARD 4
+    1 COST     1
+    4 X        -1
+    5 Y        1
+",
+        cards: &[],
+    },
+    DeckCase {
+        name: "insert bad code",
+        jobs: &OVER_TWINS,
+        statements: b"         INSERT\n",
+        decks: b"NAME          S\n XX X         A\n XL Y         B\nENDATA\n",
+        status: 12,
+        lines: b"STOP 12 DECK FAULT 30 CARD 21\n",
+        cards: &[],
+    },
+    DeckCase {
+        name: "a basis of three columns",
+        jobs: &OVER_SINGULAR,
+        statements: b"         INSERT\n         PUNCH\n",
+        decks: b"NAME          S
+ XL Q         A
+ XL P         B
+ XL T         D
+ENDATA
+",
+        status: 0,
+        lines: b"INSERT  S        BASIC 3\nPUNCH   SING     CARDS 5\nEND 0\n",
+        cards: &[
+            b"NAME          SING
+ XL P         A
+ XL Q         B
+ XL T         D
+ENDATA
+",
+        ],
+    },
+    DeckCase {
+        name: "a singular basis",
+        jobs: &OVER_SINGULAR,
+        statements: b"         INSERT\n",
+        decks: b"NAME          S\n XL Q         A\n XL P         B\nENDATA\n",
+        status: 10,
+        lines: b"STOP 10 VERB FAULT 15 CARD 4
+    1 COST     -1
+    4 D        1
+    5 P        -2
+    6 Q        1
+",
         cards: &[],
     },
 ];
@@ -151,89 +229,10 @@ const BASIS_FAULTS: [Fault; 3] = [
     ),
 ];
 
-// Programs over the twins, whose columns stand for no basis together.
-const OVER_TWINS: Jobs = Jobs {
-    program: SET_UP,
-    problem: &[TWINS],
-    listing: b"CONVERT T        ROWS 3 COLUMNS 2 ENTRIES 6\nSETUP   T        MIN\n",
-};
-
-const TWIN_BASES: [DeckCase; 2] = [
-    DeckCase {
-        name: "insert singular",
-        statements: b"         INSERT\n",
-        decks: b"NAME          S\n XL X         A\n XL Y         B\nENDATA\n",
-        status: 10,
-        lines: b"STOP 10 VERB FAULT 15 CARD 4
-    1 COST     1
-    4 X        -1
-    5 Y        1
-",
-        cards: &[],
-    },
-    DeckCase {
-        name: "insert bad code",
-        statements: b"         INSERT\n",
-        decks: b"NAME          S\n XX X         A\n XL Y         B\nENDATA\n",
-        status: 12,
-        lines: b"STOP 12 DECK FAULT 30 CARD 21\n",
-        cards: &[],
-    },
-];
-
-// Programs over the singular problem.
-const OVER_SINGULAR: Jobs = Jobs {
-    program: SET_UP,
-    problem: &[SINGULAR],
-    listing: b"CONVERT SING     ROWS 4 COLUMNS 3 ENTRIES 10\nSETUP   SING     MIN\n",
-};
-
-const SINGULAR_BASES: [DeckCase; 2] = [
-    DeckCase {
-        name: "a basis of three columns",
-        statements: b"         INSERT\n         PUNCH\n",
-        decks: b"NAME          S
- XL Q         A
- XL P         B
- XL T         D
-ENDATA
-",
-        status: 0,
-        lines: b"INSERT  S        BASIC 3\nPUNCH   SING     CARDS 5\nEND 0\n",
-        cards: &[
-            b"NAME          SING
- XL P         A
- XL Q         B
- XL T         D
-ENDATA
-",
-        ],
-    },
-    DeckCase {
-        name: "a singular basis",
-        statements: b"         INSERT\n",
-        decks: b"NAME          S\n XL Q         A\n XL P         B\nENDATA\n",
-        status: 10,
-        lines: b"STOP 10 VERB FAULT 15 CARD 4
-    1 COST     -1
-    4 D        1
-    5 P        -2
-    6 Q        1
-",
-        cards: &[],
-    },
-];
-
 #[test]
 fn bases_go_out_and_come_in(rt: HostRuntime) -> Result<(), Fail> {
-    let tables: [(&Jobs, &[DeckCase]); 4] = [
-        (&OVER_TESTPROB, &TESTPROB_BASES),
-        (&OVER_SMALL, &SMALL_BASES),
-        (&OVER_TWINS, &TWIN_BASES),
-        (&OVER_SINGULAR, &SINGULAR_BASES),
-    ];
-    for (jobs, cases) in tables {
-        assert_eq!(rt; jobs.first_unpunched(rt.alloc(), cases)?, None);
+    for case in &BASES {
+        assert!(rt; case.is_punched(rt.alloc())?, "{}", case.name);
     }
     assert_eq!(rt; BASIS_CARDS.first_unmet(rt.alloc(), &BASIS_FAULTS)?, None);
     Ok(())

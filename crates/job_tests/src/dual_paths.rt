@@ -1,35 +1,13 @@
 // Paths that the dual simplex method follows.
-use crate::frames::{Case, Jobs, SET_UP_BND};
+use crate::frames::{Case, first_unanswered};
+use crate::over::{OVER_CONFLICT, OVER_ENDLESS, OVER_PLAN, OVER_TESTPROB};
 use crate::rows::Row;
 use crate::runs::first_unreported;
-use crate::testprob::OVER_TESTPROB;
 use std::test::Fail;
-use test_decks::problems::{CONFLICT, ENDLESS, PLAN};
 use test_decks::programs::{DUAL, DUAL_BND};
 
 // Programs of DUAL over other problems.
-const OTHER_PATHS: [Row; 8] = [
-    Row {
-        name: "dual infeasible",
-        job: &[DUAL, CONFLICT],
-        status: 1,
-        listing: b"CONVERT T        ROWS 3 COLUMNS 1 ENTRIES 3
-SETUP   T        MIN
-DUAL INFEASIBLE STEPS 1 RAY CHECKED
-    2 LOW      -1
-    3 HIGH     1
-END 1
-",
-    },
-    Row {
-        name: "dual wrong prices",
-        job: &[DUAL, ENDLESS],
-        status: 10,
-        listing: b"CONVERT T        ROWS 1 COLUMNS 1 ENTRIES 1
-SETUP   T        MIN
-STOP 10 VERB FAULT 16 CARD 4 VARIABLE 2
-",
-    },
+const OTHER_PATHS: [Row; 5] = [
     Row {
         name: "ties of the ratio test",
         job: &[
@@ -209,47 +187,16 @@ DUAL INFEASIBLE STEPS 0 CROSSED 3 CHECKED
 END 1
 ",
     },
-    Row {
-        name: "dual and a demand",
-        job: &[
-            b"         PROGRAM
-         CONVERT
-         SETUP
-         MVADR(XDONFS,L)
-         DUAL
-         EXIT
-L        SOLUTION
-         EXIT
-         PEND
-",
-            CONFLICT,
-        ],
-        status: 0,
-        listing: b"CONVERT T        ROWS 3 COLUMNS 1 ENTRIES 3
-SETUP   T        MIN
-DUAL INFEASIBLE STEPS 1 RAY CHECKED
-    2 LOW      -1
-    3 HIGH     1
-SOLUTION INFEASIBLE
-SECTION 1 - ROWS
-NUMBER ROW AT ACTIVITY SLACK LOWER UPPER DUAL
-    1 COST     BS 3 -3 NONE NONE 0
-    2 LOW      LL 3 0 3 NONE 1
-    3 HIGH     ** 3 -1 NONE 2 0
-SECTION 2 - COLUMNS
-NUMBER COLUMN AT ACTIVITY COST LOWER UPPER REDUCED
-    4 X        BS 3 1 0 NONE 0
-END 0
-",
-    },
 ];
 
-// A program of DUAL over TESTPROB.
-const TESTPROB_PATHS: [Case; 1] = [Case {
-    name: "dual testprob",
-    statements: b"         DUAL\n         SOLUTION\n",
-    status: 0,
-    lines: b"DUAL OPTIMAL STEPS 3 OBJECTIVE 54 CHECKED
+// Programs of DUAL over problems of several jobs.
+const PATHS: [Case; 9] = [
+    Case {
+        name: "dual testprob",
+        jobs: &OVER_TESTPROB,
+        statements: b"         DUAL\n         SOLUTION\n",
+        status: 0,
+        lines: b"DUAL OPTIMAL STEPS 3 OBJECTIVE 54 CHECKED
 SOLUTION OPTIMAL
 SECTION 1 - ROWS
 NUMBER ROW AT ACTIVITY SLACK LOWER UPPER DUAL
@@ -264,18 +211,10 @@ NUMBER COLUMN AT ACTIVITY COST LOWER UPPER REDUCED
     7 ZTHREE   BS 6 9 0 NONE 0
 END 0
 ",
-}];
-
-// Programs over the plan of three columns, with the set BND of bounds.
-const OVER_PLAN: Jobs = Jobs {
-    program: SET_UP_BND,
-    problem: &[PLAN],
-    listing: b"CONVERT PLAN     ROWS 4 COLUMNS 3 ENTRIES 12\nSETUP   PLAN     MIN\n",
-};
-
-const PLAN_PATHS: [Case; 5] = [
+    },
     Case {
         name: "dual of a plan",
+        jobs: &OVER_PLAN,
         statements: b"         DUAL\n         SOLUTION\n",
         status: 0,
         lines: b"DUAL OPTIMAL STEPS 2 OBJECTIVE 9 CHECKED
@@ -296,6 +235,7 @@ END 0
     },
     Case {
         name: "dual and primal at an optimal basis",
+        jobs: &OVER_PLAN,
         statements: b"         DUAL\n         DUAL\n         PRIMAL\n",
         status: 0,
         lines: b"DUAL OPTIMAL STEPS 2 OBJECTIVE 9 CHECKED
@@ -306,18 +246,21 @@ END 0
     },
     Case {
         name: "dual past its limit",
+        jobs: &OVER_PLAN,
         statements: b"         MOVE(XITERLIM,1)\n         DUAL\n",
         status: 16,
         lines: b"STOP 16 ITERATION LIMIT 1 CARD 5\n",
     },
     Case {
         name: "dual at its limit",
+        jobs: &OVER_PLAN,
         statements: b"         MOVE(XITERLIM,2)\n         DUAL\n",
         status: 0,
         lines: b"DUAL OPTIMAL STEPS 2 OBJECTIVE 9 CHECKED\nEND 0\n",
     },
     Case {
         name: "dual after another right hand side",
+        jobs: &OVER_PLAN,
         statements: b"         PRIMAL\n         MOVE(XRHS,'S')\n         DUAL\n         SOLUTION\n",
         status: 0,
         lines: b"PRIMAL OPTIMAL STEPS 3 OBJECTIVE 9 CHECKED
@@ -337,16 +280,45 @@ NUMBER COLUMN AT ACTIVITY COST LOWER UPPER REDUCED
 END 0
 ",
     },
+    Case {
+        name: "dual infeasible",
+        jobs: &OVER_CONFLICT,
+        statements: b"         DUAL\n         SOLUTION\n",
+        status: 1,
+        lines: b"DUAL INFEASIBLE STEPS 1 RAY CHECKED\n    2 LOW      -1\n    3 HIGH     1\nEND 1\n",
+    },
+    Case {
+        name: "dual and a demand",
+        jobs: &OVER_CONFLICT,
+        statements: b"         MVADR(XDONFS,L)\n         DUAL\n         EXIT\nL        SOLUTION\n",
+        status: 0,
+        lines: b"DUAL INFEASIBLE STEPS 1 RAY CHECKED
+    2 LOW      -1
+    3 HIGH     1
+SOLUTION INFEASIBLE
+SECTION 1 - ROWS
+NUMBER ROW AT ACTIVITY SLACK LOWER UPPER DUAL
+    1 COST     BS 3 -3 NONE NONE 0
+    2 LOW      LL 3 0 3 NONE 1
+    3 HIGH     ** 3 -1 NONE 2 0
+SECTION 2 - COLUMNS
+NUMBER COLUMN AT ACTIVITY COST LOWER UPPER REDUCED
+    4 X        BS 3 1 0 NONE 0
+END 0
+",
+    },
+    Case {
+        name: "dual wrong prices",
+        jobs: &OVER_ENDLESS,
+        statements: b"         DUAL\n         SOLUTION\n",
+        status: 10,
+        lines: b"STOP 10 VERB FAULT 16 CARD 4 VARIABLE 2\n",
+    },
 ];
 
 #[test]
 fn dual_paths_are_followed(rt: HostRuntime) -> Result<(), Fail> {
-    let alloc = rt.alloc();
-    assert_eq!(rt;
-        OVER_TESTPROB.first_unanswered(alloc, &TESTPROB_PATHS)?,
-        None
-    );
-    assert_eq!(rt; OVER_PLAN.first_unanswered(alloc, &PLAN_PATHS)?, None);
-    assert_eq!(rt; first_unreported(alloc, &OTHER_PATHS)?, None);
+    assert_eq!(rt; first_unanswered(rt.alloc(), &PATHS)?, None);
+    assert_eq!(rt; first_unreported(rt.alloc(), &OTHER_PATHS)?, None);
     Ok(())
 }

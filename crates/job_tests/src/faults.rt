@@ -1,13 +1,11 @@
 // Worked jobs that stop at a fault of their control cards, of a statement or of a deck.
-use crate::frames::{CONVERTED, Case, Fault, Frame, Jobs, Refusals, Stop};
+use crate::frames::{CONVERTED, Case, Fault, Frame, Refusals, Stop, first_unanswered};
+use crate::over::{ONE_CONVERTED, OVER_ONE};
 use crate::rows::Row;
 use crate::runs::first_unreported;
 use std::test::Fail;
 use test_decks::problems::{ENDATA, ONE, TESTPROB_CARDS};
 use test_decks::programs::{SOLVE, SOLVE_BND1};
-
-// The line of the problem ONE.
-const ONE_CONVERTED: &[u8] = b"CONVERT ONE      ROWS 2 COLUMNS 1 ENTRIES 2\n";
 
 // Cards of a control program.
 const CONTROL_CARDS: Refusals = Refusals {
@@ -146,15 +144,10 @@ const CARD_FAULTS: [Fault; 2] = [
     ("card with tab", "         SETUP\tX\n", "4 CARD 3"),
 ];
 
-// A program over the problem ONE that has no plan to show any more.
-const OVER_ONE: Jobs = Jobs {
-    program: CONVERTED,
-    problem: &[ONE],
-    listing: ONE_CONVERTED,
-};
-
+// A program that has no plan to show any more.
 const NO_PLAN: [Case; 1] = [Case {
     name: "mark cleared by xobj",
+    jobs: &OVER_ONE,
     statements: b"         SETUP
          PRIMAL
          MOVE(XOBJ,'COST')
@@ -213,7 +206,7 @@ fn faults_are_reported_with_their_cards(rt: HostRuntime) -> Result<(), Fail> {
     for (refusals, faults) in tables {
         assert_eq!(rt; refusals.first_unmet(alloc, faults)?, None);
     }
-    assert_eq!(rt; OVER_ONE.first_unanswered(alloc, &NO_PLAN)?, None);
+    assert_eq!(rt; first_unanswered(alloc, &NO_PLAN)?, None);
     assert_eq!(rt; first_unreported(alloc, &OTHER_FAULTS)?, None);
     Ok(())
 }

@@ -103,24 +103,6 @@ pub struct Jobs {
     pub listing: &'static [u8],
 }
 
-/// A job over a problem: its statements, and the lines of its listing after the first.
-pub struct Case {
-    pub name: &'static str,
-    pub statements: &'static [u8],
-    pub status: u8,
-    pub lines: &'static [u8],
-}
-
-/// A job over a problem that has other decks behind it, or punches some: also these decks, and the cards that it punches, in parts.
-pub struct DeckCase {
-    pub name: &'static str,
-    pub statements: &'static [u8],
-    pub decks: &'static [u8],
-    pub status: u8,
-    pub lines: &'static [u8],
-    pub cards: &'static [&'static [u8]],
-}
-
 impl Jobs {
     // The job with these statements and these decks behind the problem's.
     fn job(&self, alloc: Global, statements: &[u8], decks: &[u8]) -> Result<Vec<u8>, Fail> {
@@ -137,35 +119,50 @@ impl Jobs {
         listing.extend_from_slice(lines)?;
         Ok(listing)
     }
+}
 
-    /// The name of the first of these cases that has another status or listing.
-    pub fn first_unanswered(
-        &self,
-        alloc: Global,
-        cases: &[Case],
-    ) -> Result<Option<&'static str>, Fail> {
-        for case in cases {
-            let answer = answer_of(alloc, &self.job(alloc, case.statements, b"")?)?;
-            if !answer.is(case.status, &self.listing(alloc, case.lines)?) {
-                return Ok(Some(case.name));
-            }
-        }
-        Ok(None)
+/// A job over a problem: its statements, and the lines of its listing after the first.
+pub struct Case {
+    pub name: &'static str,
+    pub jobs: &'static Jobs,
+    pub statements: &'static [u8],
+    pub status: u8,
+    pub lines: &'static [u8],
+}
+
+impl Case {
+    fn is_answered(&self, alloc: Global) -> Result<bool, Fail> {
+        let answer = answer_of(alloc, &self.jobs.job(alloc, self.statements, b"")?)?;
+        Ok(answer.is(self.status, &self.jobs.listing(alloc, self.lines)?))
     }
+}
 
-    /// The name of the first of these cases that has another status or listing, or punches other cards.
-    pub fn first_unpunched(
-        &self,
-        alloc: Global,
-        cases: &[DeckCase],
-    ) -> Result<Option<&'static str>, Fail> {
-        for case in cases {
-            let answer = answer_of(alloc, &self.job(alloc, case.statements, case.decks)?)?;
-            let listing = self.listing(alloc, case.lines)?;
-            if !answer.is_punched(case.status, &listing, &case.cards.concat(alloc)?) {
-                return Ok(Some(case.name));
-            }
+/// The name of the first of these cases that has another status or listing.
+pub fn first_unanswered(alloc: Global, cases: &[Case]) -> Result<Option<&'static str>, Fail> {
+    for case in cases {
+        if !case.is_answered(alloc)? {
+            return Ok(Some(case.name));
         }
-        Ok(None)
+    }
+    Ok(None)
+}
+
+/// A job over a problem that has other decks behind it, or punches some: also these decks, and the cards that it punches, in parts.
+pub struct DeckCase {
+    pub name: &'static str,
+    pub jobs: &'static Jobs,
+    pub statements: &'static [u8],
+    pub decks: &'static [u8],
+    pub status: u8,
+    pub lines: &'static [u8],
+    pub cards: &'static [&'static [u8]],
+}
+
+impl DeckCase {
+    /// Whether the job has this status and this listing, and has punched these cards.
+    pub fn is_punched(&self, alloc: Global) -> Result<bool, Fail> {
+        let answer = answer_of(alloc, &self.jobs.job(alloc, self.statements, self.decks)?)?;
+        let listing = self.jobs.listing(alloc, self.lines)?;
+        Ok(answer.is_punched(self.status, &listing, &self.cards.concat(alloc)?))
     }
 }

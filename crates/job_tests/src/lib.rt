@@ -26,6 +26,8 @@ mod jobs;
 #[cfg(test)]
 mod no_memory;
 #[cfg(test)]
+mod over;
+#[cfg(test)]
 mod overflows;
 #[cfg(test)]
 mod parametric_runs;
@@ -43,8 +45,6 @@ mod rows;
 mod runs;
 #[cfg(test)]
 mod sections;
-#[cfg(test)]
-mod testprob;
 #[cfg(test)]
 mod verdicts;
 #[cfg(test)]

@@ -1,5 +1,6 @@
 // Worked jobs that revise a problem.
-use crate::frames::{CONVERTED, Case, Fault, Frame, Jobs, Refusals, Stop};
+use crate::frames::{CONVERTED, Case, Fault, Frame, Jobs, Refusals, Stop, first_unanswered};
+use crate::over::ONE_CONVERTED;
 use crate::rows::Row;
 use crate::runs::first_unreported;
 use std::test::Fail;
@@ -7,17 +8,16 @@ use test_decks::problems::{ENDATA, ONE, REVISED_SIDE};
 use test_decks::programs::REVISE;
 
 // Programs over the problem ONE and a revision of its right-hand side.
-const OVER_ONE: Jobs = Jobs {
+const OVER_REVISED_ONE: Jobs = Jobs {
     program: CONVERTED,
     problem: &[ONE, REVISED_SIDE],
     listing: ONE_CONVERTED,
 };
 
-const ONE_CONVERTED: &[u8] = b"CONVERT ONE      ROWS 2 COLUMNS 1 ENTRIES 2\n";
-
 const SIDE_REVISIONS: [Case; 4] = [
     Case {
         name: "revise right hand side",
+        jobs: &OVER_REVISED_ONE,
         statements: b"         SETUP
          PRIMAL
          MOVE(XPBNAME,'NEW')
@@ -36,6 +36,7 @@ END 0
     },
     Case {
         name: "revise keeps the old problem",
+        jobs: &OVER_REVISED_ONE,
         statements: b"         REVISE\n         MOVE(XPBNAME,'ONE')\n         SETUP\n         PRIMAL\n",
         status: 0,
         lines: b"REVISE  REV      ROWS 2 COLUMNS 1 ENTRIES 2
@@ -46,6 +47,7 @@ END 0
     },
     Case {
         name: "revise clears the setup",
+        jobs: &OVER_REVISED_ONE,
         statements: b"         SETUP\n         REVISE\n         PRIMAL\n",
         status: 10,
         lines: b"SETUP   ONE      MIN
@@ -55,6 +57,7 @@ STOP 10 VERB FAULT 3 CARD 5
     },
     Case {
         name: "revise of an unknown name",
+        jobs: &OVER_REVISED_ONE,
         statements: b"         MOVE(XOLDNAME,'TWO')\n         REVISE\n",
         status: 10,
         lines: b"STOP 10 VERB FAULT 2 CARD 4\n",
@@ -159,7 +162,7 @@ END 0
 #[test]
 fn problems_are_revised(rt: HostRuntime) -> Result<(), Fail> {
     let alloc = rt.alloc();
-    assert_eq!(rt; OVER_ONE.first_unanswered(alloc, &SIDE_REVISIONS)?, None);
+    assert_eq!(rt; first_unanswered(alloc, &SIDE_REVISIONS)?, None);
     assert_eq!(rt; REVISION_CARDS.first_unmet(alloc, &REVISION_FAULTS)?, None);
     assert_eq!(rt; first_unreported(alloc, &OTHER_REVISIONS)?, None);
     Ok(())

@@ -6,7 +6,6 @@ use crate::plans::PLANS;
 use crate::punched::DECKS;
 use crate::ranges::RANGES;
 use crate::rows::{DeckRow, Row};
-use crate::verdicts::VERDICTS;
 use std::alloc::Global;
 use std::test::Fail;
 
@@ -44,7 +43,7 @@ pub fn first_unpunched(alloc: Global, rows: &[DeckRow]) -> Result<Option<&'stati
 
 #[test]
 fn jobs_have_their_listings(rt: HostRuntime) -> Result<(), Fail> {
-    let tables: [&[Row]; 4] = [&PLANS, &RANGES, &PARAMETRIC, &VERDICTS];
+    let tables: [&[Row]; 3] = [&PLANS, &RANGES, &PARAMETRIC];
     for rows in tables {
         assert_eq!(rt; first_unreported(rt.alloc(), rows)?, None);
     }

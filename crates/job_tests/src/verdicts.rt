@@ -1,13 +1,14 @@
 // Worked jobs that end with a verdict, or at a limit.
-use crate::frames::Case;
+use crate::frames::{Case, first_unanswered};
+use crate::over::{OVER_CONFLICT, OVER_ENDLESS, OVER_TESTPROB};
 use crate::rows::Row;
-use crate::testprob::OVER_TESTPROB;
+use crate::runs::first_unreported;
 use std::test::Fail;
-use test_decks::problems::{BEALE, CONFLICT, CROSSED, ENDLESS, LIMIT_OF_4, LIMIT_ROWS};
-use test_decks::programs::{SOLVE, SOLVE_BND, SOLVE_IN_NO_STEP};
+use test_decks::problems::{BEALE, CROSSED, LIMIT_OF_4, LIMIT_ROWS};
+use test_decks::programs::{SOLVE_BND, SOLVE_IN_NO_STEP};
 
-/// Runs that end with a verdict, or at a limit.
-pub const VERDICTS: [Row; 6] = [
+// Runs that end with a verdict, or at a limit.
+const VERDICTS: [Row; 4] = [
     Row {
         name: "negative upper crossed",
         job: &[SOLVE_BND, CROSSED],
@@ -16,30 +17,6 @@ pub const VERDICTS: [Row; 6] = [
 SETUP   T        MIN
 PRIMAL INFEASIBLE STEPS 0 CROSSED 2 CHECKED
 END 1
-",
-    },
-    Row {
-        name: "infeasible ray",
-        job: &[SOLVE, CONFLICT],
-        status: 1,
-        listing: b"CONVERT T        ROWS 3 COLUMNS 1 ENTRIES 3
-SETUP   T        MIN
-PRIMAL INFEASIBLE STEPS 1 RAY CHECKED
-    2 LOW      -1
-    3 HIGH     1
-END 1
-",
-    },
-    Row {
-        name: "unbounded",
-        job: &[SOLVE, ENDLESS],
-        status: 2,
-        listing: b"CONVERT T        ROWS 1 COLUMNS 1 ENTRIES 1
-SETUP   T        MIN
-PRIMAL UNBOUNDED STEPS 0 OBJECTIVE 0 CHECKED
-    1 COST     0 -1
-    2 X        0 1
-END 2
 ",
     },
     Row {
@@ -86,19 +63,38 @@ STOP 16 ITERATION LIMIT 5 CARD 6
     },
 ];
 
-// A path over TESTPROB that ends at its limit.
-const TESTPROB_LIMITS: [Case; 1] = [Case {
-    name: "iteration limit 2",
-    statements: b"         MOVE(XITERLIM,2)\n         PRIMAL\n         SOLUTION\n",
-    status: 16,
-    lines: b"STOP 16 ITERATION LIMIT 2 CARD 5\n",
-}];
+// Runs over problems of several jobs.
+const CASES: [Case; 3] = [
+    Case {
+        name: "infeasible ray",
+        jobs: &OVER_CONFLICT,
+        statements: b"         PRIMAL\n         SOLUTION\n",
+        status: 1,
+        lines: b"PRIMAL INFEASIBLE STEPS 1 RAY CHECKED\n    2 LOW      -1\n    3 HIGH     1\nEND 1\n",
+    },
+    Case {
+        name: "unbounded",
+        jobs: &OVER_ENDLESS,
+        statements: b"         PRIMAL\n         SOLUTION\n",
+        status: 2,
+        lines: b"PRIMAL UNBOUNDED STEPS 0 OBJECTIVE 0 CHECKED
+    1 COST     0 -1
+    2 X        0 1
+END 2
+",
+    },
+    Case {
+        name: "iteration limit 2",
+        jobs: &OVER_TESTPROB,
+        statements: b"         MOVE(XITERLIM,2)\n         PRIMAL\n         SOLUTION\n",
+        status: 16,
+        lines: b"STOP 16 ITERATION LIMIT 2 CARD 5\n",
+    },
+];
 
 #[test]
-fn a_limit_ends_a_path(rt: HostRuntime) -> Result<(), Fail> {
-    assert_eq!(rt;
-        OVER_TESTPROB.first_unanswered(rt.alloc(), &TESTPROB_LIMITS)?,
-        None
-    );
+fn verdicts_and_limits_end_a_run(rt: HostRuntime) -> Result<(), Fail> {
+    assert_eq!(rt; first_unanswered(rt.alloc(), &CASES)?, None);
+    assert_eq!(rt; first_unreported(rt.alloc(), &VERDICTS)?, None);
     Ok(())
 }
