@@ -1,6 +1,7 @@
 // The machine over more than one engine: the listing and the status of a job do not depend on what keeps the rates.
+use crate::frames::{Case, SET_UP};
 use crate::no_memory::Starved;
-use crate::parametric_runs::PARAMETRIC;
+use crate::parametric_runs::{PARAMETRIC, PARAMETRIC_CASES};
 use crate::plans::PLANS;
 use crate::ranges::RANGES;
 use crate::rows::Row;
@@ -21,10 +22,9 @@ struct Run {
     print: MemorySink,
 }
 
-// Runs the program of the job of these parts, with the rates of an engine.
-fn run_of<E: Engine>(alloc: Global, parts: &[&[u8]]) -> Result<Run, Fail> {
-    let job = parts.concat(alloc)?;
-    let mut source = MemorySource::new(alloc, &job, &[])?;
+// Runs the program of a job, with the rates of an engine.
+fn run_of<E: Engine>(alloc: Global, job: &[u8]) -> Result<Run, Fail> {
+    let mut source = MemorySource::new(alloc, job, &[])?;
     let cards = read_job(alloc, &mut source)?;
     let program = compile(alloc, &cards)?;
     let mut print = MemorySink::new(alloc, &[])?;
@@ -38,7 +38,7 @@ fn run_of<E: Engine>(alloc: Global, parts: &[&[u8]]) -> Result<Run, Fail> {
 // The name of the first of these jobs that has another status or listing over this engine.
 fn first_unreported<E: Engine>(alloc: Global, rows: &[Row]) -> Result<Option<&'static str>, Fail> {
     for row in rows {
-        let run = run_of::<E>(alloc, row.job)?;
+        let run = run_of::<E>(alloc, &row.job.concat(alloc)?)?;
         if run.status.code() != row.status || run.print.bytes() != row.listing {
             return Ok(Some(row.name));
         }
@@ -46,22 +46,43 @@ fn first_unreported<E: Engine>(alloc: Global, rows: &[Row]) -> Result<Option<&'s
     Ok(None)
 }
 
+fn first_unanswered<E: Engine>(
+    alloc: Global,
+    cases: &[Case],
+) -> Result<Option<&'static str>, Fail> {
+    for case in cases {
+        let run = run_of::<E>(alloc, &case.job(alloc)?)?;
+        let listing = case.listing(alloc)?;
+        if run.status.code() != case.status || run.print.bytes() != listing.as_slice() {
+            return Ok(Some(case.name));
+        }
+    }
+    Ok(None)
+}
+
+// The name of the first job of all that has another status or listing over this engine.
+fn first_failure<E: Engine>(alloc: Global) -> Result<Option<&'static str>, Fail> {
+    if let Some(name) = first_unreported::<E>(alloc, &PLANS)? {
+        return Ok(Some(name));
+    }
+    if let Some(name) = first_unreported::<E>(alloc, &PARAMETRIC)? {
+        return Ok(Some(name));
+    }
+    if let Some(name) = first_unanswered::<E>(alloc, &PARAMETRIC_CASES)? {
+        return Ok(Some(name));
+    }
+    first_unanswered::<E>(alloc, &RANGES)
+}
+
 #[test]
 fn the_table_of_rates_runs_jobs(rt: HostRuntime) -> Result<(), Fail> {
-    assert_eq!(rt; first_unreported::<Dense>(rt.alloc(), &PLANS)?, None);
-    assert_eq!(rt; first_unreported::<Dense>(rt.alloc(), &RANGES)?, None);
-    assert_eq!(rt; first_unreported::<Dense>(rt.alloc(), &PARAMETRIC)?, None);
+    assert_eq!(rt; first_failure::<Dense>(rt.alloc())?, None);
     Ok(())
 }
 
 #[test]
 fn the_engine_of_runs_runs_jobs(rt: HostRuntime) -> Result<(), Fail> {
-    assert_eq!(rt; first_unreported::<RunEngine>(rt.alloc(), &PLANS)?, None);
-    assert_eq!(rt; first_unreported::<RunEngine>(rt.alloc(), &RANGES)?, None);
-    assert_eq!(rt;
-        first_unreported::<RunEngine>(rt.alloc(), &PARAMETRIC)?,
-        None
-    );
+    assert_eq!(rt; first_failure::<RunEngine>(rt.alloc())?, None);
     Ok(())
 }
 
@@ -69,19 +90,13 @@ fn the_engine_of_runs_runs_jobs(rt: HostRuntime) -> Result<(), Fail> {
 // before.
 #[test]
 fn an_engine_without_memory_ends_the_run(rt: HostRuntime) -> Result<(), Fail> {
-    let run = run_of::<Starved>(
-        rt.alloc(),
-        &[
-            b"         PROGRAM
-         CONVERT
-         SETUP
-         PRIMAL
-         EXIT
-         PEND
-",
-            ONE,
-        ],
-    )?;
+    let job = [
+        SET_UP,
+        b"         PRIMAL\n         EXIT\n         PEND\n",
+        ONE,
+    ]
+    .concat(rt.alloc())?;
+    let run = run_of::<Starved>(rt.alloc(), &job)?;
     assert_eq!(rt; run.status, RunStatus::Memory);
     let listing: &[u8] =
         b"CONVERT ONE      ROWS 2 COLUMNS 1 ENTRIES 2\nSETUP   ONE      MIN\nSTOP 28 MEMORY\n";

@@ -131,16 +131,22 @@ pub struct Case {
 }
 
 impl Case {
-    fn is_answered(&self, alloc: Global) -> Result<bool, Fail> {
-        let answer = answer_of(alloc, &self.jobs.job(alloc, self.statements, b"")?)?;
-        Ok(answer.is(self.status, &self.jobs.listing(alloc, self.lines)?))
+    /// The whole job.
+    pub fn job(&self, alloc: Global) -> Result<Vec<u8>, Fail> {
+        self.jobs.job(alloc, self.statements, b"")
+    }
+
+    /// The whole listing.
+    pub fn listing(&self, alloc: Global) -> Result<Vec<u8>, Fail> {
+        self.jobs.listing(alloc, self.lines)
     }
 }
 
 /// The name of the first of these cases that has another status or listing.
 pub fn first_unanswered(alloc: Global, cases: &[Case]) -> Result<Option<&'static str>, Fail> {
     for case in cases {
-        if !case.is_answered(alloc)? {
+        let answer = answer_of(alloc, &case.job(alloc)?)?;
+        if !answer.is(case.status, &case.listing(alloc)?) {
             return Ok(Some(case.name));
         }
     }

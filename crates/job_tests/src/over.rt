@@ -1,6 +1,6 @@
 // Problems over which jobs run, with the first cards of their programs and the first lines of their listings.
 use crate::frames::{CONVERTED, Jobs, SET_UP, SET_UP_BND};
-use test_decks::problems::{CONFLICT, ENDATA, ENDLESS, ONE, PLAN, TESTPROB_CARDS};
+use test_decks::problems::{CONFLICT, ENDATA, ENDLESS, ONE, PLAN, TESTPROB_CARDS, TWO};
 
 /// The line of the problem ONE.
 pub const ONE_CONVERTED: &[u8] = b"CONVERT ONE      ROWS 2 COLUMNS 1 ENTRIES 2\n";
@@ -37,4 +37,11 @@ pub const OVER_ENDLESS: Jobs = Jobs {
     program: SET_UP,
     problem: &[ENDLESS],
     listing: b"CONVERT T        ROWS 1 COLUMNS 1 ENTRIES 1\nSETUP   T        MIN\n",
+};
+
+/// Over two columns under one limit, with the set BND of bounds.
+pub const OVER_TWO: Jobs = Jobs {
+    program: SET_UP_BND,
+    problem: &[TWO],
+    listing: b"CONVERT TWO      ROWS 3 COLUMNS 2 ENTRIES 5\nSETUP   TWO      MIN\n",
 };

@@ -1,28 +1,25 @@
 // Worked jobs with parametric runs, with the status and the listing of each.
+use crate::frames::{Case, Jobs, SET_UP_BND};
+use crate::over::OVER_TWO;
 use crate::rows::Row;
-use test_decks::problems::{BOUNDED_ONE, ENDLESS_UP_TO_1, ONE, TWO, TWO_SOURCES};
+use test_decks::problems::{BOUNDED_ONE, ENDLESS_UP_TO_1, ONE, TWO_SOURCES};
 use test_decks::programs::{PARAOBJ_TO_5, PARARHS_TO_5};
 
-/// Parametric runs, to their last value or past a breakpoint, and those that are refused.
-pub const PARAMETRIC: [Row; 8] = [
-    Row {
+// Programs over the problem ONE with a second right-hand side and an upper bound.
+const OVER_BOUNDED_ONE: Jobs = Jobs {
+    program: SET_UP_BND,
+    problem: &[BOUNDED_ONE],
+    listing: b"CONVERT ONE      ROWS 2 COLUMNS 1 ENTRIES 2\nSETUP   ONE      MIN\n",
+};
+
+/// Parametric runs, to their last value or past a breakpoint.
+pub const PARAMETRIC_CASES: [Case; 3] = [
+    Case {
         name: "paraobj two intervals",
-        job: &[
-            b"         PROGRAM
-         CONVERT
-         SETUP('BOUND','BND')
-         MOVE(XCHROW,'CHG')
-         MOVE(XPARMAX,5)
-         PARAOBJ
-         EXIT
-         PEND
-",
-            TWO,
-        ],
+        jobs: &OVER_TWO,
+        statements: b"         MOVE(XCHROW,'CHG')\n         MOVE(XPARMAX,5)\n         PARAOBJ\n",
         status: 0,
-        listing: b"CONVERT TWO      ROWS 3 COLUMNS 2 ENTRIES 5
-SETUP   TWO      MIN
-PARAOBJ FROM 0 CHANGE CHG
+        lines: b"PARAOBJ FROM 0 CHANGE CHG
 INTERVAL 1 FROM 0 TO 1
     1 COST     BS -8 0 0 0
     2 CHG      BS 0 0 0 0
@@ -39,6 +36,40 @@ PARAOBJ ENDS AT 5
 END 0
 ",
     },
+    Case {
+        name: "pararhs infeasible past",
+        jobs: &OVER_BOUNDED_ONE,
+        statements: b"         MOVE(XCHCOL,'C')\n         MOVE(XPARMAX,5)\n         PARARHS\n",
+        status: 0,
+        lines: b"PARARHS FROM 0 CHANGE C
+INTERVAL 1 FROM 0 TO 2
+    1 COST     BS 1 1 0 0
+    2 LOW      LL 1 1 1 0
+    3 X        BS 1 1 0 0
+PARARHS INFEASIBLE PAST 2
+    2 LOW      -1
+    3 X        1
+END 0
+",
+    },
+    Case {
+        name: "pararhs point interval",
+        jobs: &OVER_BOUNDED_ONE,
+        statements: b"         MOVE(XCHCOL,'C')\n         MOVE(XPARMAX,0)\n         PARARHS\n",
+        status: 0,
+        lines: b"PARARHS FROM 0 CHANGE C
+INTERVAL 1 FROM 0 TO 0
+    1 COST     BS 1 1 0 0
+    2 LOW      LL 1 1 1 0
+    3 X        BS 1 1 0 0
+PARARHS ENDS AT 0
+END 0
+",
+    },
+];
+
+/// Such runs over problems of their own, and those that are refused.
+pub const PARAMETRIC: [Row; 5] = [
     Row {
         name: "paraobj unbounded past",
         job: &[
@@ -118,49 +149,6 @@ INTERVAL 2 FROM 2 TO 5
     3 X        UL 3 0 -1 0
     4 Y        BS -2 1 0 0
 PARARHS ENDS AT 5
-END 0
-",
-    },
-    Row {
-        name: "pararhs infeasible past",
-        job: &[PARARHS_TO_5, BOUNDED_ONE],
-        status: 0,
-        listing: b"CONVERT ONE      ROWS 2 COLUMNS 1 ENTRIES 2
-SETUP   ONE      MIN
-PARARHS FROM 0 CHANGE C
-INTERVAL 1 FROM 0 TO 2
-    1 COST     BS 1 1 0 0
-    2 LOW      LL 1 1 1 0
-    3 X        BS 1 1 0 0
-PARARHS INFEASIBLE PAST 2
-    2 LOW      -1
-    3 X        1
-END 0
-",
-    },
-    Row {
-        name: "pararhs point interval",
-        job: &[
-            b"         PROGRAM
-         CONVERT
-         SETUP('BOUND','BND')
-         MOVE(XCHCOL,'C')
-         MOVE(XPARMAX,0)
-         PARARHS
-         EXIT
-         PEND
-",
-            BOUNDED_ONE,
-        ],
-        status: 0,
-        listing: b"CONVERT ONE      ROWS 2 COLUMNS 1 ENTRIES 2
-SETUP   ONE      MIN
-PARARHS FROM 0 CHANGE C
-INTERVAL 1 FROM 0 TO 0
-    1 COST     BS 1 1 0 0
-    2 LOW      LL 1 1 1 0
-    3 X        BS 1 1 0 0
-PARARHS ENDS AT 0
 END 0
 ",
     },

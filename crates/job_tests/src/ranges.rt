@@ -1,17 +1,15 @@
 // Worked jobs that ask for intervals.
-use crate::rows::Row;
-use test_decks::problems::{ENDATA, ENDLESS, ONE, TESTPROB_CARDS, TWO};
-use test_decks::programs::{LAB_IF_UNBOUNDED, RANGE_BND};
+use crate::frames::Case;
+use crate::over::{OVER_ENDLESS, OVER_ONE, OVER_TESTPROB, OVER_TWO};
 
 /// Intervals in which a plan stays the best, and statements that ask for them too soon.
-pub const RANGES: [Row; 5] = [
-    Row {
+pub const RANGES: [Case; 5] = [
+    Case {
         name: "range two",
-        job: &[RANGE_BND, TWO],
+        jobs: &OVER_TWO,
+        statements: b"         PRIMAL\n         RANGE\n",
         status: 0,
-        listing: b"CONVERT TWO      ROWS 3 COLUMNS 2 ENTRIES 5
-SETUP   TWO      MIN
-PRIMAL OPTIMAL STEPS 3 OBJECTIVE -8 CHECKED
+        lines: b"PRIMAL OPTIMAL STEPS 3 OBJECTIVE -8 CHECKED
 RANGE
 SECTION 1 - ROWS AT LIMIT LEVEL
     3 LIM      UL 4 0 NONE
@@ -24,24 +22,12 @@ SECTION 4 - COLUMNS AT INTERMEDIATE LEVEL
 END 0
 ",
     },
-    Row {
+    Case {
         name: "range testprob",
-        job: &[
-            b"         PROGRAM
-         CONVERT
-         SETUP('BOUND','BND1')
-         PRIMAL
-         RANGE
-         EXIT
-         PEND
-",
-            TESTPROB_CARDS,
-            ENDATA,
-        ],
+        jobs: &OVER_TESTPROB,
+        statements: b"         PRIMAL\n         RANGE\n",
         status: 0,
-        listing: b"CONVERT TESTPROB ROWS 4 COLUMNS 3 ENTRIES 9
-SETUP   TESTPROB MIN
-PRIMAL OPTIMAL STEPS 3 OBJECTIVE 54 CHECKED
+        lines: b"PRIMAL OPTIMAL STEPS 3 OBJECTIVE 54 CHECKED
 RANGE
 SECTION 1 - ROWS AT LIMIT LEVEL
     3 LIM2     LL 10 6 10
@@ -56,52 +42,29 @@ SECTION 4 - COLUMNS AT INTERMEDIATE LEVEL
 END 0
 ",
     },
-    Row {
+    Case {
         name: "unbounded demand range",
-        job: &[
-            LAB_IF_UNBOUNDED,
-            b"LAB      RANGE\n         EXIT\n         PEND\n",
-            ENDLESS,
-        ],
+        jobs: &OVER_ENDLESS,
+        statements: b"         MVADR(XDOUNB,LAB)\n         PRIMAL\n         EXIT\nLAB      RANGE\n",
         status: 10,
-        listing: b"CONVERT T        ROWS 1 COLUMNS 1 ENTRIES 1
-SETUP   T        MIN
-PRIMAL UNBOUNDED STEPS 0 OBJECTIVE 0 CHECKED
+        lines: b"PRIMAL UNBOUNDED STEPS 0 OBJECTIVE 0 CHECKED
     1 COST     0 -1
     2 X        0 1
 STOP 10 VERB FAULT 5 CARD 7
 ",
     },
-    Row {
+    Case {
         name: "range without a setup",
-        job: &[
-            b"         PROGRAM
-         CONVERT
-         RANGE
-         EXIT
-         PEND
-",
-            ONE,
-        ],
+        jobs: &OVER_ONE,
+        statements: b"         RANGE\n",
         status: 10,
-        listing: b"CONVERT ONE      ROWS 2 COLUMNS 1 ENTRIES 2\nSTOP 10 VERB FAULT 3 CARD 3\n",
+        lines: b"STOP 10 VERB FAULT 3 CARD 3\n",
     },
-    Row {
+    Case {
         name: "range without a mark",
-        job: &[
-            b"         PROGRAM
-         CONVERT
-         SETUP
-         RANGE
-         EXIT
-         PEND
-",
-            ONE,
-        ],
+        jobs: &OVER_ONE,
+        statements: b"         SETUP\n         RANGE\n",
         status: 10,
-        listing: b"CONVERT ONE      ROWS 2 COLUMNS 1 ENTRIES 2
-SETUP   ONE      MIN
-STOP 10 VERB FAULT 4 CARD 4
-",
+        lines: b"SETUP   ONE      MIN\nSTOP 10 VERB FAULT 4 CARD 4\n",
     },
 ];

@@ -1,24 +1,14 @@
 // Worked jobs that end with a verdict, or at a limit.
-use crate::frames::{Case, first_unanswered};
+use crate::frames::{Case, Jobs, SET_UP_BND, first_unanswered};
 use crate::over::{OVER_CONFLICT, OVER_ENDLESS, OVER_TESTPROB};
 use crate::rows::Row;
 use crate::runs::first_unreported;
 use std::test::Fail;
 use test_decks::problems::{BEALE, CROSSED, LIMIT_OF_4, LIMIT_ROWS};
-use test_decks::programs::{SOLVE_BND, SOLVE_IN_NO_STEP};
+use test_decks::programs::SOLVE_IN_NO_STEP;
 
 // Runs that end with a verdict, or at a limit.
-const VERDICTS: [Row; 4] = [
-    Row {
-        name: "negative upper crossed",
-        job: &[SOLVE_BND, CROSSED],
-        status: 1,
-        listing: b"CONVERT T        ROWS 1 COLUMNS 1 ENTRIES 1
-SETUP   T        MIN
-PRIMAL INFEASIBLE STEPS 0 CROSSED 2 CHECKED
-END 1
-",
-    },
+const VERDICTS: [Row; 3] = [
     Row {
         name: "iteration limit 0",
         job: &[
@@ -63,8 +53,22 @@ STOP 16 ITERATION LIMIT 5 CARD 6
     },
 ];
 
+// Programs over a column with an upper bound below its lower one.
+const OVER_CROSSED: Jobs = Jobs {
+    program: SET_UP_BND,
+    problem: &[CROSSED],
+    listing: b"CONVERT T        ROWS 1 COLUMNS 1 ENTRIES 1\nSETUP   T        MIN\n",
+};
+
 // Runs over problems of several jobs.
-const CASES: [Case; 3] = [
+const CASES: [Case; 4] = [
+    Case {
+        name: "negative upper crossed",
+        jobs: &OVER_CROSSED,
+        statements: b"         PRIMAL\n         SOLUTION\n",
+        status: 1,
+        lines: b"PRIMAL INFEASIBLE STEPS 0 CROSSED 2 CHECKED\nEND 1\n",
+    },
     Case {
         name: "infeasible ray",
         jobs: &OVER_CONFLICT,
