@@ -2,9 +2,9 @@
 ghost use Rattle.std.specs.Prelude.{◌<◌};
 
 use crate::jobs::{Answer, Call, answer_from, answer_to};
-use crate::plans::PLANS;
+use crate::plans::SOLVED;
 use crate::punched::DECKS;
-use crate::rows::Row;
+use crate::rows::Solved;
 use job_devices::MemorySource;
 use std::alloc::Global;
 use std::test::Fail;
@@ -21,7 +21,7 @@ fn a_read_that_fails_ends_a_job(rt: HostRuntime) -> Result<(), Fail> {
         (&[2], &[1], 25, b""),
         (&[1], &[1], 25, b""),
     ];
-    let job = PLANS[0].job.concat(rt.alloc())?;
+    let job = SOLVED[0].job.concat(rt.alloc())?;
     for (failing_reads, failing_writes, status, listing) in cases {
         let call = Call {
             words: &[],
@@ -36,7 +36,7 @@ fn a_read_that_fails_ends_a_job(rt: HostRuntime) -> Result<(), Fail> {
 }
 
 // A row that comes in pieces, of whose reads these fail.
-fn in_pieces(alloc: Global, row: &Row, piece: usize, failing: &[u64]) -> Result<Answer, Fail>
+fn in_pieces(alloc: Global, row: &Solved, piece: usize, failing: &[u64]) -> Result<Answer, Fail>
     requires { 0 < piece }
 {
     let job = row.job.concat(alloc)?;
@@ -46,12 +46,13 @@ fn in_pieces(alloc: Global, row: &Row, piece: usize, failing: &[u64]) -> Result<
 
 // How many reads a row makes that comes in pieces: with each of them failing the job ends with a fault of the read, and with the
 // next one it goes on as if none had failed. None where it is answered otherwise.
-fn reads_made(alloc: Global, row: &Row, piece: usize) -> Result<Option<u64>, Fail>
+fn reads_made(alloc: Global, row: &Solved, piece: usize) -> Result<Option<u64>, Fail>
     requires { 0 < piece }
 {
+    let listing = row.listing(alloc)?;
     for made in 0..MANY {
         let answer = in_pieces(alloc, row, piece, &[made + 1])?;
-        if answer.is(row.status, row.listing) {
+        if answer.is(0, &listing) {
             return Ok(Some(made));
         }
         if !answer.is(24, READ_FAULT) {
@@ -64,7 +65,7 @@ fn reads_made(alloc: Global, row: &Row, piece: usize) -> Result<Option<u64>, Fai
 // There is a read for each piece, and one that finds the end.
 #[test]
 fn each_read_of_a_job_may_fail(rt: HostRuntime) -> Result<(), Fail> {
-    let plan = &PLANS[0];
+    let plan = &SOLVED[0];
     assert_eq!(rt; plan.job.concat(rt.alloc())?.len(), 607);
     assert_eq!(rt; reads_made(rt.alloc(), plan, 1)?, Some(608));
     assert_eq!(rt; reads_made(rt.alloc(), plan, 7)?, Some(88));
@@ -86,28 +87,29 @@ fn where_writes_fail(
 
 // How many writes a row makes: with each of them failing the listing is cut short, and with the next one it is whole. None where
 // it is answered otherwise.
-fn writes_made(alloc: Global, row: &Row) -> Result<Option<u64>, Fail> {
+fn writes_made(alloc: Global, row: &Solved) -> Result<Option<u64>, Fail> {
+    let listing = row.listing(alloc)?;
     for made in 0..MANY {
         let answer = where_writes_fail(alloc, row.job, &[made + 1], &[])?;
-        if answer.is(row.status, row.listing) {
+        if answer.is(0, &listing) {
             return Ok(Some(made));
         }
-        if !is_cut_short(row, &answer) {
+        if !is_cut_short(&listing, &answer) {
             return Ok(None);
         }
     }
     Ok(None)
 }
 
-// Whether a fault of the print has left a prefix of a row's listing, and less than all of it.
-fn is_cut_short(row: &Row, answer: &Answer) -> bool {
+// Whether a fault of the print has left a prefix of a listing, and less than all of it.
+fn is_cut_short(listing: &[u8], answer: &Answer) -> bool {
     let printed = answer.print.bytes();
-    answer.status == 25 && row.listing.starts_with(printed) && printed.len() < row.listing.len()
+    answer.status == 25 && listing.starts_with(printed) && printed.len() < listing.len()
 }
 
 #[test]
 fn each_write_of_a_listing_may_fail(rt: HostRuntime) -> Result<(), Fail> {
-    assert!(rt; writes_made(rt.alloc(), &PLANS[0])?.is_some());
+    assert!(rt; writes_made(rt.alloc(), &SOLVED[0])?.is_some());
     Ok(())
 }
 

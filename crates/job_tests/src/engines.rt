@@ -2,9 +2,9 @@
 use crate::frames::{Case, SET_UP};
 use crate::no_memory::Starved;
 use crate::parametric_runs::{PARAMETRIC, PARAMETRIC_CASES};
-use crate::plans::PLANS;
+use crate::plans::{PLANS, SOLVED};
 use crate::ranges::RANGES;
-use crate::rows::Row;
+use crate::rows::{Row, Solved};
 use card_reader::read_job;
 use control_compiler::compile;
 use control_run::{RunEngine, RunStatus, run_on};
@@ -35,11 +35,25 @@ fn run_of<E: Engine>(alloc: Global, job: &[u8]) -> Result<Run, Fail> {
     Ok(Run { status, print })
 }
 
-// The name of the first of these jobs that has another status or listing over this engine.
+// Whether a job has this status and this listing over an engine.
+fn is_run<E: Engine>(alloc: Global, job: &[u8], status: u8, listing: &[u8]) -> Result<bool, Fail> {
+    let run = run_of::<E>(alloc, job)?;
+    Ok(run.status.code() == status && run.print.bytes() == listing)
+}
+
+// The name of the first of these jobs that has another status or listing over an engine.
 fn first_unreported<E: Engine>(alloc: Global, rows: &[Row]) -> Result<Option<&'static str>, Fail> {
     for row in rows {
-        let run = run_of::<E>(alloc, &row.job.concat(alloc)?)?;
-        if run.status.code() != row.status || run.print.bytes() != row.listing {
+        if !is_run::<E>(alloc, &row.job.concat(alloc)?, row.status, row.listing)? {
+            return Ok(Some(row.name));
+        }
+    }
+    Ok(None)
+}
+
+fn first_unsolved<E: Engine>(alloc: Global, rows: &[Solved]) -> Result<Option<&'static str>, Fail> {
+    for row in rows {
+        if !is_run::<E>(alloc, &row.job.concat(alloc)?, 0, &row.listing(alloc)?)? {
             return Ok(Some(row.name));
         }
     }
@@ -51,17 +65,18 @@ fn first_unanswered<E: Engine>(
     cases: &[Case],
 ) -> Result<Option<&'static str>, Fail> {
     for case in cases {
-        let run = run_of::<E>(alloc, &case.job(alloc)?)?;
-        let listing = case.listing(alloc)?;
-        if run.status.code() != case.status || run.print.bytes() != listing.as_slice() {
+        if !is_run::<E>(alloc, &case.job(alloc)?, case.status, &case.listing(alloc)?)? {
             return Ok(Some(case.name));
         }
     }
     Ok(None)
 }
 
-// The name of the first job of all that has another status or listing over this engine.
+// The name of the first job of all tables that has another status or listing over an engine.
 fn first_failure<E: Engine>(alloc: Global) -> Result<Option<&'static str>, Fail> {
+    if let Some(name) = first_unsolved::<E>(alloc, &SOLVED)? {
+        return Ok(Some(name));
+    }
     if let Some(name) = first_unreported::<E>(alloc, &PLANS)? {
         return Ok(Some(name));
     }

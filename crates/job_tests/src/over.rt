@@ -18,6 +18,18 @@ pub const OVER_TESTPROB: Jobs = Jobs {
     listing: b"CONVERT TESTPROB ROWS 4 COLUMNS 3 ENTRIES 9\nSETUP   TESTPROB MIN\n",
 };
 
+/// The plan of TESTPROB.
+pub const TESTPROB_ROWS: &[u8] = b"    1 COST     BS 54 -54 NONE NONE 0
+    2 LIM1     BS 3 2 NONE 5 0
+    3 LIM2     LL 10 0 10 NONE 1
+    4 MYEQN    EQ 7 0 7 7 8
+";
+
+pub const TESTPROB_COLUMNS: &[u8] = b"    5 XONE     BS 4 1 0 4 0
+    6 YTWO     LL -1 4 -1 1 12
+    7 ZTHREE   BS 6 9 0 NONE 0
+";
+
 /// Over the plan of three columns, with its set BND of bounds.
 pub const OVER_PLAN: Jobs = Jobs {
     program: SET_UP_BND,

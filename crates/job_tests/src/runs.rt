@@ -3,10 +3,10 @@ use crate::frames::first_unanswered;
 use crate::jobs::{answer_of, answer_of_parts};
 use crate::overflows::OVERFLOWS;
 use crate::parametric_runs::{PARAMETRIC, PARAMETRIC_CASES};
-use crate::plans::PLANS;
+use crate::plans::{PLANS, SOLVED};
 use crate::punched::DECKS;
 use crate::ranges::RANGES;
-use crate::rows::{DeckRow, Row};
+use crate::rows::{DeckRow, Row, Solved};
 use std::alloc::Global;
 use std::test::Fail;
 
@@ -31,6 +31,16 @@ pub fn first_unreported(alloc: Global, rows: &[Row]) -> Result<Option<&'static s
     Ok(None)
 }
 
+/// The name of the first of these jobs that shows another plan.
+pub fn first_unsolved(alloc: Global, rows: &[Solved]) -> Result<Option<&'static str>, Fail> {
+    for row in rows {
+        if !answer_of_parts(alloc, row.job)?.is(0, &row.listing(alloc)?) {
+            return Ok(Some(row.name));
+        }
+    }
+    Ok(None)
+}
+
 /// The name of the first of these jobs that has another status or listing, or punches other cards.
 pub fn first_unpunched(alloc: Global, rows: &[DeckRow]) -> Result<Option<&'static str>, Fail> {
     for row in rows {
@@ -44,6 +54,7 @@ pub fn first_unpunched(alloc: Global, rows: &[DeckRow]) -> Result<Option<&'stati
 
 #[test]
 fn jobs_have_their_listings(rt: HostRuntime) -> Result<(), Fail> {
+    assert_eq!(rt; first_unsolved(rt.alloc(), &SOLVED)?, None);
     assert_eq!(rt; first_unreported(rt.alloc(), &PLANS)?, None);
     assert_eq!(rt; first_unreported(rt.alloc(), &PARAMETRIC)?, None);
     assert_eq!(rt; first_unanswered(rt.alloc(), &PARAMETRIC_CASES)?, None);
