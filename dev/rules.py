@@ -203,7 +203,7 @@ def tests_of(line: Line) -> str:
         jobs = run_jobs(line.place)
         return ", ".join(link(name, jobs[name]) for name in line.names)
     names = ", ".join(name if name.startswith('"') else f"`{name}`" for name in line.names)
-    crate, _, file = line.place.split("/", 2)
+    crate, *_, file = line.place.split("/")
     return f"{'computed: ' if line.kind == 'example' else ''}{link(f'{crate}/{file}', line.path())}: {names}"
 
 

@@ -12,8 +12,8 @@ how bytes are cut into cards
     fault       card_definitions/specs/Cards  card_fault card NotPrintable CardTooLong
     contract    card_reader/src/read  read_job
     code        card_reader/src/cut  cut_cards
-    test        job_tests/src/faults  "card of 81 bytes"
-    test        job_tests/src/runs  long_jobs_are_refused
+    test        job_tests/src/tests/faults  "card of 81 bytes"
+    test        job_tests/src/tests/runs  long_jobs_are_refused
     test        examples/faults  card-3
     example     card_definitions/proofs/Examples  three_cards
                 long_card
@@ -38,7 +38,7 @@ def test_a_row_is_shown():
     rule, definition, contract, code, test = [cell.strip() for cell in shown[-1].split("|")[1:-1]]
     assert rule == "how bytes are cut into cards" and definition.startswith("[`cards_of`](../crates/card_definitions/specs/Cards.antt)<br>card fault 4 ")
     assert (contract, code) == ("[`read_job`](../crates/card_reader/src/read.rt)", "[`cut_cards`](../crates/card_reader/src/cut.rt)")
-    assert test.split("<br>")[0] == '[job_tests/faults](../crates/job_tests/src/faults.rt): "card of 81 bytes"'
+    assert test.split("<br>")[0] == '[job_tests/faults](../crates/job_tests/src/tests/faults.rt): "card of 81 bytes"'
     assert "[card-3](../examples/faults/card-3.job)" in test and "computed: [card_definitions/Examples]" in test
 
 
@@ -52,9 +52,9 @@ def test_a_rule_without_tests_is_proved_alone():
     ("card_reader/src/read", "card_reader/src/red", "there is no crates/card_reader/src/red.rt"),
     ("NotPrintable CardTooLong", "CardTooLong NotPrintable", "card_fault tests NotPrintable before the fault above"),
     ("NotPrintable", "NotReadable", "there is no card fault NotReadable"),
-    ('"card of 81 bytes"', '"card of 82 bytes"', 'crates/job_tests/src/faults.rt has no test "card of 82 bytes"'),
-    ("long_jobs_are_refused", "repeated", "crates/job_tests/src/runs.rt has no test repeated"),
-    ("job_tests/src/runs", "mps_cli/src/run", "mps_cli/src/run isn't a file of tests"),
+    ('"card of 81 bytes"', '"card of 82 bytes"', 'crates/job_tests/src/tests/faults.rt has no test "card of 82 bytes"'),
+    ("long_jobs_are_refused", "repeated", "crates/job_tests/src/tests/runs.rt has no test repeated"),
+    ("job_tests/src/tests/runs", "mps_cli/src/run", "mps_cli/src/run isn't a file of tests"),
     ("card-3", "read-24", "no read-24 is run in examples/faults"),
     ("three_cards", "four_cards", "four_cards isn't defined in crates/card_definitions/proofs/Examples.antt, or ensures nothing"),
     ("    contract    card_reader/src/read  read_job\n", "", "how bytes are cut into cards: no contract stands here")))
@@ -62,7 +62,7 @@ def test_a_wrong_row_is_told(old, new, wanted):
     assert wanted in told(ROW.replace(old, new))
 
 
-@pytest.mark.parametrize("line", ("    tests  job_tests/src/runs  x", "    code  card_reader/src/cut"))
+@pytest.mark.parametrize("line", ("    tests  job_tests/src/tests/runs  x", "    code  card_reader/src/cut"))
 def test_a_line_that_is_none_is_told(line):
     with pytest.raises(rules.WrongTable):
         rules.read(ROW + line + "\n")

@@ -2,12 +2,4 @@
 #![tactic(auto)]
 
 #[cfg(test)]
-mod arithmetic;
-#[cfg(test)]
-mod made;
-#[cfg(test)]
-mod printed;
-#[cfg(test)]
-mod sums;
-#[cfg(test)]
-mod vectors;
+mod tests;

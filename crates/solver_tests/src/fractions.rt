@@ -9,21 +9,18 @@ use std::test::Fail;
 
 const MAX: i128 = i128::MAX;
 
-/// 2^100.
-const POWER_100: i128 = 1267650600228229401496703205376;
+const POWER_70: i128 = 1 << 70;
 
-/// 2^70.
-const POWER_70: i128 = 1180591620717411303424;
+const POWER_100: i128 = 1 << 100;
 
-/// 2^125 and 2^126.
-const POWER_125: i128 = 42535295865117307932921825928971026432;
+const POWER_125: i128 = 1 << 125;
 
-const POWER_126: i128 = 85070591730234615865843651857942052864;
+const POWER_126: i128 = 1 << 126;
 
 /// 3^50, and that less 2^70.
 const THREES: i128 = 717897987691852588770249;
 
-const LESS: i128 = 716717396071135177466825;
+const LESS: i128 = THREES - POWER_70;
 
 /// What the method of an operation answers, where it may be called.
 fn by_method(op: Op, left: Frac, right: Frac) -> Option<Result<Frac, Refused>> {
@@ -42,6 +39,14 @@ fn applied(op: Op, left: Frac, right: Frac) -> Option<Result<Frac, Refused>> {
         return None;
     }
     Some(op.apply(left, right))
+}
+
+/// The fraction of these parts, where there are any.
+fn fitting(parts: Option<Parts>) -> Result<Option<Frac>, Fail> {
+    match parts {
+        Some(parts) => Ok(Some(fraction(parts)?)),
+        None => Ok(None),
+    }
 }
 
 /// An operation on two fractions, and what it makes: nothing, where that doesn't fit.
@@ -71,14 +76,12 @@ const OPERATIONS: [Operation; 12] = [
 fn operations_are_exact(rt: HostRuntime) -> Result<(), Fail> {
     for (op, left, right, wanted) in &OPERATIONS {
         let (left, right) = (fraction(*left)?, fraction(*right)?);
-        let wanted = match wanted {
-            Some(parts) => Ok(fraction(*parts)?),
-            None => Err(Refused {
-                op: *op,
-                left,
-                right,
-            }),
+        let refused = Refused {
+            op: *op,
+            left,
+            right,
         };
+        let wanted = fitting(*wanted)?.ok_or(refused);
         assert_eq!(rt;
             by_method(*op, left, right),
             Some(wanted),
@@ -123,11 +126,8 @@ const DIFFERENCES: [Difference; 5] = [
 fn products_are_subtracted(rt: HostRuntime) -> Result<(), Fail> {
     for (from, left, right, wanted) in &DIFFERENCES {
         let (left, right) = (fraction(*left)?, fraction(*right)?);
-        let wanted = match wanted {
-            Some(parts) => Some(fraction(*parts)?),
-            None => None,
-        };
-        assert_eq!(rt; fraction(*from)?.sub_product(left, right), wanted);
+        let rest = fraction(*from)?.sub_product(left, right);
+        assert_eq!(rt; rest, fitting(*wanted)?);
     }
     // the product of the first of these doesn't fit
     let (factor, small) = (fraction((LESS, THREES))?, fraction((1, POWER_70))?);

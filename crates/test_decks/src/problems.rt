@@ -297,19 +297,37 @@ COLUMNS
 ENDATA
 ";
 
-/// A combination that is the sum of two rows.
-pub const SUM: &[u8] = b"NAME          T
+/// The rows of a problem with a combination that is the sum of two of them.
+pub const SUM_ROWS: &[u8] = b"NAME          T
 ROWS
  N  COST
  L  A
  L  B
  DL S         A         1              B         1
-COLUMNS
+";
+
+/// What follows its rows.
+pub const SUM_COLUMNS: &[u8] = b"COLUMNS
     X         COST      -1             A         1
     Y         COST      -1             B         1
 RHS
     B         A         3              B         3
     B         S         4
+ENDATA
+";
+
+/// The same on more cards, with the right-hand side B1: the cards up to those of the column X, and those from the column Y on.
+pub const SUM_OF_B1_TO_X: &[u8] = b"COLUMNS
+    X         COST      -1
+    X         A         1
+";
+
+pub const SUM_OF_B1_FROM_Y: &[u8] = b"    Y         COST      -1
+    Y         B         1
+RHS
+    B1        A         3
+    B1        B         3
+    B1        S         4
 ENDATA
 ";
 
@@ -357,6 +375,20 @@ ROWS
  DL S         A         999999999E18
 COLUMNS
     X         COST      1              A         999999999E18
+ENDATA
+";
+
+/// The cards after NAME, up to those of the column X, of a problem with one limit.
+pub const LIMIT_ROWS: &[u8] = b"ROWS
+ N  COST
+ L  LIM
+COLUMNS
+";
+
+/// What follows X's cost where the limit is 4.
+pub const LIMIT_OF_4: &[u8] = b"    X         LIM       1
+RHS
+    B         LIM       4
 ENDATA
 ";
 

@@ -65,6 +65,25 @@ pub const SOLVE_RANGE: &[u8] = b"         PROGRAM
          PEND
 ";
 
+/// Solves a problem with the set BND of bounds, and tells in which intervals its plan stays the best.
+pub const RANGE_BND: &[u8] = b"         PROGRAM
+         CONVERT
+         SETUP('BOUND','BND')
+         PRIMAL
+         RANGE
+         EXIT
+         PEND
+";
+
+/// Solves a problem, and goes to the statement LAB, with which the next part of the program begins, where it has no bound.
+pub const LAB_IF_UNBOUNDED: &[u8] = b"         PROGRAM
+         CONVERT
+         SETUP
+         MVADR(XDOUNB,LAB)
+         PRIMAL
+         EXIT
+";
+
 /// SOLVE where no step may be made.
 pub const SOLVE_IN_NO_STEP: &[u8] = b"         PROGRAM
          CONVERT
@@ -72,18 +91,6 @@ pub const SOLVE_IN_NO_STEP: &[u8] = b"         PROGRAM
          MOVE(XITERLIM,0)
          PRIMAL
          SOLUTION
-         EXIT
-         PEND
-";
-
-/// Revises a problem, solves it, and writes it out.
-pub const REVISE_AND_SOLVE: &[u8] = b"         PROGRAM
-         CONVERT
-         REVISE
-         SETUP
-         PRIMAL
-         SOLUTION
-         BCDOUT
          EXIT
          PEND
 ";
@@ -108,16 +115,7 @@ pub const DUAL_BND: &[u8] = b"         PROGRAM
          PEND
 ";
 
-/// Reads a problem and the deck of a basis.
-pub const INSERT: &[u8] = b"         PROGRAM
-         CONVERT
-         SETUP
-         INSERT
-         EXIT
-         PEND
-";
-
-/// INSERT with the set BND of bounds.
+/// Reads a problem and the deck of a basis, with the set BND of bounds.
 pub const INSERT_BND: &[u8] = b"         PROGRAM
          CONVERT
          SETUP('BOUND','BND')

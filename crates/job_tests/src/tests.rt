@@ -1,0 +1,25 @@
+// The tests, and what they are made of.
+mod bases;
+mod combination_decks;
+mod combinations;
+mod devices;
+mod dual_paths;
+mod engines;
+mod faults;
+mod frames;
+mod free_decks;
+mod free_revisions;
+mod jobs;
+mod no_memory;
+mod over;
+mod overflows;
+mod parametric_runs;
+mod plans;
+mod punched;
+mod ranges;
+mod revisions;
+mod rows;
+mod runs;
+mod sections;
+mod verdicts;
+mod words;
