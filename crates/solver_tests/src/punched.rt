@@ -9,31 +9,7 @@ use job_devices::SureSink;
 use lp_model::{Basis, Lp, Sense, Status};
 use std::alloc::Global;
 use std::test::Fail;
-
-/// COST, UPR, LOR and EQ have the numbers 1 to 4, and A, B and C 5 to 7. B opens at its upper limit.
-const SMALL: &[u8] = b"NAME          SMALL     FREE
-ROWS
- N COST
- L UPR
- G LOR
- E EQ
-COLUMNS
- A COST -3 UPR 1
- A EQ 1
- B COST -2 UPR 1
- B LOR 1
- C COST 1 LOR 1
- C EQ 1
-RHS
- R UPR 4 LOR 1
- R EQ 3
-BOUNDS
- UP BND A 2
- MI BND B
- UP BND B 1
- UP BND C 5
-ENDATA
-";
+use test_decks::problems::SMALL;
 
 /// Takes a nonbasic to its upper limit, if it has one.
 fn raise(lp: &Lp, basis: &mut Basis, q: u32) -> bool
@@ -48,7 +24,8 @@ fn raise(lp: &Lp, basis: &mut Basis, q: u32) -> bool
     true
 }
 
-/// The basis with these columns in place of rows, and this column at its upper limit.
+/// The basis with these columns in place of rows, and this column at its upper limit. In SMALL, COST, UPR, LOR and EQ have the numbers 1
+/// to 4, and A, B and C 5 to 7; B opens at its upper limit.
 struct Case {
     pairs: &'static [(u32, u32)],
     up: Option<u32>,

@@ -15,10 +15,12 @@ SETUP   TESTPROB MIN
 STOP 16 ITERATION LIMIT 2 CARD 5
 ";
 
+/// TWO converted and set up, with which each of its listings begins.
+pub const TWO_SET_UP: &[u8] =
+    b"CONVERT TWO      ROWS 3 COLUMNS 2 ENTRIES 5\nSETUP   TWO      MIN\n";
+
 /// The intervals of TWO.
-pub const TWO_RANGED: &[u8] = b"CONVERT TWO      ROWS 3 COLUMNS 2 ENTRIES 5
-SETUP   TWO      MIN
-PRIMAL OPTIMAL STEPS 3 OBJECTIVE -8 CHECKED
+pub const TWO_RANGED: &[u8] = b"PRIMAL OPTIMAL STEPS 3 OBJECTIVE -8 CHECKED
 RANGE
 SECTION 1 - ROWS AT LIMIT LEVEL
     3 LIM      UL 4 0 NONE
@@ -67,10 +69,12 @@ PARAOBJ UNBOUNDED STEPS 0 OBJECTIVE 0 CHECKED
 END 2
 ";
 
+/// ONE, or BOUNDED_ONE, converted and set up.
+pub const ONE_SET_UP: &[u8] =
+    b"CONVERT ONE      ROWS 2 COLUMNS 1 ENTRIES 2\nSETUP   ONE      MIN\n";
+
 /// A run of BOUNDED_ONE, which has no plan past 2.
-pub const BOUNDED_ONE_FOLLOWED: &[u8] = b"CONVERT ONE      ROWS 2 COLUMNS 1 ENTRIES 2
-SETUP   ONE      MIN
-PARARHS FROM 0 CHANGE C
+pub const BOUNDED_ONE_FOLLOWED: &[u8] = b"PARARHS FROM 0 CHANGE C
 INTERVAL 1 FROM 0 TO 2
     1 COST     BS 1 1 0 0
     2 LOW      LL 1 1 1 0
@@ -82,9 +86,7 @@ END 0
 ";
 
 /// The same from 0 to 0.
-pub const BOUNDED_ONE_AT_0: &[u8] = b"CONVERT ONE      ROWS 2 COLUMNS 1 ENTRIES 2
-SETUP   ONE      MIN
-PARARHS FROM 0 CHANGE C
+pub const BOUNDED_ONE_AT_0: &[u8] = b"PARARHS FROM 0 CHANGE C
 INTERVAL 1 FROM 0 TO 0
     1 COST     BS 1 1 0 0
     2 LOW      LL 1 1 1 0

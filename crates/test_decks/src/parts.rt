@@ -1,14 +1,6 @@
 //! Parts that stand in several decks, and in many listings.
 
-/// A problem down to the head of its columns, with an objective and a row that has an upper limit.
-pub const ONE_LIMIT: &[u8] = b"NAME          T
-ROWS
- N  COST
- L  LIM
-COLUMNS
-";
-
-/// The same with a row that has a lower limit.
+/// A problem down to the head of its columns, with an objective and a row that has a lower limit.
 pub const ONE_DEMAND: &[u8] = b"NAME          T
 ROWS
  N  COST

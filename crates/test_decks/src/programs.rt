@@ -65,16 +65,6 @@ pub const SOLVE_RANGE: &[u8] = b"         PROGRAM
          PEND
 ";
 
-/// Solves a problem with the set BND of bounds, and tells in which intervals its plan stays the best.
-pub const RANGE_BND: &[u8] = b"         PROGRAM
-         CONVERT
-         SETUP('BOUND','BND')
-         PRIMAL
-         RANGE
-         EXIT
-         PEND
-";
-
 /// Solves a problem, and goes to the statement LAB, with which the next part of the program begins, where it has no bound.
 pub const LAB_IF_UNBOUNDED: &[u8] = b"         PROGRAM
          CONVERT

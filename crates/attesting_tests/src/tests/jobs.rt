@@ -65,7 +65,7 @@ pub const JOBS: [&Listing; 11] = [
     &Listing {
         name: "ranges",
         job: &[runs::RANGE_BND, problems::TWO],
-        text: &[listings::TWO_RANGED],
+        text: &[listings::TWO_SET_UP, listings::TWO_RANGED],
         found: Finding::Open(4),
         cases: &[],
     },

@@ -273,7 +273,7 @@ const RAY_PAST_2: &[u8] = b"    2 LOW      -1\n    3 X        1\n";
 pub const INFEASIBLE_PAST: Listing = Listing {
     name: "infeasible past",
     job: &[PARARHS_TO_5, problems::BOUNDED_ONE],
-    text: &[listings::BOUNDED_ONE_FOLLOWED],
+    text: &[listings::ONE_SET_UP, listings::BOUNDED_ONE_FOLLOWED],
     found: Finding::Attested(3),
     cases: &[
         Case {
@@ -424,7 +424,7 @@ pub const RHS_INTERVALS: Listing = Listing {
 pub const RHS_POINT: Listing = Listing {
     name: "pararhs point interval",
     job: &[runs::PARARHS_BND_TO_0, problems::BOUNDED_ONE],
-    text: &[listings::BOUNDED_ONE_AT_0],
+    text: &[listings::ONE_SET_UP, listings::BOUNDED_ONE_AT_0],
     found: Finding::Attested(3),
     cases: &[],
 };

@@ -1,7 +1,7 @@
 // Plans and their solutions.
 use super::listings::{Case, Edit, Finding, Listing};
 use super::store::{STORE_FROM_EXIT, STORE_SOLUTION, STORE_TO_PRIMAL, STORE_VERDICT};
-use test_decks::parts::{ONE_LIMIT, PLAN_COLUMNS, PLAN_ROWS};
+use test_decks::parts::{PLAN_COLUMNS, PLAN_ROWS};
 use test_decks::problems;
 use test_decks::programs::{SOLVE, SOLVE_BND1};
 
@@ -303,7 +303,8 @@ pub const TIES: Listing = Listing {
     name: "ties",
     job: &[
         SOLVE,
-        ONE_LIMIT,
+        b"NAME          T\n",
+        problems::LIMIT_ROWS,
         b"    X         COST      -1
     X         LIM       1
     Y         COST      -1

@@ -8,30 +8,7 @@ use name_table::Name;
 use problem_file::Problem;
 use std::alloc::Global;
 use std::test::Fail;
-
-const SMALL: &[u8] = b"NAME          SMALL
-ROWS
- N  COST
- L  UPR
- G  LOR
- E  EQ
-COLUMNS
-    A         COST      -3             UPR       1
-    A         EQ        1
-    B         COST      -2             UPR       1
-    B         LOR       1
-    C         COST      1              LOR       1
-    C         EQ        1
-RHS
-    R         UPR       4              LOR       1
-    R         EQ        3
-BOUNDS
- UP BND       A         2
- UP BND       C         5
- MI BND       B
- UP BND       B         1
-ENDATA
-";
+use test_decks::problems::SMALL;
 
 // A row and a column of one name.
 const TWINS: &[u8] = b"NAME          T

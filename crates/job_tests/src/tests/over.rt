@@ -1,5 +1,6 @@
 // Problems over which jobs run, with the first cards of their programs and the first lines of their listings.
 use super::frames::{CONVERTED, Jobs, SET_UP, SET_UP_BND};
+use test_decks::listings::TWO_SET_UP;
 use test_decks::problems::{CONFLICT, ENDATA, ENDLESS, ONE, PLAN, TESTPROB_CARDS, TWO};
 
 /// The line of the problem ONE.
@@ -55,5 +56,5 @@ pub const OVER_ENDLESS: Jobs = Jobs {
 pub const OVER_TWO: Jobs = Jobs {
     program: SET_UP_BND,
     problem: &[TWO],
-    listing: b"CONVERT TWO      ROWS 3 COLUMNS 2 ENTRIES 5\nSETUP   TWO      MIN\n",
+    listing: TWO_SET_UP,
 };

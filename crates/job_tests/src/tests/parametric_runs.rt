@@ -2,6 +2,9 @@
 use super::frames::{Case, Jobs, SET_UP_BND};
 use super::over::OVER_TWO;
 use super::rows::Row;
+use test_decks::listings::{
+    BOUNDED_ONE_AT_0, BOUNDED_ONE_FOLLOWED, ENDLESS_FOLLOWED, ONE_SET_UP, TWO_SOURCES_FOLLOWED,
+};
 use test_decks::problems::{BOUNDED_ONE, ENDLESS_UP_TO_1, ONE, TWO_SOURCES};
 use test_decks::programs::{PARAOBJ_TO_5, PARARHS_TO_5};
 
@@ -9,7 +12,7 @@ use test_decks::programs::{PARAOBJ_TO_5, PARARHS_TO_5};
 const OVER_BOUNDED_ONE: Jobs = Jobs {
     program: SET_UP_BND,
     problem: &[BOUNDED_ONE],
-    listing: b"CONVERT ONE      ROWS 2 COLUMNS 1 ENTRIES 2\nSETUP   ONE      MIN\n",
+    listing: ONE_SET_UP,
 };
 
 /// Parametric runs, to their last value or past a breakpoint.
@@ -41,30 +44,14 @@ END 0
         jobs: &OVER_BOUNDED_ONE,
         statements: b"         MOVE(XCHCOL,'C')\n         MOVE(XPARMAX,5)\n         PARARHS\n",
         status: 0,
-        lines: b"PARARHS FROM 0 CHANGE C
-INTERVAL 1 FROM 0 TO 2
-    1 COST     BS 1 1 0 0
-    2 LOW      LL 1 1 1 0
-    3 X        BS 1 1 0 0
-PARARHS INFEASIBLE PAST 2
-    2 LOW      -1
-    3 X        1
-END 0
-",
+        lines: BOUNDED_ONE_FOLLOWED,
     },
     Case {
         name: "pararhs point interval",
         jobs: &OVER_BOUNDED_ONE,
         statements: b"         MOVE(XCHCOL,'C')\n         MOVE(XPARMAX,0)\n         PARARHS\n",
         status: 0,
-        lines: b"PARARHS FROM 0 CHANGE C
-INTERVAL 1 FROM 0 TO 0
-    1 COST     BS 1 1 0 0
-    2 LOW      LL 1 1 1 0
-    3 X        BS 1 1 0 0
-PARARHS ENDS AT 0
-END 0
-",
+        lines: BOUNDED_ONE_AT_0,
     },
 ];
 
@@ -103,14 +90,7 @@ END 0
         name: "paraobj unbounded opening",
         job: &[PARAOBJ_TO_5, ENDLESS_UP_TO_1],
         status: 2,
-        listing: b"CONVERT T        ROWS 2 COLUMNS 1 ENTRIES 2
-SETUP   T        MIN
-PARAOBJ UNBOUNDED STEPS 0 OBJECTIVE 0 CHECKED
-    1 COST     0 -1
-    2 CHG      0 1
-    3 X        0 1
-END 2
-",
+        listing: ENDLESS_FOLLOWED,
     },
     Row {
         name: "paraobj parmax below",
@@ -135,22 +115,7 @@ STOP 10 VERB FAULT 9 CARD 6
         name: "pararhs two intervals",
         job: &[PARARHS_TO_5, TWO_SOURCES],
         status: 0,
-        listing: b"CONVERT T        ROWS 2 COLUMNS 2 ENTRIES 4
-SETUP   T        MIN
-PARARHS FROM 0 CHANGE C
-INTERVAL 1 FROM 0 TO 2
-    1 COST     BS 1 1 0 0
-    2 LOW      LL 1 1 1 0
-    3 X        BS 1 1 0 0
-    4 Y        LL 0 0 1 0
-INTERVAL 2 FROM 2 TO 5
-    1 COST     BS -1 2 0 0
-    2 LOW      LL 1 1 2 0
-    3 X        UL 3 0 -1 0
-    4 Y        BS -2 1 0 0
-PARARHS ENDS AT 5
-END 0
-",
+        listing: TWO_SOURCES_FOLLOWED,
     },
     Row {
         name: "pararhs no change set",

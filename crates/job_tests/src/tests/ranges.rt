@@ -1,6 +1,7 @@
 // Worked jobs that ask for intervals.
 use super::frames::Case;
 use super::over::{OVER_ENDLESS, OVER_ONE, OVER_TESTPROB, OVER_TWO};
+use test_decks::listings::TWO_RANGED;
 
 /// Intervals in which a plan stays the best, and statements that ask for them too soon.
 pub const RANGES: [Case; 5] = [
@@ -9,18 +10,7 @@ pub const RANGES: [Case; 5] = [
         jobs: &OVER_TWO,
         statements: b"         PRIMAL\n         RANGE\n",
         status: 0,
-        lines: b"PRIMAL OPTIMAL STEPS 3 OBJECTIVE -8 CHECKED
-RANGE
-SECTION 1 - ROWS AT LIMIT LEVEL
-    3 LIM      UL 4 0 NONE
-SECTION 2 - COLUMNS AT LIMIT LEVEL
-    4 X        LL 0 NONE 3 -1 -2 NONE
-SECTION 3 - ROWS AT INTERMEDIATE LEVEL
-    2 CHG      BS 0 NONE 1
-SECTION 4 - COLUMNS AT INTERMEDIATE LEVEL
-    5 Y        BS 4 -2 NONE -1
-END 0
-",
+        lines: TWO_RANGED,
     },
     Case {
         name: "range testprob",
