@@ -9,8 +9,10 @@ ghost use Rattle.bcd_out.specs.Lines.{line};
 
 use crate::names::{destination, route, source};
 use bcd_out::{WrittenCard, put_card};
+use deck_fields::row_kind_word;
 use itoa::Buffer;
 use job_devices::{Sink, WriteStop};
+use problem_definitions::RowKind;
 
 // A number of a name on a row.
 fn put_item<P: Sink>(text: &mut P, name: &[u8], row: &[u8], value: u32) -> Result<(), WriteStop>
@@ -38,19 +40,28 @@ fn route_cost(from: u32, to: u32) -> u32
     (7 * from + 11 * to) % 19 + 1
 }
 
+// A row of this type.
+fn put_row<P: Sink>(text: &mut P, kind: RowKind, name: &[u8]) -> Result<(), WriteStop>
+    requires { length name.now ≤ 8 }
+    ensures { Writes (P.taken text.old) (P.taken text.new) result
+        (line (row_card (plain_row kind name.now))) }
+{
+    let card = WrittenCard {
+        kind: row_kind_word(kind),
+        name1: name,
+        name2: b"",
+        value: b"",
+    };
+    put_card(text, card)
+}
+
 /// The row of a source, from which at most so many are sent as it has.
 pub fn put_source_row<P: Sink>(text: &mut P, number: u32) -> Result<(), WriteStop>
     requires { number < 1000 }
     ensures { Writes (P.taken text.old) (P.taken text.new) result
         (line (row_card (plain_row L (made.source number)))) }
 {
-    let card = WrittenCard {
-        kind: b"L",
-        name1: &source(number),
-        name2: b"",
-        value: b"",
-    };
-    put_card(text, card)
+    put_row(text, RowKind::L, &source(number))
 }
 
 /// The row of a destination, which gets at least so many as it wants.
@@ -59,13 +70,7 @@ pub fn put_destination_row<P: Sink>(text: &mut P, number: u32) -> Result<(), Wri
     ensures { Writes (P.taken text.old) (P.taken text.new) result
         (line (row_card (plain_row G (made.destination number)))) }
 {
-    let card = WrittenCard {
-        kind: b"G",
-        name1: &destination(number),
-        name2: b"",
-        value: b"",
-    };
-    put_card(text, card)
+    put_row(text, RowKind::G, &destination(number))
 }
 
 /// The cards of a route.

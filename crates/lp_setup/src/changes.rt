@@ -2,7 +2,7 @@
 ghost use Rattle.std.specs.Prelude.{◌≡◌, IfOk, IfSome, option_map};
 ghost use Rattle.selection_definitions.specs.Changes.{free_row_number, IsFreeIn, set_values as values_of_set};
 
-use crate::chosen::{has_free_row, row_number, values_named};
+use crate::chosen::{has_free_row, items_named, row_number};
 use crate::parts::right_hand_sides;
 use frac128::Frac;
 use lp_model::NoMemory;
@@ -31,7 +31,7 @@ pub fn set_values(
     ensures { IfOk result (λ values. option_map (λ values. values.items) values ≡
         values_of_set problem.now name.now) }
 {
-    let Some(items) = values_named(problem.rhs(), name) else {
+    let Some(items) = items_named(problem.rhs(), name) else {
         return Ok(None);
     };
     let values = right_hand_sides(alloc, problem.rows().len(), items)?;

@@ -10,7 +10,7 @@ ghost use Rattle.selection_definitions.specs.Choice.{objective_of, is_not_free a
 ghost use Rattle.problem_definitions.specs.declared.TheConstants.{MAX_ROWS};
 
 use name_table::Name;
-use problem_file::{BoundItem, BoundSet, DeckEntry, RowDecl, RowKind, ValueSet};
+use problem_file::{DeckEntry, Group, RowDecl, RowKind, ValueSet};
 
 // ---- the objective row
 
@@ -90,21 +90,21 @@ pub fn is_not_free(rows: &[RowDecl], chosen: Option<Name>) -> bool
 
 // ---- the sets
 
-/// The set of right-hand sides or of ranges with this name.
-fn value_set<'a>(sets: &'a [ValueSet], name: &Name) -> Option<&'a ValueSet>
+/// The set with this name.
+fn set_named<'a, T>(sets: &'a [Group<T>], name: &Name) -> Option<&'a Group<T>>
     ensures { option_copied result ≡ find (λ set. same name.now set.name) sets.now }
 {
     sets.iter().find(|set| *name == set.name)
 }
 
-/// The items of the set of right-hand sides or of ranges with this name.
-pub fn values_named<'a>(sets: &'a [ValueSet], name: &Name) -> Option<&'a [DeckEntry]>
+/// The items of the set with this name.
+pub fn items_named<'a, T>(sets: &'a [Group<T>], name: &Name) -> Option<&'a [T]>
     requires { IsDistinct same (group_names sets.now) }
     ensures missing { IfNone result (has_group sets.now name.now ≡ false) }
     ensures found { IfSome result (λ items. (has_group sets.now name.now ≡ true) ×
         (items.now ≡ items_of name.now sets.now)) }
 {
-    let set = value_set(sets, name)?;
+    let set = set_named(sets, name)?;
     Some(&set.items)
 }
 
@@ -128,49 +128,18 @@ pub fn rhs_items<'a>(sets: &'a [ValueSet], chosen: Option<Name>) -> Option<&'a [
     let Some(name) = chosen else {
         return Some(first_rhs(sets));
     };
-    values_named(sets, &name)
+    items_named(sets, &name)
 }
 
-/// The items of the range set that is chosen.
-pub fn range_items<'a>(sets: &'a [ValueSet], chosen: Option<Name>) -> Option<&'a [DeckEntry]>
+/// The items of the set that is chosen, or none where none is.
+pub fn chosen_items<'a, T>(sets: &'a [Group<T>], chosen: Option<Name>) -> Option<&'a [T]>
     requires { IsDistinct same (group_names sets.now) }
     ensures missing { IfNone result (misses_set sets.now chosen ≡ true) }
     ensures found { IfSome result (λ items. (misses_set sets.now chosen ≡ false) ×
         (items.now ≡ set_items sets.now chosen)) }
 {
     match chosen {
-        Some(name) => values_named(sets, &name),
-        None => Some(&[]),
-    }
-}
-
-/// The set of bounds with this name.
-fn bound_set<'a>(sets: &'a [BoundSet], name: &Name) -> Option<&'a BoundSet>
-    ensures { option_copied result ≡ find (λ set. same name.now set.name) sets.now }
-{
-    sets.iter().find(|set| *name == set.name)
-}
-
-/// The items of the set of bounds with this name.
-fn bounds_named<'a>(sets: &'a [BoundSet], name: &Name) -> Option<&'a [BoundItem]>
-    requires { IsDistinct same (group_names sets.now) }
-    ensures missing { IfNone result (has_group sets.now name.now ≡ false) }
-    ensures found { IfSome result (λ items. (has_group sets.now name.now ≡ true) ×
-        (items.now ≡ items_of name.now sets.now)) }
-{
-    let set = bound_set(sets, name)?;
-    Some(&set.items)
-}
-
-/// The items of the bound set that is chosen.
-pub fn bound_items<'a>(sets: &'a [BoundSet], chosen: Option<Name>) -> Option<&'a [BoundItem]>
-    requires { IsDistinct same (group_names sets.now) }
-    ensures missing { IfNone result (misses_set sets.now chosen ≡ true) }
-    ensures found { IfSome result (λ items. (misses_set sets.now chosen ≡ false) ×
-        (items.now ≡ set_items sets.now chosen)) }
-{
-    match chosen {
-        Some(name) => bounds_named(sets, &name),
+        Some(name) => items_named(sets, &name),
         None => Some(&[]),
     }
 }

@@ -9,18 +9,20 @@ ghost use Rattle.check_definitions.specs.Steps.{verdict_of, sum_steps};
 ghost use Rattle.problem_definitions.specs.Valid.{IsNumberOf, AreEntries};
 ghost use Rattle.selection_definitions.specs.Combinations.{value_in, part_product, part_products, sum_if_any, column_values as values_on_rows};
 ghost use Rattle.selection_definitions.specs.Combinations.{on_combination as number_on, on_combinations};
-ghost use Rattle.selection_definitions.specs.CombinationSums.{combination_formula};
 ghost use Rattle.lp_setup.specs.Parts.{IsSumRefusal};
 ghost use Rattle.lp_setup.specs.Combined.{IsTotalWith, IsTermOverflow, IsRefusedWith, IsRefusedPart, IsRowValue, IsRowValueMade, IsRowValueOverflow, AreParts};
 ghost use Rattle.lp_setup.specs.Combined.{AreSumsMade, IsColumnOverflow};
 ghost use Rattle.problem_definitions.specs.declared.TheConstants.{MAX_ROWS};
 
-use crate::parts::values_by_row;
+use crate::parts::{refused_on, values_by_row};
 use frac128::{Frac, Op, Refused};
-use lp_definitions::{Entry, Evidence};
+use lp_definitions::Entry;
 use lp_model::{NoMemory, Stop};
 use problem_file::{DeckEntry, RowDecl};
 use std::alloc::Global;
+
+/// The number of the formula of a combination's parts.
+const COMBINATION: u8 = 19;
 
 // ---- the sum of the parts
 
@@ -94,26 +96,6 @@ fn sum_of_parts(parts: &[DeckEntry], values: &[Option<Frac>]) -> Result<Option<F
 
 // ---- the values of a column
 
-/// The evidence that a part of a combination is refused in a column.
-fn part_evidence(row: u32, column: u32, refused: RefusedPart) -> Evidence
-    ensures names { Names result combination_formula 0 0 row column refused.term }
-    ensures refused { result.refused ≡ refused.refused }
-    ensures no_way { result.way ≡ 0 }
-    ensures no_theta { result.theta ≡ zero_ℚ }
-{
-    Evidence {
-        formula: 19,
-        way: 0,
-        p: 0,
-        q: 0,
-        i: row,
-        j: column,
-        term: refused.term,
-        theta: Frac::whole(0),
-        refused: refused.refused,
-    }
-}
-
 /// The sum of a combination's parts in a column, of which this is the variable's number.
 fn combination_value(
     parts: &[DeckEntry],
@@ -132,7 +114,8 @@ fn combination_value(
         Ok(sum) => Ok(sum),
         Err(refused) => {
             let row = before.len() as u32 + 1;
-            Err(Stop::Overflow(part_evidence(row, column, refused)))
+            let RefusedPart { term, refused } = refused;
+            Err(Stop::Overflow(refused_on(COMBINATION, row, column, term, refused)))
         }
     }
 }

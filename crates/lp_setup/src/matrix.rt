@@ -73,30 +73,6 @@ fn given_columns(alloc: Global, columns: &[ColumnDecl]) -> Result<Vec<Vec<Entry>
     Ok(matrix)
 }
 
-/// The numbers of each column, with those on the combinations.
-fn combined_columns(
-    alloc: Global,
-    rows: &[RowDecl],
-    columns: &[ColumnDecl],
-) -> Result<Vec<Vec<Entry>>, Stop>
-    requires few_rows { length rows.now ≤ MAX_ROWS }
-    requires few_columns { length columns.now ≤ MAX_COLUMNS }
-    requires parts { AreParts rows.now }
-    requires entries { All (λ column. AreEntries (length rows.now) column.items) columns.now }
-    ensures matrix { IfOk result (λ matrix. entries_of matrix.items ≡ map (numbers_of rows.now)
-        columns.now) }
-    ensures made { IfOk result (λ _. AreColumnsMade rows.now columns.now (length columns.now)) }
-    ensures overflow { IfErr result (IsMatrixOverflow rows.now columns.now) }
-{
-    let mut matrix = Vec::new(alloc);
-    for place in 0..columns.len() {
-        let number = (rows.len() + place) as u32 + 1;
-        let numbers = coefficients(alloc, rows, &columns[place], number)?;
-        matrix.push(numbers).map_err(|_| Stop::NoMemory)?;
-    }
-    Ok(matrix)
-}
-
 /// Whether one of the rows is a combination.
 fn has_combination(rows: &[RowDecl]) -> bool
     ensures { result ≡ list_any (λ row. is_some row.parts) rows.now }
@@ -119,9 +95,15 @@ pub fn matrix_columns(
     ensures made { IfOk result (λ _. AreColumnsMade rows.now columns.now (length columns.now)) }
     ensures overflow { IfErr result (IsMatrixOverflow rows.now columns.now) }
 {
-    if has_combination(rows) {
-        return combined_columns(alloc, rows, columns);
+    if !has_combination(rows) {
+        let given = given_columns(alloc, columns)?;
+        return Ok(given);
     }
-    let matrix = given_columns(alloc, columns)?;
+    let mut matrix = Vec::new(alloc);
+    for place in 0..columns.len() {
+        let number = (rows.len() + place) as u32 + 1;
+        let numbers = coefficients(alloc, rows, &columns[place], number)?;
+        matrix.push(numbers).map_err(|_| Stop::NoMemory)?;
+    }
     Ok(matrix)
 }

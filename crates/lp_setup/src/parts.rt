@@ -4,7 +4,6 @@ ghost use Rattle.exact_values.specs.Rational.{zero_ℚ};
 ghost use Rattle.lp_definitions.specs.RatesEvidence.{Names};
 ghost use Rattle.problem_definitions.specs.Valid.{AreEntries, AreBounds};
 ghost use Rattle.selection_definitions.specs.Limits.{value_on, column_limits};
-ghost use Rattle.selection_definitions.specs.RangeSums.{range_formula};
 ghost use Rattle.selection_definitions.specs.Programs.{side_on};
 ghost use Rattle.lp_setup.specs.Parts.{by_number, limits_of_rows, IsRowOverflow, IsRowMade, AreRowsMade};
 ghost use Rattle.problem_definitions.specs.declared.TheConstants.{MAX_ROWS};
@@ -15,6 +14,9 @@ use lp_definitions::Evidence;
 use lp_model::{NoMemory, Stop};
 use problem_file::{BoundItem, DeckEntry, RowDecl};
 use std::alloc::Global;
+
+/// The number of the formula of a right-hand side and a range.
+const RANGE_SUM: u8 = 13;
 
 /// A value so many times.
 fn repeated<T: Copy + Drop>(alloc: Global, value: T, count: usize) -> Result<Vec<T>, NoMemory>
@@ -72,21 +74,21 @@ pub fn right_hand_sides(
     sides_of(alloc, &values)
 }
 
-/// The evidence that the range sum of a row is refused.
-fn range_evidence(row: u32, refused: Refused) -> Evidence
-    ensures names { Names result range_formula 0 0 row 0 0 }
+/// The evidence that an operation of this formula on a row, or on a row and a column, is refused.
+pub fn refused_on(formula: u8, row: u32, column: u32, term: u32, refused: Refused) -> Evidence
+    ensures names { Names result formula 0 0 row column term }
     ensures refused { result.refused ≡ refused }
     ensures no_way { result.way ≡ 0 }
     ensures no_theta { result.theta ≡ zero_ℚ }
 {
     Evidence {
-        formula: 13,
+        formula,
         way: 0,
         p: 0,
         q: 0,
         i: row,
-        j: 0,
-        term: 0,
+        j: column,
+        term,
         theta: Frac::whole(0),
         refused,
     }
@@ -111,7 +113,10 @@ fn limits_at(
     let row = &rows[place];
     match row_limits(row.kind, sides[place], ranges[place]) {
         Ok(limits) => Ok(limits),
-        Err(refused) => Err(Stop::Overflow(range_evidence(place as u32 + 1, refused))),
+        Err(refused) => {
+            let row = place as u32 + 1;
+            Err(Stop::Overflow(refused_on(RANGE_SUM, row, 0, 0, refused)))
+        }
     }
 }
 

@@ -12,7 +12,7 @@ ghost use Rattle.lp_setup.specs.Combined.{AreColumnsMade, IsProgramOverflow};
 ghost use Rattle.lp_setup.specs.Stops.{fault_of, IsOverflowOf};
 
 use crate::choice::Choice;
-use crate::chosen::{bound_items, is_not_free, objective_row, range_items, rhs_items};
+use crate::chosen::{chosen_items, is_not_free, objective_row, rhs_items};
 use crate::limits::Limits;
 use crate::matrix::matrix_columns;
 use crate::parts::{
@@ -128,10 +128,10 @@ pub fn select(alloc: Global, problem: &Problem, choice: &Choice) -> Result<Lp, S
     let Some(rhs) = rhs_items(problem.rhs(), choice.rhs) else {
         return Err(SelectStop::Fault(SelectionFault::NoRhsSet));
     };
-    let Some(ranges) = range_items(problem.ranges(), options.range) else {
+    let Some(ranges) = chosen_items(problem.ranges(), options.range) else {
         return Err(SelectStop::Fault(SelectionFault::NoRangeSet));
     };
-    let Some(bounds) = bound_items(problem.bounds(), options.bound) else {
+    let Some(bounds) = chosen_items(problem.bounds(), options.bound) else {
         return Err(SelectStop::Fault(SelectionFault::NoBoundSet));
     };
     let selection = Selection {

@@ -50,9 +50,9 @@ returns-in-Err-clause-overflow c =
       is_side = standing c.args.sides.now c.args.place side (omega (arith, c.requires.side)) c.index-sides-place.is;
       range = range;
       is_range = standing c.args.ranges.now c.args.place range (omega (arith, c.requires.range)) c.index-ranges-place.is;
-      refused = subst (λ (kind : RowKind). IsRangeSumRefusal kind side range c.range_evidence.result.refused) is_kind
-          (subst (IsRangeSumRefusal c.row.inside.kind side range) (sym c.range_evidence.ensures.refused) c.in-Err.ensures.refused);
-      names = c.range_evidence.ensures.names;
-      no_way = c.range_evidence.ensures.no_way;
-      no_theta = c.range_evidence.ensures.no_theta;
+      refused = subst (λ (kind : RowKind). IsRangeSumRefusal kind side range c.refused_on.result.refused) is_kind
+          (subst (IsRangeSumRefusal c.row.inside.kind side range) (sym c.refused_on.ensures.refused) c.in-Err.ensures.refused);
+      names = c.refused_on.ensures.names;
+      no_way = c.refused_on.ensures.no_way;
+      no_theta = c.refused_on.ensures.no_theta;
     }
