@@ -137,7 +137,9 @@ pub fn number<'a, T: Checks>(
     if !cursor.take(b" ") {
         return Err(Unread::Absent);
     }
-    number_by::<T>(alloc, by, cursor.word())?.ok_or(Unread::Absent)
+    number_by::<T>(alloc, by, cursor.word())
+        .map_err(|_| Unread::NoMemory)?
+        .ok_or(Unread::Absent)
 }
 
 // This number after a blank.
