@@ -1,10 +1,12 @@
 // The parts of table lines, and the words of other lines.
 ghost use Rattle.std.specs.Prelude.{◌≡◌, ◌++◌, codes, Some, None, option_map, bytes_eq, if◌then◌else◌};
+ghost use Rattle.std.specs.List.{find};
+ghost use Rattle.std.specs.Option.{option_copied};
 ghost use Rattle.lp_definitions.specs.LinearProgram.{IsVariable};
 ghost use Rattle.card_definitions.specs.Words.{named};
 ghost use Rattle.listing_definitions.specs.Report.{limit_value, Code};
 ghost use Rattle.listing_definitions.specs.Report as reports;
-ghost use Rattle.listing_definitions.specs.Text.{number5, name8};
+ghost use Rattle.listing_definitions.specs.Text.{number5, name8, at_text, operation_text};
 ghost use Rattle.listing_tables.specs.Sheets.{IsSheet};
 ghost use Rattle.walk_definitions.specs.Words.{left_after};
 ghost use Rattle.walk_definitions.specs.Forms.{all_operations};
@@ -19,7 +21,9 @@ use frac128::{Frac, Op};
 use itoa::Buffer;
 use listing_claims::{By, Checks, number_by};
 use listing_definitions::At;
-use listing_tables::{NAME_PLACES, NUMBER_PLACES, Sheet, blanks, decimal, fraction, name_of};
+use listing_tables::{
+    NAME_PLACES, NUMBER_PLACES, Sheet, at_word, blanks, decimal, fraction, name_of, operation,
+};
 use listing_words::{Cursor, Number};
 use name_table::Name;
 use std::alloc::Global;
@@ -75,42 +79,45 @@ fn is_word(text: &[u8], word: &[u8]) -> bool
     text == word
 }
 
+// Where a variable may stand.
+const CODES: [At; 6] = [
+    At::Basic,
+    At::Outside,
+    At::Equal,
+    At::Lower,
+    At::Upper,
+    At::Free,
+];
+
+const OPERATIONS: [Op; 4] = [Op::Add, Op::Sub, Op::Mul, Op::Div];
+
+// The first of these codes whose word this is.
+fn code_among<'a>(codes: &'a [At], word: &[u8]) -> Option<&'a At>
+    ensures { option_copied result ≡ find (λ at. bytes_eq (at_text at) word.now) codes.now }
+{
+    codes.iter().find(|at| is_word(at_word(**at), word))
+}
+
 // Where a variable stands, as a word says it.
 fn code_of(word: &[u8]) -> Option<At>
     ensures { result ≡ named all_codes word.now }
 {
-    if is_word(b"BS", word) {
-        Some(At::Basic)
-    } else if is_word(b"**", word) {
-        Some(At::Outside)
-    } else if is_word(b"EQ", word) {
-        Some(At::Equal)
-    } else if is_word(b"LL", word) {
-        Some(At::Lower)
-    } else if is_word(b"UL", word) {
-        Some(At::Upper)
-    } else if is_word(b"FR", word) {
-        Some(At::Free)
-    } else {
-        None
-    }
+    code_among(&CODES, word).copied()
+}
+
+// The first of these operations whose word this is.
+fn operation_among<'a>(operations: &'a [Op], word: &[u8]) -> Option<&'a Op>
+    ensures { option_copied result ≡
+        find (λ op. bytes_eq (operation_text op) word.now) operations.now }
+{
+    operations.iter().find(|op| is_word(operation(**op), word))
 }
 
 /// The operation that a word says.
 pub fn operation_of(word: &[u8]) -> Option<Op>
     ensures { result ≡ named all_operations word.now }
 {
-    if is_word(b"ADD", word) {
-        Some(Op::Add)
-    } else if is_word(b"SUB", word) {
-        Some(Op::Sub)
-    } else if is_word(b"MUL", word) {
-        Some(Op::Mul)
-    } else if is_word(b"DIV", word) {
-        Some(Op::Div)
-    } else {
-        None
-    }
+    operation_among(&OPERATIONS, word).copied()
 }
 
 /// Where a variable stands, after a blank.
@@ -137,7 +144,9 @@ pub fn number<'a, T: Checks>(
     if !cursor.take(b" ") {
         return Err(Unread::Absent);
     }
-    number_by::<T>(alloc, by, cursor.word())?.ok_or(Unread::Absent)
+    number_by::<T>(alloc, by, cursor.word())
+        .map_err(|_| Unread::NoMemory)?
+        .ok_or(Unread::Absent)
 }
 
 // This number after a blank.

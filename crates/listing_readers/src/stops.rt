@@ -1,75 +1,82 @@
 // Lines that can't be attested: stops that a run chooses, or that only a basis or a device shows, and reports that only a basis shows.
 ghost use Rattle.std.specs.Prelude.{◌≡◌, ◌++◌};
-ghost use Rattle.std.specs.List.{list_any};
+ghost use Rattle.std.specs.List.{flat_map, list_any};
 ghost use Rattle.listing_definitions.specs.Text.{name8};
 ghost use Rattle.walk_definitions.specs.Words.{left_after, max_count};
-ghost use Rattle.walk_definitions.specs.Forms.{Count, Fraction, Operation, left_by_piece, left_by, has_form, counted_line, is_open_stop, is_ranges, is_punched};
+ghost use Rattle.walk_definitions.specs.Forms as forms;
+ghost use Rattle.walk_definitions.specs.Forms.{left_by_piece, left_by, has_form, counted_line, is_open_stop, is_ranges, is_punched};
 ghost use Rattle.walk_definitions.specs.Forms.{is_inserted};
 ghost use Rattle.listing_words.specs.Read.{taken};
-ghost use Rattle.listing_readers.specs.Pieces.{piece_view, form_of, form_view};
+ghost use Rattle.listing_readers.specs.Pieces.{kind_view, labelled, form_view};
 
 use crate::lines::{operation_of, take_name};
+use crate::stops::Kind::{Count, Fraction, Operation};
 use listing_words::{Cursor, count_in, fraction_in};
 use name_table::Name;
 
 /// A printed count has 32 bits.
 pub const MAX_COUNT: u32 = u32::MAX;
 
-/// A piece of a line: a text, or a word of a kind.
+/// What a word of a line is.
 #[derive(Clone, Copy, Debug, PartialEq, Eq)]
-pub enum Piece {
-    Text(&'static [u8]),
+pub enum Kind {
     Count,
     Fraction,
     Operation,
 }
 
-/// How a line goes: a text, and pieces after it.
+/// How a line goes: words of their kinds, each after a text, and a text at the end.
 #[derive(Clone, Copy)]
 pub struct Form {
-    pub text: &'static [u8],
-    pub pieces: &'static [Piece],
+    pub words: &'static [(&'static [u8], Kind)],
+    pub end: &'static [u8],
 }
 
 // Takes a count.
 fn take_count(cursor: &mut Cursor<'_>) -> bool
-    ensures { left_by_piece Count cursor.old ≡ taken result cursor.new }
+    ensures { left_by_piece forms.Count cursor.old ≡ taken result cursor.new }
 {
     count_in(cursor.word(), MAX_COUNT).is_some()
 }
 
 // Takes a fraction.
 fn take_fraction(cursor: &mut Cursor<'_>) -> bool
-    ensures { left_by_piece Fraction cursor.old ≡ taken result cursor.new }
+    ensures { left_by_piece forms.Fraction cursor.old ≡ taken result cursor.new }
 {
     fraction_in(cursor.word()).is_some()
 }
 
 // Takes an operation.
 fn take_operation(cursor: &mut Cursor<'_>) -> bool
-    ensures { left_by_piece Operation cursor.old ≡ taken result cursor.new }
+    ensures { left_by_piece forms.Operation cursor.old ≡ taken result cursor.new }
 {
     operation_of(cursor.word()).is_some()
 }
 
-// Takes a piece.
-fn take_piece(cursor: &mut Cursor<'_>, piece: Piece) -> bool
-    ensures { left_by_piece (piece_view piece) cursor.old ≡ taken result cursor.new }
+// Takes a word of a kind.
+fn take_word(cursor: &mut Cursor<'_>, kind: Kind) -> bool
+    ensures { left_by_piece (kind_view kind) cursor.old ≡ taken result cursor.new }
 {
-    match piece {
-        Piece::Text(text) => cursor.take(text),
-        Piece::Count => take_count(cursor),
-        Piece::Fraction => take_fraction(cursor),
-        Piece::Operation => take_operation(cursor),
+    match kind {
+        Kind::Count => take_count(cursor),
+        Kind::Fraction => take_fraction(cursor),
+        Kind::Operation => take_operation(cursor),
     }
 }
 
-// Takes some pieces, one after another.
-fn take_pieces(cursor: &mut Cursor<'_>, pieces: &[Piece]) -> bool
-    ensures { left_by (form_of pieces.now) cursor.old ≡ taken result cursor.new }
+// Takes a word of a kind after a text.
+fn take_labelled(cursor: &mut Cursor<'_>, word: &(&'static [u8], Kind)) -> bool
+    ensures { left_by (labelled word.now) cursor.old ≡ taken result cursor.new }
 {
-    for piece in pieces {
-        if !take_piece(cursor, *piece) {
+    cursor.take(word.0) && take_word(cursor, word.1)
+}
+
+// Takes some words, each after its text.
+fn take_words(cursor: &mut Cursor<'_>, words: &[(&'static [u8], Kind)]) -> bool
+    ensures { left_by (flat_map labelled words.now) cursor.old ≡ taken result cursor.new }
+{
+    for word in words {
+        if !take_labelled(cursor, word) {
             return false;
         }
     }
@@ -81,7 +88,7 @@ fn begins_with(bytes: &[u8], form: &Form) -> bool
     ensures { result ≡ has_form (form_view form.now) bytes.now }
 {
     let mut cursor = Cursor::new(bytes);
-    cursor.take(form.text) && take_pieces(&mut cursor, form.pieces)
+    take_words(&mut cursor, form.words) && cursor.take(form.end)
 }
 
 // ---- stop texts
@@ -91,65 +98,47 @@ fn begins_with(bytes: &[u8], form: &Form) -> bool
 // parameter and the card.
 const OPEN_STOPS: [Form; 7] = [
     Form {
-        text: b"STOP 16 ITERATION LIMIT ",
-        pieces: &[
-            Piece::Count,
-            Piece::Text(b" CARD "),
-            Piece::Count,
-            Piece::Text(b"\n"),
+        words: &[(b"STOP 16 ITERATION LIMIT ", Count), (b" CARD ", Count)],
+        end: b"\n",
+    },
+    Form {
+        words: &[],
+        end: b"STOP 24 READ FAULT\n",
+    },
+    Form {
+        words: &[],
+        end: b"STOP 26 PUNCH FAULT\n",
+    },
+    Form {
+        words: &[],
+        end: b"STOP 28 MEMORY\n",
+    },
+    Form {
+        words: &[(b"STOP 10 VERB FAULT 15 CARD ", Count)],
+        end: b"\n",
+    },
+    Form {
+        words: &[
+            (b"STOP 10 VERB FAULT 16 CARD ", Count),
+            (b" VARIABLE ", Count),
         ],
+        end: b"\n",
     },
     Form {
-        text: b"STOP 24 READ FAULT\n",
-        pieces: &[],
-    },
-    Form {
-        text: b"STOP 26 PUNCH FAULT\n",
-        pieces: &[],
-    },
-    Form {
-        text: b"STOP 28 MEMORY\n",
-        pieces: &[],
-    },
-    Form {
-        text: b"STOP 10 VERB FAULT 15 CARD ",
-        pieces: &[Piece::Count, Piece::Text(b"\n")],
-    },
-    Form {
-        text: b"STOP 10 VERB FAULT 16 CARD ",
-        pieces: &[
-            Piece::Count,
-            Piece::Text(b" VARIABLE "),
-            Piece::Count,
-            Piece::Text(b"\n"),
+        words: &[
+            (b"STOP 20 OVERFLOW F", Count),
+            (b" ", Operation),
+            (b" ", Fraction),
+            (b" ", Fraction),
+            (b" P ", Count),
+            (b" Q ", Count),
+            (b" I ", Count),
+            (b" J ", Count),
+            (b" TERM ", Count),
+            (b" THETA ", Fraction),
+            (b" CARD ", Count),
         ],
-    },
-    Form {
-        text: b"STOP 20 OVERFLOW F",
-        pieces: &[
-            Piece::Count,
-            Piece::Text(b" "),
-            Piece::Operation,
-            Piece::Text(b" "),
-            Piece::Fraction,
-            Piece::Text(b" "),
-            Piece::Fraction,
-            Piece::Text(b" P "),
-            Piece::Count,
-            Piece::Text(b" Q "),
-            Piece::Count,
-            Piece::Text(b" I "),
-            Piece::Count,
-            Piece::Text(b" J "),
-            Piece::Count,
-            Piece::Text(b" TERM "),
-            Piece::Count,
-            Piece::Text(b" THETA "),
-            Piece::Fraction,
-            Piece::Text(b" CARD "),
-            Piece::Count,
-            Piece::Text(b"\n"),
-        ],
+        end: b"\n",
     },
 ];
 

@@ -10,8 +10,8 @@ mod table;
 
 pub use buffer::TextBuffer;
 pub use pieces::{
-    NAME_PLACES, NUMBER_PLACES, blanks, decimal, fraction, mark_word, operation, sense_word,
-    solver_word,
+    NAME_PLACES, NUMBER_PLACES, at_word, blanks, decimal, fraction, mark_word, operation,
+    sense_word, solver_word,
 };
 pub use sheet::{Sheet, name_of, objective_of, row_count};
 pub use table::{Ranging, Standing, Table, put_table};
