@@ -1,11 +1,12 @@
-// Problems over which jobs run, with the first cards of their programs and the first lines of their listings.
+// Problems over which jobs of several files run.
 use super::frames::{CONVERTED, Jobs, SET_UP, SET_UP_BND};
 use test_decks::listings::TWO_SET_UP;
 use test_decks::problems::{CONFLICT, ENDATA, ENDLESS, ONE, PLAN, TESTPROB_CARDS, TWO};
 
-/// The line of the problem ONE.
+/// What CONVERT prints of the problem ONE.
 pub const ONE_CONVERTED: &[u8] = b"CONVERT ONE      ROWS 2 COLUMNS 1 ENTRIES 2\n";
 
+/// Over the problem ONE, before it is set up.
 pub const OVER_ONE: Jobs = Jobs {
     program: CONVERTED,
     problem: &[ONE],

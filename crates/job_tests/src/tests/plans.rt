@@ -8,7 +8,7 @@ use test_decks::programs::{
     LAB_IF_UNBOUNDED, SOLVE, SOLVE_BND, SOLVE_BND1, SOLVE_IN_NO_STEP, SOLVE_MAX, SOLVE_RANGE,
 };
 
-// What is printed of TESTPROB, but for its plan.
+// What is printed of TESTPROB before its plan.
 const TESTPROB_BY_PRIMAL: &[u8] = b"CONVERT TESTPROB ROWS 4 COLUMNS 3 ENTRIES 9
 SETUP   TESTPROB MIN
 PRIMAL OPTIMAL STEPS 3 OBJECTIVE 54 CHECKED
