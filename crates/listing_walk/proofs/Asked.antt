@@ -1,6 +1,7 @@
 -- What a question comes to in the walk.
-use Rattle.std.proofs.Common.{◌≡◌, ℕ, ◌+◌, Bool, true, false, List, Option, Some, None, Ok, Err, refl, sym, ap, subst, ◌∙◌, if◌then◌else◌}
-use Rattle.std.specs.Prelude.{option_map}
+use Rattle.std.proofs.Common.{◌≡◌, ℕ, ◌+◌, Bool, true, false, List, Option, Some, None, Result, Ok, Err, refl, sym, ap, subst, ◌∙◌, if◌then◌else◌}
+use Rattle.std.specs.Prelude.{option_map, IsErrAnd}
+use Rattle.std.proofs.lemmas.Result.{err_from_is_err_and}
 use Rattle.std.specs.Option.{option_or}
 use denote.Bor.{Bor}
 use Rattle.exact_values.specs.Rational.{ℚ}
@@ -22,14 +23,15 @@ use Rattle.listing_answers.specs.declared.answer.ParametricRunAnswer.{Parametric
 use Rattle.listing_claims.specs.declared.claims.Stop.{Stop}
 use Rattle.listing_claims.specs.declared.claims.Stop.TheVariants as stops
 use Rattle.listing_answers.specs.Taken.{conclusion_of, IsConclusion, IsParametricRunAnswer, Taken}
-use Rattle.listing_walk.specs.declared.answering.Stopped.TheVariants.{Finds}
+use Rattle.listing_walk.specs.declared.answering.Stopped.{Stopped}
+use Rattle.listing_walk.specs.declared.answering.Stopped.TheVariants.{Finds, NoMemory}
 use Rattle.listing_walk.specs.declared.found.Found.{Found}
 use Rattle.listing_walk.specs.declared.place.Pending.{Pending}
 use Rattle.listing_walk.specs.declared.place.ListingPlace.{ListingPlace}
 use Rattle.listing_walk.specs.Ended.{found_view}
 use Rattle.listing_walk.specs.Standing.{ShowsPending, Faces}
 use Rattle.listing_walk.specs.Walking.{open_by}
-use Rattle.listing_walk.specs.Asking.{stopped_by, is_optimal, SettlesBy, IsSettling, asked_turn, IsTaken, Answered, IsMarked, IsAny}
+use Rattle.listing_walk.specs.Asking.{stopped_by, is_optimal, SettlesBy, IsSettling, asked_turn, IsTaken, Answered, IsMarked, IsAny, IsRestHere}
 
 -- ---- conclusions
 
@@ -104,6 +106,21 @@ module _ (C : Checker) (question : Question) (sheet : Sheet) (old : ListingPlace
     stopped_answered Shows Holds new cursor stops.Unchecked rest here taken =
         λ w go f. turn_answered w go f Refuses taken ∙ ap (λ (left : List ℕ). walks.Finds (walks.Unchecked left)) (f.rest ∙ sym here)
     stopped_answered Shows Holds new cursor stops.NoMemory rest here taken = tt
+
+-- what is open is handed on by a `?`
+module _ (C : Checker) (question : Question) (sheet : Sheet) (old : ListingPlace) (clears : Bool)
+    (opens : (w : walks.Walker) (go : AnswerTo question → StatementOutcome) → walks.open_question w question sheet go ≡ open_by true clears w)
+    {X : Type 0} (Holds : X → AnswerTo question → Type 0) (new : ListingPlace) where
+  open_comes : (stopped : Stopped) → IsRestHere old clears (Err stopped) → Answered C question sheet old new Holds (Err stopped)
+  open_comes (Finds found) there = found_open C question sheet old (open_by true clears) opens found there
+  open_comes NoMemory none = tt
+
+  pub open_handed : (result : Result X Stopped) (stopped : Stopped) → IsRestHere old clears (Err stopped) → IsErrAnd result (λ y. y ≡ stopped) →
+      Answered C question sheet old new Holds result
+  open_handed result stopped there handed =
+      let p = err_from_is_err_and result handed in
+      subst (λ (r : Result X Stopped). Answered C question sheet old new Holds r) (sym p.1)
+      (subst (λ (s : Stopped). Answered C question sheet old new Holds (Err s)) (sym p.2) (open_comes stopped there))
 
 -- ---- PRIMAL and DUAL
 

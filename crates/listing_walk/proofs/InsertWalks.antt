@@ -33,17 +33,16 @@ use Rattle.listing_walk.specs.declared.chosen.Chosen.{Chosen}
 use Rattle.listing_walk.specs.declared.found.Found.{Found}
 use Rattle.listing_walk.specs.declared.place.ListingPlace.{ListingPlace}
 use Rattle.listing_walk.specs.declared.selecting.Unselected.{Unselected}
-use Rattle.listing_walk.specs.declared.selecting.Unselected.TheVariants as unselected
 use Rattle.listing_walk.specs.declared.walk_step.WalkStep.{WalkStep}
 use Rattle.listing_walk.specs.declared.walk_step.WalkStep.TheVariants as walk_step
 use Rattle.listing_walk.specs.Choosing.{IsMade, IsRefused, IsNotMade}
 use Rattle.listing_walk.specs.Standing.{IsView, IsReady, Faces}
-use Rattle.listing_walk.specs.Walking.{TurnsTo, Passes, Walks}
-use Rattle.listing_walk.specs.Inserting.{taken_of, is_line_of, is_line_due, open_install, IsInstallDue, IsInstallRefused, RefusesInstall}
+use Rattle.listing_walk.specs.Walking.{TurnsTo, Passes, Refuses, Walks}
+use Rattle.listing_walk.specs.Inserting.{taken_of, is_line_of, is_line_due, open_install, IsInstallDue, IsInstallRefused}
 use Rattle.listing_walk.proofs.SameLimits.{read_alike}
 use Rattle.listing_walk.proofs.Selected.{as_many_rows, as_many_columns}
 use Rattle.listing_walk.proofs.SettingUp.{faulted}
-use Rattle.listing_walk.proofs.SolvingWalks.{present_with, present_at, ready_of, selecting, no_setup_walks, unselected_walks, made_walks, unmade_here}
+use Rattle.listing_walk.proofs.SolvingWalks.{present_with, present_at, ready_of, selecting, no_setup_walks, refusal_walks, made_walks, unmade_here}
 
 -- what INSERT does with the basis that a deck stands for, and with the deck that is taken
 abbrev asks_install : ℕ → State → Present → LinearProgram → List Card × List (List Card) → Basis → StatementMove
@@ -166,19 +165,14 @@ module _ (C : Checker) (card : ℕ) (cards : List (List ℕ)) (machine : Machine
         ap (λ (o : Option walks.Found). walks.unless_found o (walks.Finds (walks.Unchecked w.rest)))
         (opened_so card state present q.0 w cards deck ∙ ap (λ (b : Bool). open_install b w) same) ∙ u w f
 
-    pub insert_refused : IsKept problem chosen → (due : Bool) → due ≡ is_line_due problem chosen.lp cards deck old.cursor → (refusal : Unselected) →
+    pub insert_refused : IsKept problem chosen → (due : Bool) → due ≡ is_line_due problem chosen.lp cards deck old.cursor → (found : Found) →
+        IsInstallRefused old due found → (refusal : Unselected) →
         IsNotMade problem (choice_of machine.cells chosen.options) refusal →
-        (result : Result WalkStep NoMemory) → IfOk result (RefusesInstall machine old new card due refusal) →
+        (result : Result WalkStep NoMemory) → IfOk result (Refuses machine old new card refusal found) →
         IfOk result (Walks C Insert card cards machine machine old new)
-    insert_refused kept due is (unselected.Fault fault) h result passes =
-        unselected_walks C Insert card (insert_move card) (inserting_move card) cards machine old new chosen is_setup problem on_file fault h result passes
-    insert_refused kept due is unselected.Unchecked h (Ok (walk_step.Finds found)) u = unmade_walks h kept due is found u
-    insert_refused kept due is unselected.Unchecked h (Ok walk_step.Next) u = absurd u
-    insert_refused kept due is unselected.Unchecked h (Ok (walk_step.Leaves last)) u = absurd u
-    insert_refused kept due is unselected.Unchecked h (Ok (walk_step.Jump to)) u = absurd u
-    insert_refused kept due is unselected.Unchecked h (Err stop) u = tt
-    insert_refused kept due is unselected.NoMemory h (Ok w') u = absurd u
-    insert_refused kept due is unselected.NoMemory h (Err stop) u = tt
+    insert_refused kept due is found u =
+        refusal_walks C Insert card (insert_move card) (inserting_move card) cards machine old new chosen is_setup problem on_file found
+        (λ refused. unmade_walks refused kept due is found u)
 
     -- ---- with a linear program
 

@@ -31,13 +31,14 @@ use Rattle.listing_answers.specs.declared.answer.ParametricRunAnswer.TheVariants
 use Rattle.listing_answers.specs.Taken.{IsParametricRunAnswer}
 use Rattle.listing_walk.specs.declared.answering.Stopped.{Stopped}
 use Rattle.listing_walk.specs.declared.chosen.Chosen.{Chosen}
+use Rattle.listing_walk.specs.declared.found.Found.{Found}
 use Rattle.listing_walk.specs.declared.place.ListingPlace.{ListingPlace}
 use Rattle.listing_walk.specs.declared.selecting.Unselected.{Unselected}
 use Rattle.listing_walk.specs.declared.walk_step.WalkStep.{WalkStep}
 use Rattle.listing_walk.specs.declared.walk_step.WalkStep.TheVariants as walk_step
 use Rattle.listing_walk.specs.Choosing.{IsMade, IsNotMade}
 use Rattle.listing_walk.specs.Standing.{holding}
-use Rattle.listing_walk.specs.Walking.{Finishes, Passes, Walks, Refuses}
+use Rattle.listing_walk.specs.Walking.{Finishes, Passes, Walks, Refuses, IsUnchecked}
 use Rattle.listing_walk.specs.Asking.{Answered, IsStopStep}
 use Rattle.listing_walk.specs.ParametricVerbs.{beginning, IsNotLast, finding_of, left_by, IsUnasked}
 use Rattle.listing_walk.proofs.ParametricWalks.{parametric_no_setup, parametric_refused, parametric_unasked, parametric_stopped, parametric_ended}
@@ -96,8 +97,9 @@ module _ (C : Checker) (verb : ParametricVerb) (card : ℕ) (cards : List (List 
 
   module _ (chosen : Chosen) (is_setup : machine.setup ≡ Some chosen) (problem : Problem ℕ)
       (on_file : filed_under chosen.name machine.file ≡ Some problem) where
-    pub held_refused : (last : Option ℚ) (refusal : Unselected) → IsNotMade problem (choice_of machine.cells chosen.options) refusal →
-        (result : Result WalkStep NoMemory) → IfOk result (Refuses (holding last machine) old new card refusal) →
+    pub held_refused : (last : Option ℚ) (found : Found) → IsUnchecked old found → (refusal : Unselected) →
+        IsNotMade problem (choice_of machine.cells chosen.options) refusal →
+        (result : Result WalkStep NoMemory) → IfOk result (Refuses (holding last machine) old new card refusal found) →
         IfOk result (Walks C (verb_of verb) card cards (holding last machine) (holding last machine) old new)
     held_refused None = parametric_refused C verb card cards machine old new chosen is_setup problem on_file
     held_refused (Some value) = parametric_refused C verb card cards (holding (Some value) machine) old new chosen is_setup problem on_file

@@ -57,13 +57,13 @@ use Rattle.listing_walk.specs.declared.walk_step.WalkStep.{WalkStep}
 use Rattle.listing_walk.specs.declared.walk_step.WalkStep.TheVariants as walk_step
 use Rattle.listing_walk.specs.Choosing.{IsMade, IsNotMade}
 use Rattle.listing_walk.specs.Standing.{IsView, IsSound, Faces}
-use Rattle.listing_walk.specs.Walking.{open_by, TurnsTo, IsOutcome, Finishes, Passes, Walks, Refuses}
+use Rattle.listing_walk.specs.Walking.{open_by, TurnsTo, IsOutcome, Finishes, Passes, Walks, Refuses, IsUnchecked}
 use Rattle.listing_walk.specs.Asking.{asked_turn, Answered, IsStopStep}
 use Rattle.listing_walk.specs.ParametricVerbs.{finding_of, left_by, IsUnasked}
 use Rattle.listing_walk.proofs.FollowOn.{finished_next}
 use Rattle.listing_walk.proofs.Selected.{fault_move, found_move, as_many_rows}
 use Rattle.listing_walk.proofs.SettingUp.{faulted}
-use Rattle.listing_walk.proofs.SolvingWalks.{present_with, selecting, fault_stop, no_setup_walks, refusal_walks, made_walks, verdict_comes}
+use Rattle.listing_walk.proofs.SolvingWalks.{present_with, selecting, fault_stop, no_setup_walks, refusal_walks, refused_walks, made_walks, verdict_comes}
 
 -- ---- what is asked for can be run
 
@@ -148,12 +148,13 @@ module _ (C : Checker) (verb : ParametricVerb) (card : ℕ) (cards : List (List 
 
   module _ (chosen : Chosen) (is_setup : machine.setup ≡ Some chosen) (problem : Problem ℕ)
       (on_file : filed_under chosen.name machine.file ≡ Some problem) where
-    pub parametric_refused : (refusal : Unselected) → IsNotMade problem (choice_of machine.cells chosen.options) refusal → (result : Result WalkStep NoMemory) →
-        IfOk result (Refuses machine old new card refusal) →
+    pub parametric_refused : (found : Found) → IsUnchecked old found → (refusal : Unselected) → IsNotMade problem (choice_of machine.cells chosen.options) refusal →
+        (result : Result WalkStep NoMemory) → IfOk result (Refuses machine old new card refusal found) →
         IfOk result (Walks C (verb_of verb) card cards machine machine old new)
-    parametric_refused =
-        refusal_walks C (verb_of verb) card (tested_move verb card) (parametric_move verb card) cards machine old new chosen is_setup problem on_file
-        (λ state present w lp. opens_tested verb card state present w lp)
+    parametric_refused found u =
+        refusal_walks C (verb_of verb) card (tested_move verb card) (parametric_move verb card) cards machine old new chosen is_setup problem on_file found
+        (λ refused. refused_walks C (verb_of verb) card (tested_move verb card) (parametric_move verb card) cards machine old new chosen is_setup problem on_file
+        (λ state present w lp. opens_tested verb card state present w lp) refused found u)
 
     module _ (lp : LinearProgram) (made : IsMade problem (choice_of machine.cells chosen.options) lp) where
       abbrev through : (after : Machine Chosen) (w' : WalkStep) →

@@ -1,5 +1,5 @@
 -- What RANGE and PUNCH come to in the walk.
-use Rattle.std.proofs.Common.{◌≡◌, ℕ, Bool, true, false, List, [], Some, None, IfSome, Result, Ok, Err, IfOk, refl, sym, ap, ◌∙◌, if◌then◌else◌}
+use Rattle.std.proofs.Common.{◌≡◌, ℕ, Bool, true, false, List, [], Some, None, IfSome, Result, Ok, IfOk, refl, sym, ap, ◌∙◌, if◌then◌else◌}
 use Rattle.std.specs.Prelude.{min, length}
 use Rattle.std.specs.Option.{option_or}
 use Rattle.std.specs.declared.alloc.AllocError.{AllocError as NoMemory}
@@ -27,16 +27,15 @@ use Rattle.listing_walk.specs.declared.chosen.Chosen.{Chosen}
 use Rattle.listing_walk.specs.declared.found.Found.{Found}
 use Rattle.listing_walk.specs.declared.place.ListingPlace.{ListingPlace}
 use Rattle.listing_walk.specs.declared.selecting.Unselected.{Unselected}
-use Rattle.listing_walk.specs.declared.selecting.Unselected.TheVariants as unselected
 use Rattle.listing_walk.specs.declared.walk_step.WalkStep.{WalkStep}
 use Rattle.listing_walk.specs.declared.walk_step.WalkStep.TheVariants as walk_step
 use Rattle.listing_walk.specs.Ended.{found_view}
 use Rattle.listing_walk.specs.Choosing.{IsMade, IsRefused, IsNotMade}
 use Rattle.listing_walk.specs.Standing.{IsReady, IsSolved, Faces}
-use Rattle.listing_walk.specs.Walking.{Passes, IsReported, RefusesReport, Walks}
+use Rattle.listing_walk.specs.Walking.{Passes, IsReported, Refuses, Walks}
 use Rattle.listing_walk.specs.Asking.{is_optimal}
 use Rattle.listing_walk.proofs.Selected.{fault_move, found_move, selected_move}
-use Rattle.listing_walk.proofs.SolvingWalks.{present_with, present_at, ready_of, selecting, no_setup_walks, unselected_walks, made_walks, unmade_here}
+use Rattle.listing_walk.proofs.SolvingWalks.{present_with, present_at, ready_of, selecting, no_setup_walks, refusal_walks, made_walks, unmade_here}
 use Rattle.listing_walk.proofs.ViewsWalks.{fault_walks, some_at, showing, showing_none, showing_unsolved, showing_mark, selected_now}
 
 -- the line stands where the walker is
@@ -142,15 +141,10 @@ module _ (C : Checker) (card : ℕ) (cards : List (List ℕ)) (machine : Machine
         ap (walks.walk_move C w) (punching_move card state) ∙ (unmade_here C card cards machine s (punch_move card state) chosen problem p w refused).1
         ∙ at_line old stands false found h (is_punched problem.name) stands_is w f
 
-    pub punch_refused : (refusal : Unselected) → IsNotMade problem (choice_of machine.cells chosen.options) refusal → (result : Result WalkStep NoMemory) →
-        IfOk result (RefusesReport machine old new card stands refusal) →
+    pub punch_refused : (found : Found) → IsReported old stands false found → (refusal : Unselected) →
+        IsNotMade problem (choice_of machine.cells chosen.options) refusal → (result : Result WalkStep NoMemory) →
+        IfOk result (Refuses machine old new card refusal found) →
         IfOk result (Walks C Punch card cards machine machine old new)
-    punch_refused (unselected.Fault fault) h result passes =
-        unselected_walks C Punch card (punch_move card) (punching_move card) cards machine old new chosen is_setup problem on_file fault h result passes
-    punch_refused unselected.Unchecked h (Ok (walk_step.Finds found)) reported = unmade_walks h found reported
-    punch_refused unselected.Unchecked h (Ok walk_step.Next) reported = absurd reported
-    punch_refused unselected.Unchecked h (Ok (walk_step.Leaves last)) reported = absurd reported
-    punch_refused unselected.Unchecked h (Ok (walk_step.Jump to)) reported = absurd reported
-    punch_refused unselected.Unchecked h (Err stop) reported = tt
-    punch_refused unselected.NoMemory h (Ok w') reported = absurd reported
-    punch_refused unselected.NoMemory h (Err stop) reported = tt
+    punch_refused found reported =
+        refusal_walks C Punch card (punch_move card) (punching_move card) cards machine old new chosen is_setup problem on_file found
+        (λ refused. unmade_walks refused found reported)

@@ -31,13 +31,14 @@ use Rattle.listing_walk.specs.declared.found.Found.{Found}
 use Rattle.listing_walk.specs.declared.place.ListingPlace.{ListingPlace}
 use Rattle.listing_walk.specs.declared.selecting.Unselected.{Unselected}
 use Rattle.listing_walk.specs.declared.selecting.Unselected.TheVariants.{Fault, Unchecked}
+use Rattle.listing_walk.specs.declared.selecting.Unselected.TheVariants as unselected
 use Rattle.std.specs.declared.alloc.AllocError.{AllocError as NoMemory}
 use Rattle.listing_walk.specs.declared.walk_step.WalkStep.{WalkStep}
 use Rattle.listing_walk.specs.declared.walk_step.WalkStep.TheVariants as walk_step
 use Rattle.listing_walk.specs.Ended.{found_view}
 use Rattle.listing_walk.specs.Choosing.{IsMade, IsRefused, IsNotMade, IsOpened, IsNotOpened, no_problem, not_selected}
 use Rattle.listing_walk.specs.Standing.{IsView, Faces}
-use Rattle.listing_walk.specs.Walking.{TurnsTo, Passes, Walks, IsUnchecked}
+use Rattle.listing_walk.specs.Walking.{TurnsTo, Passes, Refuses, Walks, IsUnchecked}
 use Rattle.listing_walk.proofs.Selected.{fault_move, found_move, unselected_move, selected_move, made_turn, refused_turn}
 
 -- the problem that is wanted is on file
@@ -182,12 +183,16 @@ module _ (C : Checker) (card : ℕ) (cards : List (List ℕ)) (machine : Machine
       done (Ok next_step) h = setup_done C card cards machine options opened o old new text next_step is h
       done (Err stop) h = tt
 
-  pub setup_faulted_by : (fault : VerbFault) → IsNotOpened machine.cells machine.file options (Fault fault) →
-      IfOk result (Passes machine old new (acts.Ends (ends.Verb fault card)) []) →
+  pub setup_refused_by : (refusal : Unselected) → IsNotOpened machine.cells machine.file options refusal → (found : Found) → IsUnchecked old found →
+      IfOk result (Refuses machine old new card refusal found) →
       IfOk result (Walks C (SetupVerb options) card cards machine machine old new)
-  setup_faulted_by fault not passes = faults result passes
+  setup_refused_by refusal not found u refuses = by refusal not result refuses
     where
-      faults : (r : Result WalkStep NoMemory) → IfOk r (Passes machine old new (acts.Ends (ends.Verb fault card)) []) →
-          IfOk r (Walks C (SetupVerb options) card cards machine machine old new)
-      faults (Ok next_step) h = setup_faulted C card cards machine options old new fault next_step not h
-      faults (Err stop) h = tt
+      by : (refusal : Unselected) → IsNotOpened machine.cells machine.file options refusal → (r : Result WalkStep NoMemory) →
+          IfOk r (Refuses machine old new card refusal found) → IfOk r (Walks C (SetupVerb options) card cards machine machine old new)
+      by (Fault fault) not (Ok next_step) passes = setup_faulted C card cards machine options old new fault next_step not passes
+      by Unchecked not (Ok next_step) is =
+          subst (λ (x : WalkStep). Walks C (SetupVerb options) card cards machine machine old new x) (sym is)
+          (setup_unchecked C card cards machine options not found old new u)
+      by unselected.NoMemory not (Ok next_step) refuses = absurd refuses
+      by refusal not (Err stop) refuses = tt

@@ -201,20 +201,17 @@ module _ (C : Checker) (verb : Verb ℕ) (card : ℕ) (go : State → Present �
         refused_here C card cards machine s (go state) chosen problem p
         (opens state (present_with problem chosen.options p.opening p.steps)) refused found old u w f
 
-    -- nothing is selected
-    pub refusal_walks :
-        ((state : State) (present : Present) (w : walks.Walker) (lp : LinearProgram) → walks.opened w (go state present lp) ≡ open_by true true w) →
-        (refusal : Unselected) →
-        IsNotMade problem (choice_of machine.cells chosen.options) refusal → (result : Result WalkStep NoMemory) →
-        IfOk result (Refuses machine old new card refusal) → IfOk result (Walks C verb card cards machine machine old new)
-    refusal_walks opens (unselected.Fault fault) h result refuses = unselected_walks fault h result refuses
-    refusal_walks opens unselected.Unchecked h (Ok (walk_step.Finds found)) refuses = refused_walks opens h found refuses
-    refusal_walks opens unselected.Unchecked h (Ok walk_step.Next) refuses = absurd refuses
-    refusal_walks opens unselected.Unchecked h (Ok (walk_step.Leaves last)) refuses = absurd refuses
-    refusal_walks opens unselected.Unchecked h (Ok (walk_step.Jump to)) refuses = absurd refuses
-    refusal_walks opens unselected.Unchecked h (Err stop) refuses = tt
-    refusal_walks opens unselected.NoMemory h (Ok w') refuses = absurd refuses
-    refusal_walks opens unselected.NoMemory h (Err stop) refuses = tt
+    -- nothing is selected, and the walk ends so where an operation of the selection is refused
+    pub refusal_walks : (found : Found) →
+        (IsRefused problem (choice_of machine.cells chosen.options) → Walks C verb card cards machine machine old new (walk_step.Finds found)) →
+        (refusal : Unselected) → IsNotMade problem (choice_of machine.cells chosen.options) refusal → (result : Result WalkStep NoMemory) →
+        IfOk result (Refuses machine old new card refusal found) → IfOk result (Walks C verb card cards machine machine old new)
+    refusal_walks found ends_so (unselected.Fault fault) h result refuses = unselected_walks fault h result refuses
+    refusal_walks found ends_so unselected.Unchecked h (Ok w') is =
+        subst (λ (x : WalkStep). Walks C verb card cards machine machine old new x) (sym is) (ends_so h)
+    refusal_walks found ends_so unselected.Unchecked h (Err stop) is = tt
+    refusal_walks found ends_so unselected.NoMemory h (Ok w') refuses = absurd refuses
+    refusal_walks found ends_so unselected.NoMemory h (Err stop) refuses = tt
 
     -- with a linear program
     pub made_walks : (lp : LinearProgram) → IsMade problem (choice_of machine.cells chosen.options) lp → (after : Machine Chosen) (w' : WalkStep) →

@@ -38,10 +38,10 @@ use Rattle.listing_walk.specs.declared.walk_step.WalkStep.{WalkStep}
 use Rattle.listing_walk.specs.declared.walk_step.WalkStep.TheVariants as walk_step
 use Rattle.listing_walk.specs.Choosing.{IsMade, IsNotMade}
 use Rattle.listing_walk.specs.Standing.{IsView, IsSound, Faces}
-use Rattle.listing_walk.specs.Walking.{TurnsTo, IsOutcome, Finishes, Passes, Walks, Refuses}
+use Rattle.listing_walk.specs.Walking.{TurnsTo, IsOutcome, Finishes, Passes, Walks, Refuses, IsUnchecked}
 use Rattle.listing_walk.specs.Asking.{Answered, IsMarked, IsStopStep}
 use Rattle.run_machine.specs.SolvingVerbs.{verb_of, solver_of, limit_of}
-use Rattle.listing_walk.proofs.SolvingWalks.{present_with, selecting, no_setup_walks, refusal_walks, made_walks, verdict_comes}
+use Rattle.listing_walk.proofs.SolvingWalks.{present_with, selecting, no_setup_walks, refusal_walks, refused_walks, made_walks, verdict_comes}
 
 abbrev sheet_of : Present → LinearProgram → Sheet
 sheet_of present lp = record { problem = present.problem; lp = lp }
@@ -63,12 +63,13 @@ module _ (C : Checker) (verb : SolvingVerb) (card : ℕ) (cards : List (List ℕ
 
   module _ (chosen : Chosen) (is_setup : machine.setup ≡ Some chosen) (problem : Problem ℕ)
       (on_file : filed_under chosen.name machine.file ≡ Some problem) where
-    pub solving_refused : (refusal : Unselected) → IsNotMade problem (choice_of machine.cells chosen.options) refusal → (result : Result WalkStep NoMemory) →
-        IfOk result (Refuses machine old new card refusal) →
+    pub solving_refused : (found : Found) → IsUnchecked old found → (refusal : Unselected) → IsNotMade problem (choice_of machine.cells chosen.options) refusal →
+        (result : Result WalkStep NoMemory) → IfOk result (Refuses machine old new card refusal found) →
         IfOk result (Walks C (verb_of verb) card cards machine machine old new)
-    solving_refused =
-        refusal_walks C (verb_of verb) card (path_move verb card) (solving_move verb card) cards machine old new chosen is_setup problem on_file
-        (λ state present w lp. refl)
+    solving_refused found u =
+        refusal_walks C (verb_of verb) card (path_move verb card) (solving_move verb card) cards machine old new chosen is_setup problem on_file found
+        (λ refused. refused_walks C (verb_of verb) card (path_move verb card) (solving_move verb card) cards machine old new chosen is_setup problem on_file
+        (λ state present w lp. refl) refused found u)
 
     module _ (lp : LinearProgram) (made : IsMade problem (choice_of machine.cells chosen.options) lp) where
       found_walks : (after : Machine Chosen) (found : Found) →

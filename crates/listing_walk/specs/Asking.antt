@@ -2,6 +2,7 @@
 --     asked_turn C w question sheet go   what can't be attested comes first, and then the answer
 --     IsTaken                            an answer was taken, and the walk goes on with it from a walker that stands here
 --     Answered C question .. result      the answer was taken, or the walk ends
+--     IsRestHere place clears result     what is left where an answer is due, and what can't be attested comes first
 use Rattle.std.specs.Prelude.{◌≡◌, ℕ, Bool, true, false, List, Option, None, Some, Result, Ok, Err}
 use denote.Bor.{Bor}
 use Rattle.exact_values.specs.Rational.{ℚ}
@@ -26,6 +27,7 @@ use Rattle.listing_walk.specs.declared.walk_step.WalkStep.{WalkStep}
 use Rattle.listing_walk.specs.declared.walk_step.WalkStep.TheVariants as walk_step
 use Rattle.listing_walk.specs.Ended.{found_view}
 use Rattle.listing_walk.specs.Standing.{Faces}
+use Rattle.listing_walk.specs.Walking.{open_by}
 
 -- what stops an answer, where so much is left
 abbrev pub stopped_by : Stop → Bor (List ℕ) → Stopped
@@ -87,3 +89,9 @@ IsMarked mark end = ⊥
 -- nothing is asked of the answer
 abbrev pub IsAny : (question : Question) → Unit {0} → AnswerTo question → Type 0
 IsAny question nothing answer = Unit {0}
+
+-- nothing is open here, and this is left; or what is found is open
+abbrev pub IsRestHere : ListingPlace → Bool → Result (Bor (List ℕ)) Stopped → Type 0
+IsRestHere place clears (Ok rest) = (rest.now ≡ place.cursor) × ((w : walks.Walker) → Faces place w → None ≡ open_by true clears w)
+IsRestHere place clears (Err (Finds found)) = (w : walks.Walker) → Faces place w → Some (found_view found) ≡ open_by true clears w
+IsRestHere place clears (Err NoMemory) = ⊥

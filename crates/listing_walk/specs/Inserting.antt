@@ -4,7 +4,6 @@
 --     is_line_due .. deck rest     and the deck has no fault
 --     IsInstallDue place stands found   the line of INSERT is due here
 --     IsInstallRefused place due found  an operation of the selection is refused, where the line is due or isn't
---     RefusesInstall .. next_step       a selection is refused
 use Rattle.std.specs.Prelude.{◌≡◌, ℕ, ◌≤◌, Bool, false, ◌&&◌, List, [], Option, Some, None, is_ok, length, drop, option_map}
 use Rattle.std.specs.Option.{option_or}
 use Rattle.card_definitions.specs.Cards.{Card, live, numbered_cards, cards_between}
@@ -14,21 +13,12 @@ use Rattle.lp_definitions.specs.LinearProgram.{LinearProgram}
 use Rattle.problem_definitions.specs.Problem.{Problem}
 use Rattle.basis_deck_definitions.specs.Reading.{basis_reading}
 use Rattle.job_decks.specs.declared.deck.Deck.{Deck}
-use Rattle.run_machine.specs.declared.act.Act.TheVariants as acts
-use Rattle.run_machine.specs.declared.end.End.TheVariants as ends
-use Rattle.run_machine.specs.declared.machine.Machine.{Machine}
 use Rattle.walk_definitions.specs.Forms.{is_inserted}
 use Rattle.walk_definitions.specs.Walker as walks
-use Rattle.listing_walk.specs.declared.chosen.Chosen.{Chosen}
 use Rattle.listing_walk.specs.declared.found.Found.{Found}
 use Rattle.listing_walk.specs.declared.place.ListingPlace.{ListingPlace}
-use Rattle.listing_walk.specs.declared.selecting.Unselected.{Unselected}
-use Rattle.listing_walk.specs.declared.selecting.Unselected.TheVariants.{Fault, Unchecked, NoMemory}
-use Rattle.listing_walk.specs.declared.walk_step.WalkStep.{WalkStep}
-use Rattle.listing_walk.specs.declared.walk_step.WalkStep.TheVariants.{Finds}
 use Rattle.listing_walk.specs.Ended.{found_view}
 use Rattle.listing_walk.specs.Standing.{Faces}
-use Rattle.listing_walk.specs.Walking.{Passes}
 
 -- the numbers of a deck are those of cards, in order
 abbrev pub LiesWithin : List (List ℕ) → Deck → Type 0
@@ -57,12 +47,3 @@ IsInstallDue place stands found =
 abbrev pub IsInstallRefused : ListingPlace → Bool → Found → Type 0
 IsInstallRefused place due found =
     (w : walks.Walker) → Faces place w → walks.unless_found (open_install due w) (walks.Finds (walks.Unchecked w.rest)) ≡ walks.Finds (found_view found)
-
-abbrev pub FindsInstallRefused : ListingPlace → Bool → WalkStep → Type 0
-FindsInstallRefused place due (Finds found) = IsInstallRefused place due found
-FindsInstallRefused place due next_step = ⊥
-
-abbrev pub RefusesInstall : Machine Chosen → ListingPlace → ListingPlace → ℕ → Bool → Unselected → WalkStep → Type 0
-RefusesInstall machine old new card due (Fault fault) next_step = Passes machine old new (acts.Ends (ends.Verb fault card)) [] next_step
-RefusesInstall machine old new card due Unchecked next_step = FindsInstallRefused old due next_step
-RefusesInstall machine old new card due NoMemory next_step = ⊥

@@ -91,26 +91,11 @@ IsReported place stands made found =
     walks.unless_found (option_or (walks.open_stop w) (walks.open_if stands w))
     (walks.Finds (if made then walks.Wrong w.rest else walks.Unchecked w.rest)) ≡ walks.Finds (found_view found)
 
--- the walk ends so, where an operation is refused
-abbrev pub FindsUnchecked : ListingPlace → WalkStep → Type 0
-FindsUnchecked place (Finds found) = IsUnchecked place found
-FindsUnchecked place next_step = ⊥
-
--- what is refused, and why
-abbrev pub Refuses : Machine Chosen → ListingPlace → ListingPlace → ℕ → Unselected → WalkStep → Type 0
-Refuses machine old new card (Fault fault) next_step = Passes machine old new (acts.Ends (ends.Verb fault card)) [] next_step
-Refuses machine old new card Unchecked next_step = FindsUnchecked old next_step
-Refuses machine old new card NoMemory next_step = ⊥
-
-abbrev pub FindsReported : ListingPlace → Bool → WalkStep → Type 0
-FindsReported place stands (Finds found) = IsReported place stands false found
-FindsReported place stands next_step = ⊥
-
--- the same, where a report that can't be attested is due
-abbrev pub RefusesReport : Machine Chosen → ListingPlace → ListingPlace → ℕ → Bool → Unselected → WalkStep → Type 0
-RefusesReport machine old new card stands (Fault fault) next_step = Passes machine old new (acts.Ends (ends.Verb fault card)) [] next_step
-RefusesReport machine old new card stands Unchecked next_step = FindsReported old stands next_step
-RefusesReport machine old new card stands NoMemory next_step = ⊥
+-- what is refused, and why; the walk ends with what is found, where an operation of the selection is refused
+abbrev pub Refuses : Machine Chosen → ListingPlace → ListingPlace → ℕ → Unselected → Found → WalkStep → Type 0
+Refuses machine old new card (Fault fault) found next_step = Passes machine old new (acts.Ends (ends.Verb fault card)) [] next_step
+Refuses machine old new card Unchecked found next_step = next_step ≡ Finds found
+Refuses machine old new card NoMemory found next_step = ⊥
 
 -- the statement of a verb
 abbrev pub Walks : Checker → Verb ℕ → ℕ → List (List ℕ) → Machine Chosen → Machine Chosen → ListingPlace → ListingPlace → WalkStep → Type 0

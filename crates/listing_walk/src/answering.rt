@@ -11,7 +11,7 @@ ghost use Rattle.parametric_request.specs.Asking.{ServesChange};
 ghost use Rattle.listing_claims.specs.Asked.{parametric_run_of};
 ghost use Rattle.listing_answers.specs.Taken.{conclusion_of, IsParametricRunAnswer};
 ghost use Rattle.listing_walk.specs.Standing.{ShowsPending};
-ghost use Rattle.listing_walk.specs.Asking.{IsStopStep, stopped_by, is_optimal, SettlesBy, Answered, IsMarked, IsAny, IsSettling};
+ghost use Rattle.listing_walk.specs.Asking.{IsStopStep, stopped_by, is_optimal, SettlesBy, Answered, IsMarked, IsAny, IsSettling, IsRestHere};
 ghost use Rattle.walk_definitions.specs.Words.{max_count};
 
 use crate::found::Found;
@@ -91,6 +91,17 @@ fn pending_after<'a>(rest: &'a [u8], conclusion: &Conclusion<'a>) -> Option<Pend
     }
 }
 
+// What is left here, where an answer is due. What can't be attested comes first: a stop, and the verdict that is pending, if it has to be
+// settled.
+fn rest_here<'a>(place: &ListingPlace<'a>, clears: bool) -> Result<&'a [u8], Stopped<'a>>
+    ensures { IsRestHere place.now clears result }
+{
+    match place.open_here(true, clears) {
+        Some(found) => Err(Stopped::Finds(found)),
+        None => Ok(place.cursor.left()),
+    }
+}
+
 /// Takes the verdict of a solving verb. Gives its mark.
 pub fn answer_path<'a, T: Checks>(
     alloc: Global,
@@ -107,10 +118,7 @@ pub fn answer_path<'a, T: Checks>(
         (sheet_view sheet.entry) place.old place.new IsMarked result }
     ensures few { place.new.reports ≤ place.old.reports + 1 }
 {
-    if let Some(found) = place.open_here(true, true) {
-        return Err(Stopped::Finds(found));
-    }
-    let rest = place.cursor.left();
+    let rest = rest_here(place, true)?;
     match answer_to_path::<T>(alloc, &mut place.cursor, sheet, solver) {
         Ok(conclusion) => {
             place.pending = pending_after(rest, &conclusion);
@@ -163,10 +171,7 @@ pub fn answer_solution<'a, T: Checks>(
         (sheet_view sheet.entry) place.old place.new (IsAny (OfSolution mark)) result }
     ensures few { place.new.reports ≤ place.old.reports + 1 }
 {
-    if let Some(found) = place.open_here(true, false) {
-        return Err(Stopped::Finds(found));
-    }
-    let rest = place.cursor.left();
+    let rest = rest_here(place, false)?;
     match answer_to_solution::<T>(alloc, &mut place.cursor, sheet, mark) {
         Ok(objective) => {
             if !is_optimal(mark) {
@@ -211,10 +216,7 @@ pub fn answer_parametric_run<'a, T: Checks>(
         (sheet_view sheet.entry) place.old place.new IsParametricRunAnswer result }
     ensures few { place.new.reports ≤ place.old.reports + 1 }
 {
-    if let Some(found) = place.open_here(true, true) {
-        return Err(Stopped::Finds(found));
-    }
-    let rest = place.cursor.left();
+    let rest = rest_here(place, true)?;
     match answer_to_parametric_run::<T>(alloc, &mut place.cursor, sheet, request) {
         Ok(answer) => {
             place.pending = None;

@@ -99,23 +99,26 @@ pub fn fault<'a>(
     )
 }
 
-/// What is refused: the run ends with a verb fault, or an operation of a selection is refused.
+/// What is refused: the run ends with a verb fault; or with what is found here, where an operation of a selection is refused.
 pub fn refuse<'a>(
     alloc: Global,
     machine: &Machine<Chosen>,
     place: &mut ListingPlace<'a>,
     refusal: Unselected,
+    found: Found<'a>,
     card: u32,
 ) -> Result<WalkStep<'a>, NoMemory>
     requires { place.old.reports < max_count }
-    ensures refuses { IfOk result (Refuses machine.now place.old place.new card refusal) }
+    ensures refuses { IfOk result
+        (Refuses machine.now place.old place.new card refusal found.entry) }
     ensures held { (last : Option ℚ) →
-        IfOk result (Refuses (holding last machine.now) place.old place.new card refusal) }
+        IfOk result
+        (Refuses (holding last machine.now) place.old place.new card refusal found.entry) }
     ensures few { place.new.reports ≤ place.old.reports + 1 }
 {
     match refusal {
         Unselected::Fault(why) => fault(alloc, machine, place, why, card),
-        Unselected::Unchecked => Ok(WalkStep::Finds(place.unchecked())),
+        Unselected::Unchecked => Ok(WalkStep::Finds(found)),
         Unselected::NoMemory => Err(NoMemory),
     }
 }

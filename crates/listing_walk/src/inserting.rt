@@ -4,15 +4,15 @@ ghost use Rattle.control_definitions.specs.Program as program;
 ghost use Rattle.walk_definitions.specs.Checkers.{Checker};
 ghost use Rattle.listing_walk.specs.Standing.{IsSound};
 ghost use Rattle.listing_walk.specs.Walking.{Walks};
-ghost use Rattle.listing_walk.specs.Inserting.{is_line_of, is_line_due, LiesWithin, IsInstallDue, IsInstallRefused, RefusesInstall};
+ghost use Rattle.listing_walk.specs.Inserting.{is_line_of, is_line_due, LiesWithin, IsInstallDue, IsInstallRefused};
 ghost use Rattle.basis_deck_definitions.specs.Placings.{HasNames};
 ghost use Rattle.walk_definitions.specs.Words.{max_count};
 
 use crate::chosen::Chosen;
-use crate::follow::{fault, follow};
+use crate::follow::{fault, follow, refuse};
 use crate::found::Found;
 use crate::place::ListingPlace;
-use crate::selecting::{Unselected, select_present};
+use crate::selecting::select_present;
 use crate::walk_step::WalkStep;
 use basis_deck::read_basis;
 use card_reader::Cards;
@@ -92,27 +92,6 @@ fn install_refused<'a>(place: &ListingPlace<'a>, due: bool) -> Found<'a>
     place.unchecked()
 }
 
-// What is refused, where the line of INSERT is due or isn't.
-fn refuse_install<'a>(
-    alloc: Global,
-    machine: &Machine<Chosen>,
-    place: &mut ListingPlace<'a>,
-    refusal: Unselected,
-    due: bool,
-    card: u32,
-) -> Result<WalkStep<'a>, NoMemory>
-    requires { place.old.reports < max_count }
-    ensures refuses { IfOk result
-        (RefusesInstall machine.now place.old place.new card due refusal) }
-    ensures few { place.new.reports ≤ place.old.reports + 1 }
-{
-    match refusal {
-        Unselected::Fault(why) => fault(alloc, machine, place, why, card),
-        Unselected::Unchecked => Ok(WalkStep::Finds(install_refused(place, due))),
-        Unselected::NoMemory => Err(NoMemory),
-    }
-}
-
 /// INSERT. It needs a setup, selects again by the cells as they stand, takes a deck, and reads the basis that the deck stands for. The
 /// walk doesn't go past its report. Where an operation of the selection is refused, the deck is read by the linear program that was
 /// selected last: with the same options it has its limits at the same places.
@@ -142,7 +121,8 @@ pub fn insert<'a>(
         Err(refusal) => {
             let rest = place.cursor.left();
             let due = is_line_due(alloc, problem, &chosen.lp, cards, taken, rest)?;
-            return refuse_install(alloc, machine, place, refusal, due, card);
+            let found = install_refused(place, due);
+            return refuse(alloc, machine, place, refusal, found, card);
         }
     };
     let Some(deck) = taken else {

@@ -102,7 +102,10 @@ pub fn parametric_run<'a, T: Checks>(
     let problem = problem_on_file(&machine.file, &chosen.name);
     let lp = match select_present(alloc, problem, &machine.cells, chosen.options) {
         Ok(lp) => lp,
-        Err(refusal) => return refuse(alloc, machine, place, refusal, card),
+        Err(refusal) => {
+            let found = place.unchecked();
+            return refuse(alloc, machine, place, refusal, found, card);
+        }
     };
     let text = fraction(machine.cells.param());
     let from = first_value(last, text.as_str().as_bytes());

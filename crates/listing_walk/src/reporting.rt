@@ -3,14 +3,14 @@ ghost use Rattle.std.specs.Prelude.{◌≡◌, ◌+◌, ◌≤◌, ◌<◌, ℕ,
 ghost use Rattle.control_definitions.specs.Program as program;
 ghost use Rattle.walk_definitions.specs.Checkers.{Checker};
 ghost use Rattle.listing_walk.specs.Standing.{IsReady, IsSolved};
-ghost use Rattle.listing_walk.specs.Walking.{RefusesReport, Walks};
+ghost use Rattle.listing_walk.specs.Walking.{Walks};
 ghost use Rattle.walk_definitions.specs.Words.{max_count};
 
 use crate::answering::is_optimal;
 use crate::chosen::Chosen;
-use crate::follow::fault;
+use crate::follow::{fault, refuse};
 use crate::place::ListingPlace;
-use crate::selecting::{Unselected, select_present};
+use crate::selecting::select_present;
 use crate::walk_step::WalkStep;
 use job_devices::NoMemory;
 use listing_definitions::VerbFault;
@@ -48,27 +48,6 @@ pub fn show_ranges<'a>(
     Ok(WalkStep::Finds(place.reported_here(stands, true)))
 }
 
-// What is refused, where a report that can't be attested is due.
-fn refuse_report<'a>(
-    alloc: Global,
-    machine: &Machine<Chosen>,
-    place: &mut ListingPlace<'a>,
-    refusal: Unselected,
-    stands: bool,
-    card: u32,
-) -> Result<WalkStep<'a>, NoMemory>
-    requires { place.old.reports < max_count }
-    ensures refuses { IfOk result
-        (RefusesReport machine.now place.old place.new card stands refusal) }
-    ensures few { place.new.reports ≤ place.old.reports + 1 }
-{
-    match refusal {
-        Unselected::Fault(why) => fault(alloc, machine, place, why, card),
-        Unselected::Unchecked => Ok(WalkStep::Finds(place.reported_here(stands, false))),
-        Unselected::NoMemory => Err(NoMemory),
-    }
-}
-
 /// PUNCH. It needs a setup, and selects again by the cells as they stand.
 pub fn punch_basis<'a>(
     alloc: Global,
@@ -89,6 +68,9 @@ pub fn punch_basis<'a>(
     let stands = is_punched(place.cursor.left(), problem.name());
     match select_present(alloc, problem, &machine.cells, chosen.options) {
         Ok(_lp) => Ok(WalkStep::Finds(place.reported_here(stands, true))),
-        Err(refusal) => refuse_report(alloc, machine, place, refusal, stands, card),
+        Err(refusal) => {
+            let found = place.reported_here(stands, false);
+            refuse(alloc, machine, place, refusal, found, card)
+        }
     }
 }

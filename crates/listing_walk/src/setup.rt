@@ -12,7 +12,7 @@ ghost use Rattle.listing_walk.specs.Walking.{Walks};
 ghost use Rattle.walk_definitions.specs.Words.{max_count};
 
 use crate::chosen::{Chosen, Named};
-use crate::follow::{fault, follow};
+use crate::follow::{follow, refuse};
 use crate::place::ListingPlace;
 use crate::selecting::{Unselected, select_present};
 use crate::walk_step::WalkStep;
@@ -96,8 +96,9 @@ pub fn set_up<'a>(
             let text = set_up_text(alloc, name, options.sense)?;
             follow(alloc, machine, place, &Act::Next, text.bytes())
         }
-        Err(Unselected::Fault(refusal)) => fault(alloc, machine, place, refusal, card),
-        Err(Unselected::Unchecked) => Ok(WalkStep::Finds(place.unchecked())),
-        Err(Unselected::NoMemory) => Err(NoMemory),
+        Err(refusal) => {
+            let found = place.unchecked();
+            refuse(alloc, machine, place, refusal, found, card)
+        }
     }
 }

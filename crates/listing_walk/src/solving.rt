@@ -57,7 +57,10 @@ pub fn solve<'a, T: Checks>(
     let problem = problem_on_file(&machine.file, &chosen.name);
     let lp = match select_present(alloc, problem, &machine.cells, chosen.options) {
         Ok(lp) => lp,
-        Err(refusal) => return refuse(alloc, machine, place, refusal, card),
+        Err(refusal) => {
+            let found = place.unchecked();
+            return refuse(alloc, machine, place, refusal, found, card);
+        }
     };
     let sheet = Sheet { problem, lp: &lp };
     let mark = match answer_path::<T>(alloc, place, sheet, solver_of(verb)) {

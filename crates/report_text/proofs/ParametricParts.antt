@@ -14,10 +14,11 @@ use Rattle.listing_definitions.specs.declared.Solver.{Solver}
 use Rattle.listing_definitions.specs.Report.{Line, ParametricInterval, UnboundedPast, InfeasiblePast, Chain}
 use Rattle.listing_definitions.specs.Text.{solver_text, line_text, table_text, interval_text, chain_end_text, chain_text}
 use Rattle.listing_tables.specs.declared.sheet.Sheet.{Sheet}
-use Rattle.listing_tables.specs.declared.table.Table.TheVariants.{Parts}
-use Rattle.listing_tables.specs.Lines.{line_of, part_values}
+use Rattle.listing_tables.specs.declared.table.Table.TheVariants.{Multipliers, Pairs, Parts}
+use Rattle.listing_tables.specs.Lines.{line_of, part_values, pair_lines, ray_lines}
 use Rattle.listing_tables.specs.Tables.{line_view}
 use Rattle.report_text.specs.Parametric.{interval_view}
+use Rattle.report_text.proofs.Verdicts.{pair_texts, ray_texts}
 
 pub chain_parts : (by : Solver) (chain : Chain) →
     concat (solver_text by ∷ codes " FROM " ∷ rational_text chain.from ∷ codes " CHANGE " ∷ chain.change ∷ codes "\n" ∷ []) ++
@@ -30,14 +31,32 @@ pub interval_parts : (number : ℕ) (interval : ParametricInterval) →
 interval_parts number interval = simp (append_assoc, append-nil)
 
 -- the line of an end, and the lines after it
-pub unbounded_parts : (by : Solver) (past : ℚ) (lines : List Line) →
+unbounded_parts : (by : Solver) (past : ℚ) (lines : List Line) →
     concat (solver_text by ∷ codes " UNBOUNDED PAST " ∷ rational_text past ∷ codes "\n" ∷ []) ++ table_text lines ≡ chain_end_text by (UnboundedPast past lines)
 unbounded_parts by past lines = simp (append_assoc, append-nil)
 
-pub infeasible_parts : (by : Solver) (past : ℚ) (lines : List Line) →
+infeasible_parts : (by : Solver) (past : ℚ) (lines : List Line) →
     concat (solver_text by ∷ codes " INFEASIBLE PAST " ∷ rational_text past ∷ codes "\n" ∷ []) ++ table_text lines ≡ chain_end_text by
     (InfeasiblePast past lines)
 infeasible_parts by past lines = simp (append_assoc, append-nil)
+
+-- the same, with the lines of a table
+module _ (sheet : Sheet) (by : Solver) (past : ℚ) where
+  pub unbounded_text : (point direction : Bor (List ℚ)) →
+      concat (solver_text by ∷ codes " UNBOUNDED PAST " ∷ rational_text past ∷ codes "\n" ∷ []) ++
+      flat_map (line_view sheet (Pairs point direction)) (variables sheet.lp.now.matrix)
+      ≡ chain_end_text by (UnboundedPast past (pair_lines sheet.problem.now sheet.lp.now point.now direction.now))
+  unbounded_text point direction =
+      ap (λ w. concat (solver_text by ∷ codes " UNBOUNDED PAST " ∷ rational_text past ∷ codes "\n" ∷ []) ++ w) (pair_texts sheet point direction)
+      ∙ unbounded_parts by past (pair_lines sheet.problem.now sheet.lp.now point.now direction.now)
+
+  pub infeasible_text : (ray : Bor (List ℚ)) →
+      concat (solver_text by ∷ codes " INFEASIBLE PAST " ∷ rational_text past ∷ codes "\n" ∷ []) ++
+      flat_map (line_view sheet (Multipliers ray)) (variables sheet.lp.now.matrix)
+      ≡ chain_end_text by (InfeasiblePast past (ray_lines sheet.problem.now sheet.lp.now ray.now))
+  infeasible_text ray =
+      ap (λ w. concat (solver_text by ∷ codes " INFEASIBLE PAST " ∷ rational_text past ∷ codes "\n" ∷ []) ++ w) (ray_texts sheet ray)
+      ∙ infeasible_parts by past (ray_lines sheet.problem.now sheet.lp.now ray.now)
 
 -- a line for each variable
 pub part_table : (sheet : Sheet) (last : ℕ) → last ≡ size sheet.lp.now.matrix → (part : Bor ParaPart) →

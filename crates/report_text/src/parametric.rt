@@ -1,14 +1,13 @@
 // The text of a parametric run.
-ghost use Rattle.std.specs.Prelude.{◌≡◌, ◌+◌, ◌-◌, ◌++◌, ◌∷◌, [], codes, map};
+ghost use Rattle.std.specs.Prelude.{◌≡◌, ◌<◌, ◌≤◌, ◌+◌, ◌-◌, ◌++◌, ◌∷◌, ℕ, [], codes, map};
 ghost use Rattle.std.specs.List.{All, concat, flat_map, enumerate_from};
 ghost use Rattle.job_devices.specs.Text.{Writes};
 ghost use Rattle.listing_definitions.specs.Numbers.{digits, rational_text};
 ghost use Rattle.listing_definitions.specs.Report as reports;
 ghost use Rattle.listing_definitions.specs.Text.{solver_text, table_text, interval_text, chain_end_text, report_text};
-ghost use Rattle.listing_tables.specs.Lines.{pair_lines, ray_lines};
 ghost use Rattle.listing_tables.specs.Sheets.{IsSheet};
-ghost use Rattle.listing_tables.specs.Tables.{IsPart};
-ghost use Rattle.report_text.specs.Verdicts.{IsFull};
+ghost use Rattle.lp_definitions.specs.LinearProgram.{size, variables};
+ghost use Rattle.listing_tables.specs.Tables.{IsPart, HasLine, line_view};
 ghost use Rattle.report_text.specs.Parametric.{IsRunEnd, IsParametric, interval_view, end_view, chain_view};
 
 use frac128::Frac;
@@ -56,16 +55,15 @@ fn interval_digits(buffer: &mut Buffer, number: usize) -> &str
 fn put_interval_head<P: Sink>(
     print: &mut P,
     number: usize,
-    from: Frac,
-    to: Frac,
+    part: &ParaPart,
 ) -> Result<(), WriteStop>
     ensures { Writes (P.taken print.old) (P.taken print.new) result
-        (concat (codes "INTERVAL " ∷ digits number ∷ codes " FROM " ∷ rational_text from
-        ∷ codes " TO " ∷ rational_text to ∷ codes "\n" ∷ [])) }
+        (concat (codes "INTERVAL " ∷ digits number ∷ codes " FROM " ∷ rational_text part.now.from
+        ∷ codes " TO " ∷ rational_text part.now.to ∷ codes "\n" ∷ [])) }
 {
     let mut buffer = Buffer::new();
-    let low = fraction(from);
-    let high = fraction(to);
+    let low = fraction(part.from);
+    let high = fraction(part.to);
     put_each(
         print,
         &[
@@ -92,7 +90,7 @@ fn put_interval<P: Sink>(
     ensures { Writes (P.taken print.old) (P.taken print.new) result
         (interval_text (number, interval_view sheet.entry part.now)) }
 {
-    put_interval_head(print, number, part.from, part.to)?;
+    put_interval_head(print, number, part)?;
     let last = sheet.lp.number_of_variables();
     put_table(print, sheet, Table::Parts(part), 0, last)
 }
@@ -131,44 +129,23 @@ fn put_end_head<P: Sink>(
     )
 }
 
-// Past this value all is unbounded: the point and the direction of each variable.
-fn put_unbounded_past<P: Sink>(
+// Past this value all is unbounded or infeasible, as the lines of all variables show.
+fn put_past<P: Sink>(
     print: &mut P,
     by: Solver,
-    sheet: Sheet<'_>,
+    found: &'static [u8],
     past: Frac,
-    point: &[Frac],
-    direction: &[Frac],
-) -> Result<(), WriteStop>
-    requires is_sheet { IsSheet sheet }
-    requires is_point { IsFull sheet point.now }
-    requires is_direction { IsFull sheet direction.now }
-    ensures { Writes (P.taken print.old) (P.taken print.new) result
-        (chain_end_text by (reports.UnboundedPast past (pair_lines sheet.entry.problem.now
-        sheet.entry.lp.now point.now direction.now))) }
-{
-    put_end_head(print, by, b" UNBOUNDED PAST ", past)?;
-    let last = sheet.lp.number_of_variables();
-    put_table(print, sheet, Table::Pairs(point, direction), 0, last)
-}
-
-// Past this value all is infeasible: each multiplier that isn't 0.
-fn put_infeasible_past<P: Sink>(
-    print: &mut P,
-    by: Solver,
     sheet: Sheet<'_>,
-    past: Frac,
-    ray: &[Frac],
+    table: Table<'_>,
 ) -> Result<(), WriteStop>
-    requires is_sheet { IsSheet sheet }
-    requires is_ray { IsFull sheet ray.now }
+    requires { (k : ℕ) → 0 < k → k ≤ size sheet.lp.now.matrix → HasLine sheet table k }
     ensures { Writes (P.taken print.old) (P.taken print.new) result
-        (chain_end_text by (reports.InfeasiblePast past (ray_lines sheet.entry.problem.now
-        sheet.entry.lp.now ray.now))) }
+        (concat (solver_text by ∷ found.now ∷ rational_text past ∷ codes "\n" ∷ []) ++
+        flat_map (line_view sheet.entry table.entry) (variables sheet.entry.lp.now.matrix)) }
 {
-    put_end_head(print, by, b" INFEASIBLE PAST ", past)?;
+    put_end_head(print, by, found, past)?;
     let last = sheet.lp.number_of_variables();
-    put_table(print, sheet, Table::Multipliers(ray), 0, last)
+    put_table(print, sheet, table, 0, last)
 }
 
 // How the run ends.
@@ -189,9 +166,13 @@ fn put_run_end<P: Sink>(
             past,
             point,
             direction,
-        } => put_unbounded_past(print, by, sheet, *past, point.values(), direction.values()),
+        } => {
+            let pairs = Table::Pairs(point.values(), direction.values());
+            put_past(print, by, b" UNBOUNDED PAST ", *past, sheet, pairs)
+        }
         ParaEnd::Infeasible { past, ray } => {
-            put_infeasible_past(print, by, sheet, *past, ray.values())
+            let multipliers = Table::Multipliers(ray.values());
+            put_past(print, by, b" INFEASIBLE PAST ", *past, sheet, multipliers)
         }
     }
 }

@@ -26,14 +26,14 @@ is_line_due-requires-clause-names c =
 
 pub returns-in-Err-clause-walks : goal.returns-in-Err-clause-walks
 returns-in-Err-clause-walks c = λ C.
-    insert_refused C c.args.card c.args.cards.now c.args.machine.now c.args.place.now c.refuse_install.new.place c.in-Some.chosen c.in-Some.is
+    insert_refused C c.args.card c.args.cards.now c.args.machine.now c.args.place.now c.refuse.new.place c.in-Some.chosen c.in-Some.is
     c.problem_on_file-problem.result.now c.problem_on_file-problem.ensures c.take_deck-taken.result
     (taken_by c.args.cards.now c.args.machine.now c.name-wanted.result c.name-wanted.ensures c.take_deck-taken.result c.take_deck-taken.ensures.taken)
     (kept_of c.args.machine.now.file c.args.machine.now.setup c.in-Some.chosen c.in-Some.is c.requires.sound.ready c.problem_on_file-problem.result.now
     c.problem_on_file-problem.ensures) c.in_ok-due-in-Err.due
     (due_by c.problem_on_file-problem.result.now c.in-Some.chosen.lp c.args.cards.now c.args.place.now c.take_deck-taken.result c.left-rest.result.now
-    c.left-rest.ensures c.in_ok-due-in-Err.due c.in_ok-due-in-Err.ensures) c.in-Err.refusal c.in-Err.ensures.refused
-    c.refuse_install.result c.refuse_install.ensures.refuses
+    c.left-rest.ensures c.in_ok-due-in-Err.due c.in_ok-due-in-Err.ensures) c.install_refused-found.result
+    c.install_refused-found.ensures c.in-Err.refusal c.in-Err.ensures.refused c.refuse.result c.refuse.ensures.refuses
 
 pub returns-in_default-taken-clause-walks : goal.returns-in_default-taken-clause-walks
 returns-in_default-taken-clause-walks c = λ C.

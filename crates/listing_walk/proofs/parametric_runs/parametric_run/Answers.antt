@@ -24,8 +24,8 @@ returns-in_default-clause-walks g c = λ cards.
 pub returns-in-Err-clause-walks : goal.returns-in-Err-clause-walks
 returns-in-Err-clause-walks g c = λ cards.
     held_refused g.T.Checks.checker c.args.verb c.args.card cards c.args.machine.now c.args.place.now c.refuse.new.place c.in-Some.chosen c.in-Some.is
-    c.problem_on_file-problem.result.now c.problem_on_file-problem.ensures c.args.last.now c.in-Err.refusal
-    c.in-Err.ensures.refused c.refuse.result (c.refuse.ensures.held c.args.last.now)
+    c.problem_on_file-problem.result.now c.problem_on_file-problem.ensures c.args.last.now c.unchecked-found.result
+    c.unchecked-found.ensures c.in-Err.refusal c.in-Err.ensures.refused c.refuse.result (c.refuse.ensures.held c.args.last.now)
 
 pub first_value-from-requires : goal.first_value-from-requires
 first_value-from-requires g c = (c.param.result, c.as_bytes.ensures.value ∙ c.as_str.ensures.value ∙ c.fraction-text.ensures)

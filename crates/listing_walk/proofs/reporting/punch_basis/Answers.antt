@@ -22,9 +22,10 @@ returns-in-Ok-clause-walks c = λ C cards.
 
 pub returns-in-Err-clause-walks : goal.returns-in-Err-clause-walks
 returns-in-Err-clause-walks c = λ C cards.
-    punch_refused C c.args.card cards c.args.machine.now c.args.place.now c.refuse_report.new.place c.in-Some.chosen c.in-Some.is
+    punch_refused C c.args.card cards c.args.machine.now c.args.place.now c.refuse.new.place c.in-Some.chosen c.in-Some.is
     c.problem_on_file-problem.result.now
     c.problem_on_file-problem.ensures c.is_punched-stands.result
     (c.is_punched-stands.ensures
     ∙ (λ i. is_punched (c.name.ensures.name i)
-    (c.left.ensures i))) c.in-Err.refusal c.in-Err.ensures.refused c.refuse_report.result c.refuse_report.ensures.refuses
+    (c.left.ensures i))) c.reported_here-found.result c.reported_here-found.ensures c.in-Err.refusal
+    c.in-Err.ensures.refused c.refuse.result c.refuse.ensures.refuses

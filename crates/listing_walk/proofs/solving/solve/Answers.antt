@@ -22,7 +22,7 @@ returns-in_default-clause-walks g c =
 pub returns-in-Err-clause-walks : goal.returns-in-Err-clause-walks
 returns-in-Err-clause-walks g c = λ cards.
     solving_refused g.T.Checks.checker c.args.verb c.args.card cards c.args.machine.now c.args.place.now c.refuse.new.place c.in-Some.chosen c.in-Some.is
-    c.problem_on_file-problem.result.now c.problem_on_file-problem.ensures c.in-Err.refusal
+    c.problem_on_file-problem.result.now c.problem_on_file-problem.ensures c.unchecked-found.result c.unchecked-found.ensures c.in-Err.refusal
     c.in-Err.ensures.refused c.refuse.result c.refuse.ensures.refuses
 
 pub answer_path-requires-clause-sheet : goal.answer_path-requires-clause-sheet
