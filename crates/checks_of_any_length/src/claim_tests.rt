@@ -8,7 +8,7 @@ ghost use Rattle.listing_words.specs.Read.{sheet_view};
 ghost use Rattle.listing_claims.specs.Asked.{IsAskedOf};
 ghost use Rattle.listing_claims.specs.Claims.{Fits, claim_test, opening_test};
 ghost use Rattle.long_vectors.specs.Vectors.{IsValue};
-ghost use Rattle.long_programs.specs.Programs.{program_of, IsChangeIn, IsPlain};
+ghost use Rattle.long_programs.specs.Programs.{program_of, IsPlain};
 ghost use Rattle.long_solutions.specs.Answers.{Answers};
 ghost use Rattle.long_solutions.specs.Lines.{IsNumber};
 
@@ -17,41 +17,40 @@ use crate::rays::ray_holds;
 use listing_claims::{AskedRun, Claim};
 use listing_tables::Sheet;
 use listing_words::Allowance;
-use long_programs::{ProgramAt, as_it_is, change_at, own_theta};
+use long_programs::{AtTheta, ProgramAt, as_it_is, change_at, own_theta};
 use long_rays::limits_cross;
-use long_vectors::{Value, value_of};
+use long_vectors::value_of;
 use lp_model::Lp;
 use std::alloc::{AllocError, Global};
 
 // Whether a claim of the linear program at theta passes. An optimal one is tested where SOLUTION shows it.
 fn claim_holds(
     alloc: Global,
-    at: &ProgramAt<'_>,
-    theta: &Value,
+    at: &AtTheta<'_>,
     claim: &Claim<'_>,
     allowance: &mut Allowance,
 ) -> Result<bool, AllocError>
-    requires change { IsChangeIn at.now.lp.now at.now.change }
-    requires plain { IsPlain at.now.lp.now at.now.change }
-    requires number { IsNumber theta.now }
-    requires fits { Fits at.now.lp.now claim.now }
+    requires plain { IsPlain at.now.program.lp.now at.now.program.change }
+    requires number { IsNumber at.now.theta.now }
+    requires fits { Fits at.now.program.lp.now claim.now }
     ensures { IfOk result
-        (λ holds. (x : ℚ) → IsValue x theta.now →
+        (λ holds. (x : ℚ) → IsValue x at.now.theta.now →
         Answers holds
-        (claim_test checker_of_any_length (program_of at.now.lp.now at.now.change x) claim.now)) }
+        (claim_test checker_of_any_length
+        (program_of at.now.program.lp.now at.now.program.change x) claim.now)) }
 {
     match claim {
         Claim::Optimal(_) => Ok(true),
         Claim::Crossed(k) => {
-            let crosses = limits_cross(at.lp, *k);
+            let crosses = limits_cross(at.program.lp, *k);
             Ok(crosses)
         }
         Claim::Infeasible(ray) => {
-            let shown = ray_holds(alloc, at, theta, ray, allowance)?;
+            let shown = ray_holds(alloc, at, ray, allowance)?;
             Ok(shown)
         }
         Claim::Unbounded(objective, pair) => {
-            let goes_on = pair_holds(alloc, at, theta, objective, pair, allowance)?;
+            let goes_on = pair_holds(alloc, at, objective, pair, allowance)?;
             Ok(goes_on)
         }
     }
@@ -68,9 +67,12 @@ pub fn own_claim_holds(
     ensures { IfOk result
         (λ holds. Answers holds (claim_test checker_of_any_length lp.now claim.now)) }
 {
-    let at = as_it_is(lp);
     let theta = own_theta(alloc, lp)?;
-    let holds = claim_holds(alloc, &at, &theta, claim, allowance)?;
+    let at = AtTheta {
+        program: as_it_is(lp),
+        theta: &theta,
+    };
+    let holds = claim_holds(alloc, &at, claim, allowance)?;
     Ok(holds)
 }
 
@@ -90,11 +92,15 @@ pub fn opening_holds(
         (changing_of request.now.name request.now.change)
         request.now.from claim.now)) }
 {
-    let at = ProgramAt {
+    let program = ProgramAt {
         lp: sheet.lp,
         change: change_at(&request.change),
     };
     let theta = value_of(alloc, &request.from)?;
-    let holds = claim_holds(alloc, &at, &theta, claim, allowance)?;
+    let at = AtTheta {
+        program,
+        theta: &theta,
+    };
+    let holds = claim_holds(alloc, &at, claim, allowance)?;
     Ok(holds)
 }

@@ -10,15 +10,15 @@ ghost use Rattle.listing_claims.specs.Claims.{IsPairOf, pair_test};
 ghost use Rattle.walk_definitions.specs.Checkers.{checker_of_any_length};
 ghost use Rattle.walk_definitions.specs.Tests.{unbounded_past};
 ghost use Rattle.long_vectors.specs.Vectors.{IsOver, IsValue};
-ghost use Rattle.long_programs.specs.Programs.{program_of, IsChangeIn, IsPlain};
+ghost use Rattle.long_programs.specs.Programs.{program_of, IsPlain};
 ghost use Rattle.long_solutions.specs.Answers.{Answers};
 ghost use Rattle.long_solutions.specs.Lines.{IsNumber};
 ghost use Rattle.checks_of_any_length.specs.Orders.{improves_past};
 
 use listing_claims::Pair;
 use listing_words::{Allowance, Number};
-use long_points::{both, counted, equations_hold, feasible, sign_of, take_spread, take_sums};
-use long_programs::{ChangeAt, ProgramAt, spread_by, top_of};
+use long_points::{both, counted_sign, equations_hold, feasible, take_spread, take_sums};
+use long_programs::{AtTheta, ChangeAt, ProgramAt, SpreadAt, spread_by};
 use long_rays::{direction_is_free, is_value_of, objective_order};
 use long_solutions::is_at_most;
 use long_vectors::{Column, Value, column_of, value_of};
@@ -26,25 +26,20 @@ use lp_model::Lp;
 use std::alloc::{AllocError, Global};
 
 // Whether a direction keeps the equations and the limits, and improves the objective at theta.
-fn direction_holds(
-    alloc: Global,
-    at: &ProgramAt<'_>,
-    theta: &Value,
-    direction: &Column,
-) -> Result<bool, AllocError>
-    requires change { IsChangeIn at.now.lp.now at.now.change }
-    requires plain { IsPlain at.now.lp.now at.now.change }
-    requires places { length direction.now.tops.items ≡ size at.now.lp.now.matrix }
+fn direction_holds(alloc: Global, at: &AtTheta<'_>, direction: &Column) -> Result<bool, AllocError>
+    requires plain { IsPlain at.now.program.lp.now at.now.program.change }
+    requires places { length direction.now.tops.items ≡ size at.now.program.lp.now.matrix }
     ensures { IfOk result
-        (λ holds. (x : ℚ) → (d : List ℚ) → IsValue x theta.now → IsOver d direction.now →
+        (λ holds. (x : ℚ) → (d : List ℚ) → IsValue x at.now.theta.now → IsOver d direction.now →
         IsTrue holds ↔ AllHold
-        (equations (program_of at.now.lp.now at.now.change x) 3 (value_at d) ++
-        (free_direction (program_of at.now.lp.now at.now.change x) (value_at d)
-        ++ improving (program_of at.now.lp.now at.now.change x) (value_at d)))) }
+        (equations (program_of at.now.program.lp.now at.now.program.change x) 3 (value_at d) ++
+        (free_direction (program_of at.now.program.lp.now at.now.program.change x) (value_at d)
+        ++ improving (program_of at.now.program.lp.now at.now.program.change x) (value_at d)))) }
 {
-    let keeps = equations_hold(alloc, at.lp, direction)?;
-    let free = direction_is_free(alloc, at.lp, direction);
-    let order = objective_order(alloc, at, direction, theta)?;
+    let lp = at.program.lp;
+    let keeps = equations_hold(alloc, lp, direction)?;
+    let free = direction_is_free(alloc, lp, direction);
+    let order = objective_order(alloc, at, direction)?;
     let improves = order.is_lt();
     let rest = both(free, improves);
     Ok(both(keeps, rest))
@@ -53,51 +48,53 @@ fn direction_holds(
 // Whether a point is feasible at theta.
 fn point_holds(
     alloc: Global,
-    at: &ProgramAt<'_>,
-    theta: &Value,
+    at: &AtTheta<'_>,
     column: &Column,
     allowance: &mut Allowance,
 ) -> Result<bool, AllocError>
-    requires change { IsChangeIn at.now.lp.now at.now.change }
-    requires number { IsNumber theta.now }
-    requires point { (z : List ℚ) × IsOver z column.now × (length z ≡ size at.now.lp.now.matrix) }
+    requires number { IsNumber at.now.theta.now }
+    requires point { (z : List ℚ) × IsOver z column.now ×
+        (length z ≡ size at.now.program.lp.now.matrix) }
     ensures { IfOk result
-        (λ holds. (x : ℚ) → (z : List ℚ) → IsValue x theta.now → IsOver z column.now →
+        (λ holds. (x : ℚ) → (z : List ℚ) → IsValue x at.now.theta.now → IsOver z column.now →
         IsTrue holds ↔ AllHold
-        (feasible_point (program_of at.now.lp.now at.now.change x) (value_at z))) }
+        (feasible_point (program_of at.now.program.lp.now at.now.program.change x) (value_at z))) }
 {
-    let point = spread_by(alloc, theta, column, allowance)?;
-    take_spread(allowance, at.lp, &point)?;
-    let holds = feasible(alloc, at, &point)?;
+    let program = at.program;
+    let spread = spread_by(alloc, at.theta, column, allowance)?;
+    take_spread(allowance, program.lp, &spread)?;
+    let point = SpreadAt {
+        program,
+        spread: &spread,
+    };
+    let holds = feasible(alloc, &point)?;
     Ok(holds)
 }
 
 /// Whether a point with this objective and a direction show that there is no best point at theta.
 pub fn pair_holds(
     alloc: Global,
-    at: &ProgramAt<'_>,
-    theta: &Value,
+    at: &AtTheta<'_>,
     objective: &Number<'_>,
     pair: &Pair<'_>,
     allowance: &mut Allowance,
 ) -> Result<bool, AllocError>
-    requires change { IsChangeIn at.now.lp.now at.now.change }
-    requires plain { IsPlain at.now.lp.now at.now.change }
-    requires number { IsNumber theta.now }
-    requires pair { IsPairOf at.now.lp.now pair.now }
-    ensures { IfOk result (λ holds. (x : ℚ) → IsValue x theta.now →
+    requires plain { IsPlain at.now.program.lp.now at.now.program.change }
+    requires number { IsNumber at.now.theta.now }
+    requires pair { IsPairOf at.now.program.lp.now pair.now }
+    ensures { IfOk result (λ holds. (x : ℚ) → IsValue x at.now.theta.now →
         Answers holds
         (pair_test checker_of_any_length
-        (program_of at.now.lp.now at.now.change x) objective.now pair.now)) }
+        (program_of at.now.program.lp.now at.now.program.change x) objective.now pair.now)) }
 {
-    let lp = at.lp;
+    let lp = at.program.lp;
     let _size = lp.number_of_variables();
     let own = value_of(alloc, objective)?;
     let point = column_of(alloc, &pair.point, allowance)?;
     let direction = column_of(alloc, &pair.direction, allowance)?;
     take_sums(allowance, lp, &direction)?;
-    let begins = point_holds(alloc, at, theta, &point, allowance)?;
-    let goes_on = direction_holds(alloc, at, theta, &direction)?;
+    let begins = point_holds(alloc, at, &point, allowance)?;
+    let goes_on = direction_holds(alloc, at, &direction)?;
     let is_value = is_value_of(alloc, &own, &point, lp.objective)?;
     let proof = both(begins, goes_on);
     Ok(both(proof, is_value))
@@ -118,12 +115,13 @@ fn past_improves(
         holds ≡ improves_past lp.now row x (value_at d)) }
 {
     let _size = lp.number_of_variables();
-    let at = ProgramAt {
+    let program = ProgramAt {
         lp,
         change: ChangeAt::Row(row),
     };
-    let order = objective_order(alloc, &at, direction, theta)?;
-    let slope = counted(lp.sense, sign_of(alloc, top_of(direction, row)));
+    let at = AtTheta { program, theta };
+    let order = objective_order(alloc, &at, direction)?;
+    let slope = counted_sign(alloc, lp, direction, row);
     let stays = is_at_most(order);
     let improves = slope.is_lt();
     Ok(both(stays, improves))
@@ -148,14 +146,15 @@ pub fn past_pair_holds(
         (record { problem = problem; lp = lp.now }) changing row x (value_at pair.now.point.items)
         (value_at pair.now.direction.items))) }
 {
-    let at = ProgramAt {
+    let program = ProgramAt {
         lp,
         change: ChangeAt::Unchanged,
     };
+    let at = AtTheta { program, theta };
     let point = column_of(alloc, &pair.point, allowance)?;
     let direction = column_of(alloc, &pair.direction, allowance)?;
     take_sums(allowance, lp, &direction)?;
-    let begins = point_holds(alloc, &at, theta, &point, allowance)?;
+    let begins = point_holds(alloc, &at, &point, allowance)?;
     let keeps = equations_hold(alloc, lp, &direction)?;
     let free = direction_is_free(alloc, lp, &direction);
     let improves = past_improves(alloc, lp, row, theta, &direction)?;

@@ -11,9 +11,7 @@ use Rattle.check_definitions.specs.Checks.{row_products, equation, equations, en
 use Rattle.check_definitions.specs.Checks.{standing_price}
 use Rattle.long_programs.specs.declared.programs.ChangeAt.{ChangeAt}
 use Rattle.long_programs.specs.declared.programs.ChangeAt.TheVariants.{Unchanged, Row, Set}
-use Rattle.long_programs.specs.declared.spreads.Spread.{Spread}
 use Rattle.long_programs.specs.Programs.{program_of}
-use Rattle.long_programs.specs.Places.{IsPlace, IsSpread}
 use Rattle.long_programs.proofs.Moves.{matrix_at}
 use Rattle.long_programs.proofs.Compared.{compare_scaled}
 use Rattle.problem_definitions.specs.Problem.{Problem}
@@ -23,11 +21,6 @@ use Rattle.long_points.specs.Tests.{equation_test, limit_test, cost_test, price_
 use Rattle.long_points.specs.Ends.{Points, kept_steps, keeping_test}
 use Rattle.long_points.proofs.Holds.{Reads, append_hold, sums_hold, change_holds}
 use Rattle.check_definitions.proofs.Holding.{hold-append, last_holds}
-
--- one value of a vector
-pub place_of : (values : List ℚ) (theta : ℚ) (spread : Spread) (k : ℕ) (top : ℤ) → IsSpread values theta spread →
-    whole top ≡ value_at values k *ℚ whole spread.column.bottom → IsPlace (value_at values k) theta top spread.column.bottom spread.moved
-place_of values theta spread k top is is_top = record { positive = is.is_over.positive; is = is_top; moves = is.moves }
 
 -- a number that compares with 0 as its whole number does
 pub sign_over : (x d t : ℚ) → zero_ℚ <ℚ d → t ≡ x *ℚ d → compare_ℚ t zero_ℚ ≡ compare_ℚ x zero_ℚ

@@ -9,7 +9,7 @@ use Rattle.lp_definitions.specs.LinearProgram.{LinearProgram, value_at}
 use Rattle.check_definitions.specs.Steps.{Step}
 use Rattle.walk_definitions.specs.Tests.{keeps_limit}
 use Rattle.long_programs.specs.Places.{IsSpread}
-use Rattle.long_points.specs.declared.keeping.End.{End}
+use Rattle.long_points.specs.declared.ends.End.{End}
 use Rattle.long_points.specs.Tests.{keep_test}
 
 pub record Points : Type 0 where

@@ -1,2 +1,4 @@
 pub mod Tests
 pub mod Ends
+pub mod Places
+pub mod Told

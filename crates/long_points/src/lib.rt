@@ -3,16 +3,22 @@
 #![tactic(auto)]
 
 mod each;
+mod ends;
 mod keeping;
 mod limits;
+mod priced_at;
 mod prices;
 mod rows;
 mod slacks;
 mod work;
 
 pub use each::each_holds;
-pub use keeping::{End, all_prices_keep};
-pub use limits::{asked_by, both, counted, feasible, limits_hold, optimal, prices_stand, sign_of};
+pub use ends::{End, Ends};
+pub use keeping::all_prices_keep;
+pub use limits::{
+    asked_by, both, counted, counted_sign, feasible, limits_hold, optimal, prices_stand, sign_of,
+};
+pub use priced_at::PricedAt;
 pub use prices::{column_sum, reduced_costs_hold};
 pub use rows::{column_top, equations_hold};
 pub use slacks::slacks_hold;

@@ -1,14 +1,13 @@
 // A linear program at a value of the parameter.
-ghost use Rattle.std.specs.Prelude.{◌≡◌, ℕ, IfOk, OnOk};
-ghost use Rattle.exact_values.specs.Rational.{ℚ, whole, zero_ℚ, compare_ℚ, ◌+ℚ◌, ◌-ℚ◌, ◌*ℚ◌};
-ghost use Rattle.lp_definitions.specs.LinearProgram.{LinearProgram, IsColumn, IsVariable, lower_of, upper_of, on_row, entry, cost};
+ghost use Rattle.std.specs.Prelude.{◌≡◌, ℕ, OnOk};
+ghost use Rattle.exact_values.specs.Rational.{ℚ, whole, ◌-ℚ◌, ◌*ℚ◌};
+ghost use Rattle.lp_definitions.specs.LinearProgram.{LinearProgram, IsColumn, IsVariable, on_row, cost};
 ghost use Rattle.problem_definitions.specs.Names.{Name};
 ghost use Rattle.problem_definitions.specs.Problem.{Problem};
 ghost use Rattle.question_definitions.specs.Answers.{Sheet as Views};
 ghost use Rattle.answer_definitions.specs.ParametricRuns.{family_of};
 ghost use Rattle.parametric_request.specs.Asking.{ServesChange, changing_of};
-ghost use Rattle.long_programs.specs.Programs.{program_of, IsChangeIn, IsPlain, shift_at, rate_at, order_to};
-ghost use Rattle.long_programs.specs.Places.{IsPlace};
+ghost use Rattle.long_programs.specs.Programs.{program_of, IsChangeIn, IsPlain, shift_at, rate_at};
 
 use exact_sums::Sum;
 use frac128::Frac;
@@ -17,7 +16,6 @@ use lp_definitions::Entry;
 use lp_model::Lp;
 use parametric_request::Change;
 use std::alloc::{AllocError, Global};
-use std::cmp::Ordering;
 
 /// What changes in a linear program along a parametric run.
 #[derive(Clone, Copy)]
@@ -52,26 +50,6 @@ pub fn change_at(change: &Change) -> ChangeAt<'_>
     }
 }
 
-// How a number compares with a limit to which theta times its shift is added.
-fn compare_with(
-    alloc: Global,
-    limit: Frac,
-    shift: Frac,
-    top: &Integer,
-    bottom: &Integer,
-    moved: &Integer,
-) -> Result<Ordering, AllocError>
-    ensures { IfOk result
-        (λ order. (x theta : ℚ) → IsPlace x theta top.now bottom.now moved.now →
-        order ≡ compare_ℚ x (limit +ℚ theta *ℚ shift)) }
-{
-    let mut sum = Sum::zero(alloc)?;
-    sum.add(alloc, Frac::whole(1), top)?;
-    sum.add(alloc, limit.neg(), bottom)?;
-    sum.add(alloc, shift.neg(), moved)?;
-    Ok(sum.sign())
-}
-
 /// What is added to the limits of variable `k` for each unit of theta.
 pub fn shift_at(at: &ProgramAt<'_>, k: u32) -> Frac
     requires variable { IsVariable at.now.lp.now.matrix k }
@@ -82,54 +60,6 @@ pub fn shift_at(at: &ProgramAt<'_>, k: u32) -> Frac
     match at.change {
         ChangeAt::Set(shift) if k <= lp.rows => shift[k as usize - 1],
         _ => Frac::whole(0),
-    }
-}
-
-/// How a number compares with the lower limit of variable `k` at theta, if there is one.
-pub fn compare_to_lower(
-    alloc: Global,
-    at: &ProgramAt<'_>,
-    k: u32,
-    top: &Integer,
-    bottom: &Integer,
-    moved: &Integer,
-) -> Result<Option<Ordering>, AllocError>
-    requires variable { IsVariable at.now.lp.now.matrix k }
-    requires change { IsChangeIn at.now.lp.now at.now.change }
-    ensures { IfOk result (λ order. (x theta : ℚ) → IsPlace x theta top.now bottom.now moved.now →
-        order ≡ order_to (lower_of (program_of at.now.lp.now at.now.change theta) k) x) }
-{
-    let lp = at.lp;
-    match lp.lower_limit(k) {
-        Some(limit) => {
-            let order = compare_with(alloc, limit, shift_at(at, k), top, bottom, moved)?;
-            Ok(Some(order))
-        }
-        None => Ok(None),
-    }
-}
-
-/// How a number compares with the upper limit of variable `k` at theta, if there is one.
-pub fn compare_to_upper(
-    alloc: Global,
-    at: &ProgramAt<'_>,
-    k: u32,
-    top: &Integer,
-    bottom: &Integer,
-    moved: &Integer,
-) -> Result<Option<Ordering>, AllocError>
-    requires variable { IsVariable at.now.lp.now.matrix k }
-    requires change { IsChangeIn at.now.lp.now at.now.change }
-    ensures { IfOk result (λ order. (x theta : ℚ) → IsPlace x theta top.now bottom.now moved.now →
-        order ≡ order_to (upper_of (program_of at.now.lp.now at.now.change theta) k) x) }
-{
-    let lp = at.lp;
-    match lp.upper_limit(k) {
-        Some(limit) => {
-            let order = compare_with(alloc, limit, shift_at(at, k), top, bottom, moved)?;
-            Ok(Some(order))
-        }
-        None => Ok(None),
     }
 }
 

@@ -3,14 +3,14 @@ ghost use Rattle.std.specs.Prelude.{◌≡◌, List, IfOk, true, is_some, option
 ghost use Rattle.exact_values.specs.Rational.{ℚ, whole, zero_ℚ, ◌+ℚ◌, ◌*ℚ◌};
 ghost use Rattle.lp_definitions.specs.LinearProgram.{IsVariable, size, value_at};
 ghost use Rattle.long_vectors.specs.Vectors.{IsOver, IsValue};
-ghost use Rattle.long_programs.specs.Programs.{program_of, IsChangeIn};
+ghost use Rattle.long_programs.specs.Programs.{program_of};
 ghost use Rattle.long_rays.specs.Tests.{limit_by, IsMet, SumsTo};
 
 use exact_sums::Sum;
 use frac128::Frac;
 use integers::Integer;
 use long_points::sign_of;
-use long_programs::{ProgramAt, shift_at, top_of};
+use long_programs::{AtTheta, shift_at, top_of};
 use long_vectors::{Column, Value};
 use std::alloc::{AllocError, Global};
 use std::cmp::Ordering;
@@ -54,47 +54,44 @@ fn limit_by(sign: Ordering, lower: Option<Frac>, upper: Option<Frac>) -> Option<
 fn add_met(
     alloc: Global,
     sum: &mut Sum,
-    at: &ProgramAt<'_>,
+    at: &AtTheta<'_>,
     ray: &Column,
-    theta: &Value,
     k: u32,
 ) -> Result<bool, AllocError>
-    requires variable { IsVariable at.now.lp.now.matrix k }
-    requires change { IsChangeIn at.now.lp.now at.now.change }
-    requires places { length ray.now.tops.items ≡ size at.now.lp.now.matrix }
-    ensures { IfOk result (λ met. (w : List ℚ) → (x : ℚ) → IsOver w ray.now → IsValue x theta.now →
-        IsMet (program_of at.now.lp.now at.now.change x) (value_at w) k met sum.old sum.new
-        (whole ray.now.bottom *ℚ whole theta.now.bottom)) }
+    requires variable { IsVariable at.now.program.lp.now.matrix k }
+    requires places { length ray.now.tops.items ≡ size at.now.program.lp.now.matrix }
+    ensures { IfOk result
+        (λ met. (w : List ℚ) → (x : ℚ) → IsOver w ray.now → IsValue x at.now.theta.now →
+        IsMet (program_of at.now.program.lp.now at.now.program.change x) (value_at w) k met sum.old sum.new
+        (whole ray.now.bottom *ℚ whole at.now.theta.now.bottom)) }
 {
     let top = top_of(ray, k);
     let sign = sign_of(alloc, top);
     if sign.is_eq() {
         return Ok(true);
     }
-    let lp = at.lp;
+    let lp = at.program.lp;
     let limit = limit_by(sign, lp.lower_limit(k), lp.upper_limit(k));
-    let shift = shift_at(at, k);
-    let met = add_limit(alloc, sum, limit, shift, top, theta)?;
+    let shift = shift_at(&at.program, k);
+    let met = add_limit(alloc, sum, limit, shift, top, at.theta)?;
     Ok(met)
 }
 
 /// How the multipliers, each times the limit at theta that it meets, add up as against 0, if each that isn't 0 meets a limit.
 pub fn limits_order(
     alloc: Global,
-    at: &ProgramAt<'_>,
+    at: &AtTheta<'_>,
     ray: &Column,
-    theta: &Value,
 ) -> Result<Option<Ordering>, AllocError>
-    requires change { IsChangeIn at.now.lp.now at.now.change }
-    requires places { length ray.now.tops.items ≡ size at.now.lp.now.matrix }
+    requires { length ray.now.tops.items ≡ size at.now.program.lp.now.matrix }
     ensures { IfOk result
-        (λ order. (w : List ℚ) → (x : ℚ) → IsOver w ray.now → IsValue x theta.now →
-        SumsTo (program_of at.now.lp.now at.now.change x) (value_at w) order) }
+        (λ order. (w : List ℚ) → (x : ℚ) → IsOver w ray.now → IsValue x at.now.theta.now →
+        SumsTo (program_of at.now.program.lp.now at.now.program.change x) (value_at w) order) }
 {
-    let lp = at.lp;
+    let lp = at.program.lp;
     let mut sum = Sum::zero(alloc)?;
     for i in 0..lp.number_of_variables() {
-        let met = add_met(alloc, &mut sum, at, ray, theta, i + 1)?;
+        let met = add_met(alloc, &mut sum, at, ray, i + 1)?;
         if !met {
             return Ok(None);
         }

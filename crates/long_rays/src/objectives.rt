@@ -8,14 +8,14 @@ ghost use Rattle.question_definitions.specs.Answers.{Changing};
 ghost use Rattle.check_definitions.specs.Steps.{sum_of};
 ghost use Rattle.walk_definitions.specs.Tests.{shift_products};
 ghost use Rattle.long_vectors.specs.Vectors.{IsOver, IsValue};
-ghost use Rattle.long_programs.specs.Programs.{program_of, IsChangeIn, IsPlain};
+ghost use Rattle.long_programs.specs.Programs.{program_of, IsPlain};
 ghost use Rattle.long_rays.specs.Tests.{change_value};
 
 use exact_sums::Sum;
 use frac128::Frac;
 use integers::Integer;
 use long_points::counted;
-use long_programs::{ChangeAt, ProgramAt, top_of};
+use long_programs::{AtTheta, ChangeAt, top_of};
 use long_vectors::{Column, Value};
 use lp_model::Lp;
 use std::alloc::{AllocError, Global};
@@ -43,22 +43,20 @@ fn add_value(
 fn add_change(
     alloc: Global,
     sum: &mut Sum,
-    at: &ProgramAt<'_>,
+    at: &AtTheta<'_>,
     direction: &Column,
-    theta: &Value,
 ) -> Result<(), AllocError>
-    requires change { IsChangeIn at.now.lp.now at.now.change }
-    requires places { length direction.now.tops.items ≡ size at.now.lp.now.matrix }
+    requires { length direction.now.tops.items ≡ size at.now.program.lp.now.matrix }
     ensures { IfOk result
-        (λ done. (d : List ℚ) → (x : ℚ) → IsOver d direction.now → IsValue x theta.now →
-        sum.new ≡ sum.old +ℚ x *ℚ change_value at.now.change (value_at d) *ℚ
-        (whole direction.now.bottom *ℚ whole theta.now.bottom)) }
+        (λ done. (d : List ℚ) → (x : ℚ) → IsOver d direction.now → IsValue x at.now.theta.now →
+        sum.new ≡ sum.old +ℚ x *ℚ change_value at.now.program.change (value_at d) *ℚ
+        (whole direction.now.bottom *ℚ whole at.now.theta.now.bottom)) }
 {
-    let lp = at.lp;
+    let lp = at.program.lp;
     let _size = lp.number_of_variables();
-    match at.change {
+    match at.program.change {
         ChangeAt::Row(row) => {
-            add_value(alloc, sum, direction, row, &theta.top)?;
+            add_value(alloc, sum, direction, row, &at.theta.top)?;
             Ok(())
         }
         ChangeAt::Unchanged => Ok(()),
@@ -69,24 +67,23 @@ fn add_change(
 /// How the objective of a direction at theta compares with 0, as it counts where less is better.
 pub fn objective_order(
     alloc: Global,
-    at: &ProgramAt<'_>,
+    at: &AtTheta<'_>,
     direction: &Column,
-    theta: &Value,
 ) -> Result<Ordering, AllocError>
-    requires change { IsChangeIn at.now.lp.now at.now.change }
-    requires plain { IsPlain at.now.lp.now at.now.change }
-    requires places { length direction.now.tops.items ≡ size at.now.lp.now.matrix }
+    requires plain { IsPlain at.now.program.lp.now at.now.program.change }
+    requires places { length direction.now.tops.items ≡ size at.now.program.lp.now.matrix }
     ensures { IfOk result
-        (λ order. (d : List ℚ) → (x : ℚ) → IsOver d direction.now → IsValue x theta.now →
+        (λ order. (d : List ℚ) → (x : ℚ) → IsOver d direction.now → IsValue x at.now.theta.now →
         order ≡ compare_ℚ
-        (for_min at.now.lp.now.sense
-        (objective_value (program_of at.now.lp.now at.now.change x) (value_at d))) zero_ℚ) }
+        (for_min at.now.program.lp.now.sense
+        (objective_value (program_of at.now.program.lp.now at.now.program.change x) (value_at d)))
+        zero_ℚ) }
 {
-    let lp = at.lp;
+    let lp = at.program.lp;
     let _size = lp.number_of_variables();
     let mut sum = Sum::zero(alloc)?;
-    add_value(alloc, &mut sum, direction, lp.objective, &theta.bottom)?;
-    add_change(alloc, &mut sum, at, direction, theta)?;
+    add_value(alloc, &mut sum, direction, lp.objective, &at.theta.bottom)?;
+    add_change(alloc, &mut sum, at, direction)?;
     Ok(counted(lp.sense, sum.sign()))
 }
 

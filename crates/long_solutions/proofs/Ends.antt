@@ -18,7 +18,8 @@ use Rattle.listing_claims.specs.Intervals.{AreCounted}
 use Rattle.long_vectors.specs.Vectors.{list_along}
 use Rattle.long_programs.specs.declared.programs.ChangeAt.{ChangeAt}
 use Rattle.long_programs.specs.Programs.{program_of}
-use Rattle.long_points.specs.declared.keeping.End.{End}
+use Rattle.long_points.specs.declared.ends.End.{End}
+use Rattle.long_points.specs.Places.{HasPlaces}
 use Rattle.long_points.specs.Ends.{IsEnd, kept_steps}
 use Rattle.long_points.proofs.Holds.{append_hold, sums_hold}
 use Rattle.long_solutions.specs.Answers.{Answers}
@@ -47,10 +48,12 @@ length-list_along x (v ∷ vs) (r ∷ rs) e = ap suc (length-list_along x vs rs 
 -- ---- how many there are
 
 pub end_places : (theta : ℚ) (columns : Columns) (p : LinearProgram) → AreCounted p columns → (end : End) → IsEnd (points_at theta columns) theta end →
-    (length end.point.column.tops.items ≡ size p.matrix) × (length end.prices.column.tops.items ≡ size p.matrix)
+    HasPlaces p end
 end_places theta columns p counted end is = (
-  is.point.is_over.counted ∙ length-list_along theta columns.value.items columns.value_rate.items (counted.value ∙ sym counted.value_rate) ∙ counted.value,
-  is.prices.is_over.counted ∙ length-list_along theta columns.price.items columns.price_rate.items (counted.price ∙ sym counted.price_rate) ∙ counted.price,
+  is.point.is_over.counted ∙ length-list_along theta columns.value.items columns.value_rate.items (counted.value ∙ sym counted.value_rate)
+      ∙ counted.value,
+  is.prices.is_over.counted ∙ length-list_along theta columns.price.items columns.price_rate.items (counted.price ∙ sym counted.price_rate)
+      ∙ counted.price,
 )
 
 -- ---- steps that are operations alone

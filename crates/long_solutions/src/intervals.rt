@@ -21,7 +21,7 @@ use crate::values::{compare_values, compare_with_fraction, is_at_most};
 use listing_claims::{AskedRun, Columns, Part};
 use listing_tables::Sheet;
 use listing_words::{Allowance, Number};
-use long_points::{End, all_prices_keep, both, check_sums, optimal, take_spread};
+use long_points::{End, Ends, all_prices_keep, both, check_sums, optimal, take_spread};
 use long_programs::{ProgramAt, Spread, change_at, spread_by};
 use long_vectors::{Column, Value, along, column_of, value_of};
 use lp_model::Lp;
@@ -180,11 +180,16 @@ fn ends_hold(
 {
     let start = end_at(alloc, from, &lines, allowance)?;
     take_end(allowance, at.lp, &start)?;
-    let begins = optimal(alloc, at, &start.point, &start.prices)?;
+    let begins = optimal(alloc, at, &start)?;
     let end = last_end(alloc, to, lines, allowance)?;
     take_end(allowance, at.lp, &end)?;
-    let closes = optimal(alloc, at, &end.point, &end.prices)?;
-    let keeps = all_prices_keep(alloc, at, &start, &end)?;
+    let closes = optimal(alloc, at, &end)?;
+    let ends = Ends {
+        program: *at,
+        start: &start,
+        end: &end,
+    };
+    let keeps = all_prices_keep(alloc, &ends)?;
     let rest = both(closes, keeps);
     Ok(both(begins, rest))
 }

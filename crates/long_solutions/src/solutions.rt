@@ -16,9 +16,10 @@ use listing_claims::Printed;
 use listing_definitions::Mark;
 use listing_words::{Allowance, Number};
 use long_points::{
-    both, equations_hold, limits_hold, prices_stand, reduced_costs_hold, slacks_hold, take_spread,
+    PricedAt, both, equations_hold, limits_hold, prices_stand, reduced_costs_hold, slacks_hold,
+    take_spread,
 };
-use long_programs::{Spread, as_it_is, spread_own};
+use long_programs::{Spread, SpreadAt, as_it_is, spread_own};
 use long_vectors::column_of;
 use lp_model::Lp;
 use std::alloc::{AllocError, Global};
@@ -47,9 +48,16 @@ fn best_holds(
 {
     match mark {
         Mark::Optimal => {
-            let at = as_it_is(lp);
-            let within = limits_hold(alloc, &at, point)?;
-            let stand = prices_stand(alloc, &at, point, &prices.column)?;
+            let at = SpreadAt {
+                program: as_it_is(lp),
+                spread: point,
+            };
+            let within = limits_hold(alloc, &at)?;
+            let priced = PricedAt {
+                point: at,
+                prices: &prices.column,
+            };
+            let stand = prices_stand(alloc, &priced)?;
             let feasible = both(keeps, within);
             let are_prices = both(priced, stand);
             Ok(both(feasible, are_prices))
@@ -78,9 +86,12 @@ fn values_hold(
         (printed_test checker_of_any_length (record { problem = problem; lp = lp.now }) mark
         (value_at values) (value_at costs) (value_at slacks.now))) }
 {
-    let at = as_it_is(lp);
+    let at = SpreadAt {
+        program: as_it_is(lp),
+        spread: prices,
+    };
     let keeps = equations_hold(alloc, lp, &point.column)?;
-    let priced = reduced_costs_hold(alloc, &at, prices)?;
+    let priced = reduced_costs_hold(alloc, &at)?;
     let slack = slacks_hold(alloc, lp, &point.column, slacks)?;
     let best = best_holds(alloc, lp, mark, point, prices, keeps, priced)?;
     let last = both(slack, best);

@@ -14,13 +14,13 @@ use Rattle.checks_of_any_length.proofs.claim_tests.claim_holds.Goals as goal
 
 pub returns-in-Crossed : goal.returns-in-Crossed
 returns-in-Crossed c = λ x is.
-    let q = program_of c.args.at.now.lp.now c.args.at.now.change x in
+    let q = program_of c.args.at.now.program.lp.now c.args.at.now.program.change x in
     subst (λ (claim : Claim). Answers c.limits_cross-crosses.result (claim_test checker_of_any_length q claim)) (sym c.in-Crossed.is)
-    (crossed_shown q _ c.limits_cross-crosses.result (c.limits_cross-crosses.ensures c.args.at.now.change x))
+    (crossed_shown q _ c.limits_cross-crosses.result (c.limits_cross-crosses.ensures c.args.at.now.program.change x))
 
 pub returns-in_ok-shown-in-Infeasible : goal.returns-in_ok-shown-in-Infeasible
 returns-in_ok-shown-in-Infeasible c = λ x is.
-    let q = program_of c.args.at.now.lp.now c.args.at.now.change x in
+    let q = program_of c.args.at.now.program.lp.now c.args.at.now.program.change x in
     let shown = c.in_ok-shown-in-Infeasible.shown in
     subst (λ (claim : Claim). Answers shown (claim_test checker_of_any_length q claim)) (sym c.in-Infeasible.is)
     (subst (λ (w : List ℚ). Answers shown (verdict_by of_any_length (infeasible_steps q (value_at w)))) c.deref.ensures.value
@@ -28,6 +28,6 @@ returns-in_ok-shown-in-Infeasible c = λ x is.
 
 pub returns-in_ok-goes_on-in-Unbounded : goal.returns-in_ok-goes_on-in-Unbounded
 returns-in_ok-goes_on-in-Unbounded c = λ x is.
-    let q = program_of c.args.at.now.lp.now c.args.at.now.change x in
+    let q = program_of c.args.at.now.program.lp.now c.args.at.now.program.change x in
     subst (λ (claim : Claim). Answers c.in_ok-goes_on-in-Unbounded.goes_on (claim_test checker_of_any_length q claim)) (sym c.in-Unbounded.is)
     (c.in_ok-goes_on-in-Unbounded.ensures x is)

@@ -4,8 +4,8 @@ use Rattle.long_programs.specs.Programs.{program_of}
 use Rattle.checks_of_any_length.proofs.Claiming.{opening_shown}
 use Rattle.checks_of_any_length.proofs.claim_tests.opening_holds.Goals as goal
 
-pub claim_holds-requires-clause-change : goal.claim_holds-requires-clause-change
-claim_holds-requires-clause-change c = c.change_at.ensures.change c.args.sheet.problem.now c.args.sheet.lp.now c.args.request.now.name c.requires.asked.serves
+pub invariant_of-at-clause-change : goal.invariant_of-at-clause-change
+invariant_of-at-clause-change c = c.change_at.ensures.change c.args.sheet.problem.now c.args.sheet.lp.now c.args.request.now.name c.requires.asked.serves
 
 pub claim_holds-requires-clause-number : goal.claim_holds-requires-clause-number
 claim_holds-requires-clause-number c = record { number = c.args.request.now.from; is = c.in_ok-theta.ensures }

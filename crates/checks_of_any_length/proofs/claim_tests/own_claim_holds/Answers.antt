@@ -12,7 +12,7 @@ claim_holds-requires-clause-number c = record { number = own_theta c.args.lp.now
 pub returns : goal.returns
 returns c =
     let p = c.args.lp.now in
-    let at = c.as_it_is-at.result in
-    let same = (λ i. program_of (c.as_it_is-at.ensures.program i) at.change (own_theta p)) ∙ c.as_it_is-at.ensures.same in
+    let at = c.as_it_is.result in
+    let same = (λ i. program_of (c.as_it_is.ensures.program i) at.change (own_theta p)) ∙ c.as_it_is.ensures.same in
     subst (λ (q : LinearProgram). Answers c.in_ok-holds.holds (claim_test checker_of_any_length q c.args.claim.now)) same
     (c.in_ok-holds.ensures (own_theta p) c.in_ok-theta.ensures)

@@ -13,8 +13,8 @@ use Rattle.checks_of_any_length.proofs.directions.direction_holds.Goals as goal
 
 pub returns : goal.returns
 returns c = λ x d is over.
-    let p = c.args.at.now.lp.now in
-    let change = c.args.at.now.change in
+    let p = c.args.at.now.program.lp.now in
+    let change = c.args.at.now.program.change in
     let q = program_of p change x in
     let v = value_at d in
     let keeps = c.in_ok-keeps.keeps in

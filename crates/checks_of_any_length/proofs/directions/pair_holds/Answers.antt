@@ -16,8 +16,8 @@ direction_holds-requires-clause-places c = c.in_ok-direction.ensures.counted ∙
 
 pub returns : goal.returns
 returns c = λ x is.
-    let p = c.args.at.now.lp.now in
-    let change = c.args.at.now.change in
+    let p = c.args.at.now.program.lp.now in
+    let change = c.args.at.now.program.change in
     let q = program_of p change x in
     let pair = c.args.pair.now in
     let objective = c.args.objective.now in

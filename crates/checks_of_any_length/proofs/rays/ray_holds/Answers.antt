@@ -8,8 +8,8 @@ use Rattle.checks_of_any_length.proofs.rays.ray_holds.Goals as goal
 
 pub returns : goal.returns
 returns c = λ x is.
-    let p = c.args.at.now.lp.now in
-    let change = c.args.at.now.change in
+    let p = c.args.at.now.program.lp.now in
+    let change = c.args.at.now.program.change in
     let w = value_at c.args.ray.now in
     let over = c.in_ok-column.ensures in
     let vanishes = c.in_ok-vanishes.vanishes in

@@ -10,8 +10,8 @@ use Rattle.long_points.proofs.limits.feasible.Goals as goal
 
 pub returns : goal.returns
 returns c = λ values theta is.
-    let p = c.args.at.now.lp.now in
-    let change = c.args.at.now.change in
+    let p = c.args.point.now.program.lp.now in
+    let change = c.args.point.now.program.change in
     let q = program_of p change theta in
     let z = value_at values in
     subst (λ (b : Bool). IsTrue b ↔ AllHold (feasible_point q z)) (sym c.both.ensures)

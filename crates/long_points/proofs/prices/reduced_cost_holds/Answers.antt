@@ -14,18 +14,18 @@ use Rattle.long_points.proofs.prices.reduced_cost_holds.Goals as goal
 
 pub column_sum-requires : goal.column_sum-requires
 column_sum-requires c =
-    rows_within c.args.at.now.lp.now c.number_of_variables-size.ensures.lawful.is_matrix c.args.j c.requires.column
-    (length c.args.prices.now.column.tops.items) c.requires.places c.column.result.now c.column.ensures
+    rows_within c.args.prices.now.program.lp.now c.number_of_variables-size.ensures.lawful.is_matrix c.args.j c.requires.column
+    (length c.args.prices.now.spread.now.column.tops.items) c.args.prices.now.places c.column.result.now c.column.ensures
 
 pub returns : goal.returns
 returns c = λ values theta is.
-    let p = c.args.at.now.lp.now in
-    let change = c.args.at.now.change in
+    let p = c.args.prices.now.program.lp.now in
+    let change = c.args.prices.now.program.change in
     let y = value_at values in
     let total = sum_of zero_ℚ (column_products p y c.args.j) in
     let price = y (p.rows + c.args.j) in
     let worth = cost (program_of p change theta) c.args.j in
-    let d = whole c.args.prices.now.column.bottom in
+    let d = whole c.args.prices.now.spread.now.column.bottom in
     c.is_eq.ensures
     ∙ ap is_equal
     (c.sign.ensures

@@ -9,5 +9,5 @@ use Rattle.long_rays.proofs.limits.limits_order.Given as goal
 -- the multipliers so far meet limits, and the products are added up
 abbrev pub invariant-loop-i : goal.invariant-loop-i
 invariant-loop-i l =
-    (w : List ℚ) → (x : ℚ) → IsOver w l.ray → IsValue x l.theta →
-    IsSoFar (program_of l.at.lp.now l.at.change x) (value_at w) l.i l.sum (whole l.ray.bottom *ℚ whole l.theta.bottom)
+    (w : List ℚ) → (x : ℚ) → IsOver w l.ray → IsValue x l.at.theta.now →
+    IsSoFar (program_of l.at.program.lp.now l.at.program.change x) (value_at w) l.i l.sum (whole l.ray.bottom *ℚ whole l.at.theta.now.bottom)

@@ -8,50 +8,26 @@ use Rattle.long_solutions.proofs.intervals.ends_hold.Goals as goal
 pub optimal-requires-clause-places : goal.optimal-requires-clause-places
 optimal-requires-clause-places c =
     let lines = c.requires.lines in
-    (end_places c.requires.from.number lines.columns c.args.at.now.lp.now lines.counted c.in_ok-start.start
-    (c.in_ok-start.ensures c.requires.from.number lines.columns c.requires.from.is lines.over)).0
-
-pub optimal-requires-clause-price_places : goal.optimal-requires-clause-price_places
-optimal-requires-clause-price_places c =
-    let lines = c.requires.lines in
-    (end_places c.requires.from.number lines.columns c.args.at.now.lp.now lines.counted c.in_ok-start.start
-    (c.in_ok-start.ensures c.requires.from.number lines.columns c.requires.from.is lines.over)).1
+    end_places c.requires.from.number lines.columns c.args.at.now.lp.now lines.counted c.in_ok-start.start
+    (c.in_ok-start.ensures c.requires.from.number lines.columns c.requires.from.is lines.over)
 
 pub optimal-requires-2-clause-places : goal.optimal-requires-2-clause-places
 optimal-requires-2-clause-places c =
     let lines = c.requires.lines in
-    (end_places c.requires.to.number lines.columns c.args.at.now.lp.now lines.counted c.in_ok-end.end
-    (c.in_ok-end.ensures c.requires.to.number lines.columns c.requires.to.is lines.over)).0
+    end_places c.requires.to.number lines.columns c.args.at.now.lp.now lines.counted c.in_ok-end.end
+    (c.in_ok-end.ensures c.requires.to.number lines.columns c.requires.to.is lines.over)
 
-pub optimal-requires-2-clause-price_places : goal.optimal-requires-2-clause-price_places
-optimal-requires-2-clause-price_places c =
+pub invariant_of-ends-clause-start_places : goal.invariant_of-ends-clause-start_places
+invariant_of-ends-clause-start_places c =
     let lines = c.requires.lines in
-    (end_places c.requires.to.number lines.columns c.args.at.now.lp.now lines.counted c.in_ok-end.end
-    (c.in_ok-end.ensures c.requires.to.number lines.columns c.requires.to.is lines.over)).1
+    end_places c.requires.from.number lines.columns c.args.at.now.lp.now lines.counted c.in_ok-start.start
+    (c.in_ok-start.ensures c.requires.from.number lines.columns c.requires.from.is lines.over)
 
-pub all_prices_keep-requires-clause-start_places : goal.all_prices_keep-requires-clause-start_places
-all_prices_keep-requires-clause-start_places c =
+pub invariant_of-ends-clause-end_places : goal.invariant_of-ends-clause-end_places
+invariant_of-ends-clause-end_places c =
     let lines = c.requires.lines in
-    (end_places c.requires.from.number lines.columns c.args.at.now.lp.now lines.counted c.in_ok-start.start
-    (c.in_ok-start.ensures c.requires.from.number lines.columns c.requires.from.is lines.over)).0
-
-pub all_prices_keep-requires-clause-end_places : goal.all_prices_keep-requires-clause-end_places
-all_prices_keep-requires-clause-end_places c =
-    let lines = c.requires.lines in
-    (end_places c.requires.to.number lines.columns c.args.at.now.lp.now lines.counted c.in_ok-end.end
-    (c.in_ok-end.ensures c.requires.to.number lines.columns c.requires.to.is lines.over)).0
-
-pub all_prices_keep-requires-clause-start_prices : goal.all_prices_keep-requires-clause-start_prices
-all_prices_keep-requires-clause-start_prices c =
-    let lines = c.requires.lines in
-    (end_places c.requires.from.number lines.columns c.args.at.now.lp.now lines.counted c.in_ok-start.start
-    (c.in_ok-start.ensures c.requires.from.number lines.columns c.requires.from.is lines.over)).1
-
-pub all_prices_keep-requires-clause-end_prices : goal.all_prices_keep-requires-clause-end_prices
-all_prices_keep-requires-clause-end_prices c =
-    let lines = c.requires.lines in
-    (end_places c.requires.to.number lines.columns c.args.at.now.lp.now lines.counted c.in_ok-end.end
-    (c.in_ok-end.ensures c.requires.to.number lines.columns c.requires.to.is lines.over)).1
+    end_places c.requires.to.number lines.columns c.args.at.now.lp.now lines.counted c.in_ok-end.end
+    (c.in_ok-end.ensures c.requires.to.number lines.columns c.requires.to.is lines.over)
 
 pub returns : goal.returns
 returns c = λ sheet changing first last columns family counted is also over.
@@ -62,5 +38,5 @@ returns c = λ sheet changing first last columns family counted is also over.
     let other = points_at last columns in
     subst (λ (b : Bool). Answers b (ends_verdict sheet changing first last columns)) (sym (c.both.ensures ∙ ap (λ b. begins && b) c.both-rest.ensures))
     (ends_answer sheet changing c.args.at.now.lp.now c.args.at.now.change family columns counted first last begins c.in_ok-closes.closes c.in_ok-keeps.keeps
-    (c.in_ok-begins.ensures point.point point.prices first start.point start.prices) (c.in_ok-closes.ensures other.point other.prices last end.point end.prices)
+    (c.in_ok-begins.ensures point first start) (c.in_ok-closes.ensures other last end)
     (c.in_ok-keeps.ensures point other first last start end))

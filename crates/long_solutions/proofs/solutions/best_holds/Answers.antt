@@ -10,9 +10,9 @@ use Rattle.long_solutions.proofs.solutions.best_holds.Goals as goal
 pub returns-in_ok-stand-in-Optimal : goal.returns-in_ok-stand-in-Optimal
 returns-in_ok-stand-in-Optimal c = λ problem values costs is also keeping pricing.
     let p = c.args.lp.now in
-    let at = c.as_it_is-at.result in
+    let at = c.as_it_is.result in
     let own = own_theta p in
-    let same = (λ i. program_of (c.as_it_is-at.ensures.program i) at.change own) ∙ c.as_it_is-at.ensures.same in
+    let same = (λ i. program_of (c.as_it_is.ensures.program i) at.change own) ∙ c.as_it_is.ensures.same in
     let within = c.in_ok-within-in-Optimal.within in
     let stand = c.in_ok-stand-in-Optimal.stand in
     best_answers (record { problem = problem; lp = p }) c.args.mark (value_at values)

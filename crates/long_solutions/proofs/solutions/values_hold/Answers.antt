@@ -10,9 +10,9 @@ use Rattle.long_solutions.proofs.solutions.values_hold.Goals as goal
 pub returns : goal.returns
 returns c = λ problem values costs is also.
     let p = c.args.lp.now in
-    let at = c.as_it_is-at.result in
+    let at = c.as_it_is.result in
     let own = own_theta p in
-    let same = (λ i. program_of (c.as_it_is-at.ensures.program i) at.change own) ∙ c.as_it_is-at.ensures.same in
+    let same = (λ i. program_of (c.as_it_is.ensures.program i) at.change own) ∙ c.as_it_is.ensures.same in
     let keeps = c.in_ok-keeps.keeps in
     let priced = c.in_ok-priced.priced in
     let keeping = c.in_ok-keeps.ensures values is.is_over 1 in
