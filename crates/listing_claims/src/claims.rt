@@ -1,6 +1,7 @@
 // Claims and numbers, as the listing has them.
 
 use frac128::{Frac, Refused};
+use listing_tables::Sheet;
 use listing_words::Number;
 use lp_model::NoMemory;
 use name_table::Name;
@@ -53,6 +54,13 @@ pub struct AskedRun<'a> {
     pub to: Frac,
 }
 
+/// A parametric run, and the sheet of which it is asked for.
+#[derive(Clone, Copy)]
+pub struct SheetRun<'a, 'b> {
+    pub sheet: Sheet<'a>,
+    pub request: &'a AskedRun<'b>,
+}
+
 /// A point, and a direction in which it goes on.
 #[derive(Drop)]
 pub struct Pair<'a> {
@@ -95,6 +103,14 @@ pub struct Columns<'a> {
 pub struct Part<'a> {
     pub to: Number<'a>,
     pub columns: Columns<'a>,
+}
+
+/// An interval in its place: whether it is the first of its run, where it begins, and the rest of it.
+#[derive(Clone, Copy)]
+pub struct PlacedPart<'a, 'b> {
+    pub is_first: bool,
+    pub from: &'a Number<'b>,
+    pub part: &'a Part<'b>,
 }
 
 /// How a parametric run closes, with the numbers that are to prove it.

@@ -6,4 +6,6 @@ mod checks;
 mod claims;
 
 pub use checks::{By, Checks, number_by};
-pub use claims::{AskedRun, Claim, Closing, Columns, Pair, Part, Printed, Stop};
+pub use claims::{
+    AskedRun, Claim, Closing, Columns, Pair, Part, PlacedPart, Printed, SheetRun, Stop,
+};
