@@ -7,7 +7,7 @@ use crate::fractions::{fraction, fractions};
 use crate::interval_tests::{check_interval, interval_of};
 use crate::solution_tests::check_values;
 use frac128::Frac;
-use listing_claims::{AskedRun, Checks, Claim, Closing, Part, Printed, Stop};
+use listing_claims::{AskedRun, Checks, Claim, Closing, Part, Printed, SheetRun, Stop};
 use listing_definitions::Mark;
 use listing_tables::Sheet;
 use listing_words::{Allowance, Number, fraction_in};
@@ -62,7 +62,7 @@ impl Checks for Of128Bits {
         _allowance: &mut Allowance,
     ) -> Result<(), Stop> {
         let from = fraction(&request.from)?;
-        check_claim_at(alloc, sheet, request, from, claim)
+        check_claim_at(alloc, &SheetRun { sheet, request }, from, claim)
     }
 
     fn test_solution(
@@ -88,7 +88,7 @@ impl Checks for Of128Bits {
         _allowance: &mut Allowance,
     ) -> Result<(), Stop> {
         let interval = interval_of(alloc, from, part)?;
-        check_interval(alloc, sheet, request, is_first, &interval)
+        check_interval(alloc, &SheetRun { sheet, request }, is_first, &interval)
     }
 
     fn test_close(
@@ -99,15 +99,12 @@ impl Checks for Of128Bits {
         closing: &Closing<'_>,
         _allowance: &mut Allowance,
     ) -> Result<(), Stop> {
+        let run = SheetRun { sheet, request };
         let last = fraction(last)?;
         match closing {
             Closing::At(value) => close_at(value, last, request.to),
-            Closing::Unbounded(value, pair) => {
-                close_unbounded(alloc, sheet, request, last, value, pair)
-            }
-            Closing::Infeasible(value, ray) => {
-                close_infeasible(alloc, sheet, request, last, value, ray)
-            }
+            Closing::Unbounded(value, pair) => close_unbounded(alloc, &run, last, value, pair),
+            Closing::Infeasible(value, ray) => close_infeasible(alloc, &run, last, value, ray),
         }
     }
 }

@@ -2,10 +2,8 @@
 ghost use Rattle.std.specs.Prelude.{◌≡◌, length};
 ghost use Rattle.lp_definitions.specs.LinearProgram.{size, value_at};
 ghost use Rattle.check_definitions.specs.Checks.{infeasible_check};
-ghost use Rattle.parametric_request.specs.Asking.{changing_of};
 ghost use Rattle.walk_definitions.specs.Checkers.{checker_of_128_bits};
-ghost use Rattle.listing_words.specs.Read.{sheet_view};
-ghost use Rattle.listing_claims.specs.Asked.{IsAskedOf};
+ghost use Rattle.listing_claims.specs.Asked.{IsAskedOf, sheet_of, changing_in};
 ghost use Rattle.listing_claims.specs.Claims.{IsPairOf, Fits, pair_test, claim_test, opening_test};
 ghost use Rattle.listing_claims.specs.Passing.{Judges};
 ghost use Rattle.checks_of_128_bits.specs.Fractions.{HasPair, pair_verdict};
@@ -15,8 +13,8 @@ use crate::fractions::{FractionPair, fraction, fractions, pair_of};
 use crate::judging::{asked, both, judge};
 use certificate_check::{Verdict, check_crossed, check_infeasible, check_unbounded, is_equal};
 use frac128::Frac;
-use listing_claims::{AskedRun, Claim, Pair, Stop};
-use listing_tables::{Sheet, objective_of};
+use listing_claims::{Claim, Pair, SheetRun, Stop};
+use listing_tables::objective_of;
 use listing_words::Number;
 use lp_model::Lp;
 use std::alloc::Global;
@@ -68,18 +66,16 @@ pub fn check_claim(alloc: Global, lp: &Lp, claim: &Claim<'_>) -> Result<(), Stop
 /// A claim of the linear program at a value, which is made for it.
 pub fn check_claim_at(
     alloc: Global,
-    sheet: Sheet<'_>,
-    request: &AskedRun<'_>,
+    run: &SheetRun<'_, '_>,
     theta: Frac,
     claim: &Claim<'_>,
 ) -> Result<(), Stop>
-    requires asked { IsAskedOf sheet request.now }
-    requires fits { Fits sheet.lp.now claim.now }
+    requires asked { IsAskedOf run.now.sheet run.now.request.now }
+    requires fits { Fits run.now.sheet.lp.now claim.now }
     ensures { Judges
-        (opening_test checker_of_128_bits (sheet_view sheet.entry)
-        (changing_of request.now.name request.now.change)
+        (opening_test checker_of_128_bits (sheet_of run.now) (changing_in run.now)
         theta claim.now) result }
 {
-    let program = program_at(alloc, sheet, request, theta)?;
+    let program = program_at(alloc, run, theta)?;
     check_claim(alloc, &program, claim)
 }

@@ -6,11 +6,11 @@ ghost use Rattle.lp_definitions.specs.LinearProgram.{IsRow, IsVariable, size, va
 ghost use Rattle.check_definitions.specs.Steps.{comparison, verdict_of, in_turn, sum_steps, sum_of};
 ghost use Rattle.check_definitions.specs.Checks.{limit_product, ray_limits, multiplied, multiplied_among};
 ghost use Rattle.question_definitions.specs.Answers.{Changing};
-ghost use Rattle.parametric_request.specs.Asking.{ServesChange, changing_of};
+ghost use Rattle.parametric_request.specs.Asking.{ServesChange};
 ghost use Rattle.walk_definitions.specs.Checkers.{checker_of_128_bits};
 ghost use Rattle.walk_definitions.specs.Tests.{asked, past_test, unbounded_past, infeasible_past, shift_products};
 ghost use Rattle.listing_words.specs.Read.{sheet_view};
-ghost use Rattle.listing_claims.specs.Asked.{IsAskedOf};
+ghost use Rattle.listing_claims.specs.Asked.{IsAskedOf, sheet_of, changing_in};
 ghost use Rattle.listing_claims.specs.Passing.{Judges};
 ghost use Rattle.checks_of_128_bits.specs.Making.{Makes};
 ghost use Rattle.listing_claims.specs.Claims.{IsPairOf};
@@ -26,7 +26,7 @@ use certificate_check::{
     limit_met,
 };
 use frac128::Frac;
-use listing_claims::{AskedRun, Pair, Stop};
+use listing_claims::{Pair, SheetRun, Stop};
 use listing_tables::{Sheet, objective_of};
 use listing_words::Number;
 use lp_model::Lp;
@@ -134,25 +134,23 @@ fn shift_sum(sheet: Sheet<'_>, shift: &[Frac], ray: &[Frac]) -> Result<Frac, Sto
 // A ray at a value, whose limits add up to no more than 0 and fall as the value grows.
 fn check_infeasible_past(
     alloc: Global,
-    sheet: Sheet<'_>,
-    request: &AskedRun<'_>,
+    run: &SheetRun<'_, '_>,
     shift: &[Frac],
     value: Frac,
     ray: &[Frac],
 ) -> Result<(), Stop>
-    requires asked { IsAskedOf sheet request.now }
-    requires shifts { length shift.now ≡ sheet.lp.now.matrix.rows }
-    requires places { length ray.now ≡ size sheet.lp.now.matrix }
+    requires asked { IsAskedOf run.now.sheet run.now.request.now }
+    requires shifts { length shift.now ≡ run.now.sheet.lp.now.matrix.rows }
+    requires places { length ray.now ≡ size run.now.sheet.lp.now.matrix }
     ensures { Judges
-        (infeasible_past checker_of_128_bits (sheet_view sheet.entry)
-        (changing_of request.now.name request.now.change) shift.now value
-        (value_at ray.now)) result }
+        (infeasible_past checker_of_128_bits (sheet_of run.now) (changing_in run.now) shift.now
+        value (value_at ray.now)) result }
 {
-    let program = program_at(alloc, sheet, request, value)?;
+    let program = program_at(alloc, run, value)?;
     judge(check_combination(&program, ray))?;
     let sum = limit_sum(&program, ray)?;
     ask(is_at_most(sum, Frac::whole(0)))?;
-    let fall = shift_sum(sheet, shift, ray)?;
+    let fall = shift_sum(run.sheet, shift, ray)?;
     ask(fall.is_less(Frac::whole(0)))
 }
 
@@ -168,40 +166,39 @@ fn check_end_at(value: Frac, last: Frac, max: Frac) -> Result<(), Stop>
 
 // It ends past the last end, which is before the last value, and what comes after it is proved by a point and a direction.
 fn check_past_unbounded(
-    sheet: Sheet<'_>,
+    run: &SheetRun<'_, '_>,
     row: u32,
     value: Frac,
     last: Frac,
-    max: Frac,
     pair: &FractionPair,
 ) -> Result<(), Stop>
-    requires row { IsRow sheet.lp.now.matrix row }
-    requires pair { HasPair sheet.lp.now pair.now }
+    requires row { IsRow run.now.sheet.lp.now.matrix row }
+    requires pair { HasPair run.now.sheet.lp.now pair.now }
     ensures { (changing : Changing) →
-        Judges (past_test max last value
-        (unbounded_past checker_of_128_bits (sheet_view sheet.entry) changing row value
+        Judges (past_test run.now.request.now.to last value
+        (unbounded_past checker_of_128_bits (sheet_of run.now) changing row value
         (value_at pair.now.point.items) (value_at pair.now.direction.items))) result }
 {
     ask(is_equal(value, last))?;
-    ask(value.is_less(max))?;
-    check_unbounded_past(sheet, row, value, &pair.point, &pair.direction)
+    ask(value.is_less(run.request.to))?;
+    check_unbounded_past(run.sheet, row, value, &pair.point, &pair.direction)
 }
 
 // A run of the objective may close so.
 fn check_unbounded(
-    sheet: Sheet<'_>,
-    request: &AskedRun<'_>,
+    run: &SheetRun<'_, '_>,
     last: Frac,
     value: Frac,
     pair: &FractionPair,
 ) -> Result<(), Stop>
-    requires serves { ServesChange sheet.problem.now sheet.lp.now request.now.name request.now.change }
-    requires pair { HasPair sheet.lp.now pair.now }
-    ensures { Judges (unbounded_test checker_of_128_bits (sheet_view sheet.entry)
-        (changing_of request.now.name request.now.change) request.now.to last value pair.now.point.items pair.now.direction.items) result }
+    requires serves { ServesChange run.now.sheet.problem.now run.now.sheet.lp.now
+        run.now.request.now.name run.now.request.now.change }
+    requires pair { HasPair run.now.sheet.lp.now pair.now }
+    ensures { Judges (unbounded_test checker_of_128_bits (sheet_of run.now) (changing_in run.now)
+        run.now.request.now.to last value pair.now.point.items pair.now.direction.items) result }
 {
-    match &request.change {
-        Change::Row(row) => check_past_unbounded(sheet, *row, value, last, request.to, pair),
+    match &run.request.change {
+        Change::Row(row) => check_past_unbounded(run, *row, value, last, pair),
         Change::Set(_) => Err(Stop::Wrong),
     }
 }
@@ -216,46 +213,43 @@ struct PastRay<'a> {
 // It ends past the last end, which is before the last value, and what comes after it is proved by a ray.
 fn check_past_infeasible(
     alloc: Global,
-    sheet: Sheet<'_>,
-    request: &AskedRun<'_>,
+    run: &SheetRun<'_, '_>,
     last: Frac,
     shift: &[Frac],
     past: &PastRay<'_>,
 ) -> Result<(), Stop>
-    requires asked { IsAskedOf sheet request.now }
-    requires shifts { length shift.now ≡ sheet.lp.now.matrix.rows }
-    requires places { length past.now.ray.now ≡ size sheet.lp.now.matrix }
+    requires asked { IsAskedOf run.now.sheet run.now.request.now }
+    requires shifts { length shift.now ≡ run.now.sheet.lp.now.matrix.rows }
+    requires places { length past.now.ray.now ≡ size run.now.sheet.lp.now.matrix }
     ensures { Judges
-        (past_test request.now.to last past.now.value
-        (infeasible_past checker_of_128_bits (sheet_view sheet.entry)
-        (changing_of request.now.name request.now.change) shift.now past.now.value
-        (value_at past.now.ray.now))) result }
+        (past_test run.now.request.now.to last past.now.value
+        (infeasible_past checker_of_128_bits (sheet_of run.now) (changing_in run.now) shift.now
+        past.now.value (value_at past.now.ray.now))) result }
 {
     let value = past.value;
     ask(is_equal(value, last))?;
-    ask(value.is_less(request.to))?;
-    check_infeasible_past(alloc, sheet, request, shift, value, past.ray)
+    ask(value.is_less(run.request.to))?;
+    check_infeasible_past(alloc, run, shift, value, past.ray)
 }
 
 // A run of the right-hand side may close so.
 fn check_infeasible(
     alloc: Global,
-    sheet: Sheet<'_>,
-    request: &AskedRun<'_>,
+    run: &SheetRun<'_, '_>,
     last: Frac,
     value: Frac,
     ray: &[Frac],
 ) -> Result<(), Stop>
-    requires asked { IsAskedOf sheet request.now }
-    requires places { length ray.now ≡ size sheet.lp.now.matrix }
-    ensures { Judges (infeasible_test checker_of_128_bits (sheet_view sheet.entry)
-        (changing_of request.now.name request.now.change) request.now.to last value ray.now) result }
+    requires asked { IsAskedOf run.now.sheet run.now.request.now }
+    requires places { length ray.now ≡ size run.now.sheet.lp.now.matrix }
+    ensures { Judges (infeasible_test checker_of_128_bits (sheet_of run.now) (changing_in run.now)
+        run.now.request.now.to last value ray.now) result }
 {
-    match &request.change {
+    match &run.request.change {
         Change::Row(_) => Err(Stop::Wrong),
         Change::Set(shift) => {
             let past = PastRay { value, ray };
-            check_past_infeasible(alloc, sheet, request, last, shift, &past)
+            check_past_infeasible(alloc, run, last, shift, &past)
         }
     }
 }
@@ -263,39 +257,39 @@ fn check_infeasible(
 /// A run of the objective closes so, in the numbers of the listing.
 pub fn close_unbounded(
     alloc: Global,
-    sheet: Sheet<'_>,
-    request: &AskedRun<'_>,
+    run: &SheetRun<'_, '_>,
     last: Frac,
     value: &Number<'_>,
     pair: &Pair<'_>,
 ) -> Result<(), Stop>
-    requires serves { ServesChange sheet.problem.now sheet.lp.now request.now.name request.now.change }
-    requires pair { IsPairOf sheet.lp.now pair.now }
-    ensures { Judges (unbounded_test checker_of_128_bits (sheet_view sheet.entry)
-        (changing_of request.now.name request.now.change) request.now.to last value.now pair.now.point.items pair.now.direction.items) result }
+    requires serves { ServesChange run.now.sheet.problem.now run.now.sheet.lp.now
+        run.now.request.now.name run.now.request.now.change }
+    requires pair { IsPairOf run.now.sheet.lp.now pair.now }
+    ensures { Judges (unbounded_test checker_of_128_bits (sheet_of run.now) (changing_in run.now)
+        run.now.request.now.to last value.now pair.now.point.items pair.now.direction.items)
+        result }
 {
     let value = fraction(value)?;
     let made = pair_of(alloc, pair)?;
-    check_unbounded(sheet, request, last, value, &made)
+    check_unbounded(run, last, value, &made)
 }
 
 /// A run of the right-hand side closes so, in the numbers of the listing.
 pub fn close_infeasible(
     alloc: Global,
-    sheet: Sheet<'_>,
-    request: &AskedRun<'_>,
+    run: &SheetRun<'_, '_>,
     last: Frac,
     value: &Number<'_>,
     ray: &[Number<'_>],
 ) -> Result<(), Stop>
-    requires asked { IsAskedOf sheet request.now }
-    requires places { length ray.now ≡ size sheet.lp.now.matrix }
-    ensures { Judges (infeasible_test checker_of_128_bits (sheet_view sheet.entry)
-        (changing_of request.now.name request.now.change) request.now.to last value.now ray.now) result }
+    requires asked { IsAskedOf run.now.sheet run.now.request.now }
+    requires places { length ray.now ≡ size run.now.sheet.lp.now.matrix }
+    ensures { Judges (infeasible_test checker_of_128_bits (sheet_of run.now) (changing_in run.now)
+        run.now.request.now.to last value.now ray.now) result }
 {
     let value = fraction(value)?;
     let made = fractions(alloc, ray)?;
-    check_infeasible(alloc, sheet, request, last, value, &made)
+    check_infeasible(alloc, run, last, value, &made)
 }
 
 /// It ends at its last value, in the numbers of the listing.

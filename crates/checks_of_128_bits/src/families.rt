@@ -9,13 +9,13 @@ ghost use Rattle.simplex_definitions.specs.RhsRun.{rhs_family};
 ghost use Rattle.question_definitions.specs.Answers.{Sheet as Views};
 ghost use Rattle.answer_definitions.specs.Lines.{row_numbers};
 ghost use Rattle.answer_definitions.specs.ParametricRuns.{family_of};
-ghost use Rattle.parametric_request.specs.Asking.{ServesChange, changing_of};
 ghost use Rattle.walk_definitions.specs.Tests.{moving_steps, making_steps, along_steps};
 ghost use Rattle.listing_words.specs.Read.{sheet_view};
+ghost use Rattle.listing_claims.specs.Asked.{IsAskedOf, sheet_of, changing_in};
 ghost use Rattle.checks_of_128_bits.specs.Making.{Makes, moved, row_steps, shift_steps, AreLimits, IsAlong};
 
 use frac128::Frac;
-use listing_claims::{AskedRun, Stop};
+use listing_claims::{SheetRun, Stop};
 use listing_tables::Sheet;
 use lp_definitions::Change as ChangeRow;
 use lp_model::{Lp, NoMemory};
@@ -137,22 +137,15 @@ fn with_row(alloc: Global, lp: &Lp, row: u32, theta: Frac) -> Result<Lp, Stop>
 }
 
 /// The linear program at theta.
-pub fn program_at(
-    alloc: Global,
-    sheet: Sheet<'_>,
-    request: &AskedRun<'_>,
-    theta: Frac,
-) -> Result<Lp, Stop>
-    requires lawful { IsLinearProgram sheet.lp.now }
-    requires no_change { sheet.lp.now.change ≡ None }
-    requires serves { ServesChange sheet.problem.now sheet.lp.now request.now.name request.now.change }
-    ensures { let changing = changing_of request.now.name request.now.change in
-        Makes (λ p. p ≡ family_of (sheet_view sheet.entry) changing theta) (verdict_of (making_steps
-        (sheet_view sheet.entry) changing theta)) result }
+pub fn program_at(alloc: Global, run: &SheetRun<'_, '_>, theta: Frac) -> Result<Lp, Stop>
+    requires { IsAskedOf run.now.sheet run.now.request.now }
+    ensures { let changing = changing_in run.now in
+        Makes (λ p. p ≡ family_of (sheet_of run.now) changing theta) (verdict_of (making_steps
+        (sheet_of run.now) changing theta)) result }
 {
-    match &request.change {
-        Change::Row(row) => with_row(alloc, sheet.lp, *row, theta),
-        Change::Set(shift) => shifted(alloc, sheet, shift, theta),
+    match &run.request.change {
+        Change::Row(row) => with_row(alloc, run.sheet.lp, *row, theta),
+        Change::Set(shift) => shifted(alloc, run.sheet, shift, theta),
     }
 }
 

@@ -5,11 +5,9 @@ ghost use Rattle.exact_values.specs.Tests.{lt_ℚ, eq_ℚ};
 ghost use Rattle.lp_definitions.specs.LinearProgram.{IsVariable, value_at, variables, lower_of, upper_of};
 ghost use Rattle.check_definitions.specs.Steps.{verdict_of};
 ghost use Rattle.check_definitions.specs.Checks.{is_at};
-ghost use Rattle.parametric_request.specs.Asking.{changing_of};
 ghost use Rattle.walk_definitions.specs.Checkers.{checker_of_128_bits};
 ghost use Rattle.walk_definitions.specs.Tests.{keeps_limit};
-ghost use Rattle.listing_words.specs.Read.{sheet_view};
-ghost use Rattle.listing_claims.specs.Asked.{IsAskedOf};
+ghost use Rattle.listing_claims.specs.Asked.{IsAskedOf, sheet_of, changing_in};
 ghost use Rattle.listing_claims.specs.Passing.{Judges};
 ghost use Rattle.checks_of_128_bits.specs.Making.{Makes};
 ghost use Rattle.checks_of_128_bits.specs.Fractions.{HasColumns};
@@ -20,8 +18,7 @@ use crate::fractions::{FractionColumns, columns_of, fraction};
 use crate::judging::{ask, is_at_most, judge, judge_at};
 use certificate_check::{check_optimal, counted_for, holds_by_sign, is_equal, stands_at};
 use frac128::Frac;
-use listing_claims::{AskedRun, Part, Stop};
-use listing_tables::Sheet;
+use listing_claims::{Part, SheetRun, Stop};
 use listing_words::Number;
 use lp_model::{Lp, NoMemory};
 use std::alloc::Global;
@@ -45,20 +42,19 @@ pub struct IntervalEnd {
 // At an end of the interval the linear program is made, the point and the prices are, and these are best.
 fn check_end(
     alloc: Global,
-    sheet: Sheet<'_>,
-    request: &AskedRun<'_>,
+    run: &SheetRun<'_, '_>,
     theta: Frac,
     columns: &FractionColumns,
 ) -> Result<IntervalEnd, Stop>
-    requires asked { IsAskedOf sheet request.now }
-    requires counted { HasColumns sheet.lp.now columns.now }
-    ensures { let changing = changing_of request.now.name request.now.change in
-        Makes (IsEnd (sheet_view sheet.entry) changing theta columns.now) (end_verdict
-        (sheet_view sheet.entry) changing theta columns.now) result }
+    requires asked { IsAskedOf run.now.sheet run.now.request.now }
+    requires counted { HasColumns run.now.sheet.lp.now columns.now }
+    ensures { let changing = changing_in run.now in
+        Makes (IsEnd (sheet_of run.now) changing theta columns.now) (end_verdict
+        (sheet_of run.now) changing theta columns.now) result }
 {
-    let program = program_at(alloc, sheet, request, theta)?;
-    let point = along(alloc, sheet, theta, &columns.value, &columns.value_rate)?;
-    let prices = along(alloc, sheet, theta, &columns.price, &columns.price_rate)?;
+    let program = program_at(alloc, run, theta)?;
+    let point = along(alloc, run.sheet, theta, &columns.value, &columns.value_rate)?;
+    let prices = along(alloc, run.sheet, theta, &columns.price, &columns.price_rate)?;
     judge(check_optimal(&program, &point, &prices))?;
     Ok(IntervalEnd {
         program,
@@ -144,24 +140,22 @@ fn goes_on(from: Frac, to: Frac, is_first: bool) -> bool
 /// An interval, and whether it is the first.
 pub fn check_interval(
     alloc: Global,
-    sheet: Sheet<'_>,
-    request: &AskedRun<'_>,
+    run: &SheetRun<'_, '_>,
     is_first: bool,
     interval: &Interval,
 ) -> Result<(), Stop>
-    requires asked { IsAskedOf sheet request.now }
-    requires counted { HasColumns sheet.lp.now interval.now.columns }
+    requires asked { IsAskedOf run.now.sheet run.now.request.now }
+    requires counted { HasColumns run.now.sheet.lp.now interval.now.columns }
     ensures { Judges
-        (interval_verdict (sheet_view sheet.entry)
-        (changing_of request.now.name request.now.change) interval.now is_first
-        request.now.to) result }
+        (interval_verdict (sheet_of run.now) (changing_in run.now) interval.now is_first
+        run.now.request.now.to) result }
 {
     let from = interval.from;
     let to = interval.to;
     ask(goes_on(from, to, is_first))?;
-    ask(is_at_most(to, request.to))?;
-    let start = check_end(alloc, sheet, request, from, &interval.columns)?;
-    let end = check_end(alloc, sheet, request, to, &interval.columns)?;
+    ask(is_at_most(to, run.request.to))?;
+    let start = check_end(alloc, run, from, &interval.columns)?;
+    let end = check_end(alloc, run, to, &interval.columns)?;
     check_kept(&start, &end)
 }
 

@@ -13,8 +13,8 @@ use Rattle.checks_of_128_bits.proofs.closing_tests.check_infeasible.Goals as goa
 
 pub returns-in-Set : goal.returns-in-Set
 returns-in-Set c =
-    let sheet = sheet_view c.args.sheet in
-    let request = c.args.request.now in
+    let sheet = sheet_view c.args.run.now.sheet in
+    let request = c.args.run.now.request.now in
     let w = value_at c.args.ray.now in
     let result = c.check_past_infeasible.result in
     let serves = rw c.in-Set.is at c.requires.asked.serves in

@@ -12,8 +12,8 @@ use Rattle.checks_of_128_bits.proofs.closing_tests.check_infeasible_past.Goals a
 
 pub returns-in_err-judge : goal.returns-in_err-judge
 returns-in_err-judge c =
-    let sheet = sheet_view c.args.sheet in
-    let changing = changing_of c.args.request.now.name c.args.request.now.change in
+    let sheet = sheet_view c.args.run.now.sheet in
+    let changing = changing_of c.args.run.now.request.now.name c.args.run.now.request.now.change in
     let shift = c.args.shift.now in
     let t = c.args.value in
     let w = value_at c.args.ray.now in
@@ -33,8 +33,8 @@ returns-in_err-judge c =
 
 pub returns-in_err-sum : goal.returns-in_err-sum
 returns-in_err-sum c =
-    let sheet = sheet_view c.args.sheet in
-    let changing = changing_of c.args.request.now.name c.args.request.now.change in
+    let sheet = sheet_view c.args.run.now.sheet in
+    let changing = changing_of c.args.run.now.request.now.name c.args.run.now.request.now.change in
     let shift = c.args.shift.now in
     let t = c.args.value in
     let w = value_at c.args.ray.now in
@@ -53,8 +53,8 @@ returns-in_err-sum c =
 
 pub returns-in_err-ask : goal.returns-in_err-ask
 returns-in_err-ask c =
-    let sheet = sheet_view c.args.sheet in
-    let changing = changing_of c.args.request.now.name c.args.request.now.change in
+    let sheet = sheet_view c.args.run.now.sheet in
+    let changing = changing_of c.args.run.now.request.now.name c.args.run.now.request.now.change in
     let shift = c.args.shift.now in
     let t = c.args.value in
     let w = value_at c.args.ray.now in
@@ -75,8 +75,8 @@ returns-in_err-ask c =
 
 pub returns-in_err-fall : goal.returns-in_err-fall
 returns-in_err-fall c =
-    let sheet = sheet_view c.args.sheet in
-    let changing = changing_of c.args.request.now.name c.args.request.now.change in
+    let sheet = sheet_view c.args.run.now.sheet in
+    let changing = changing_of c.args.run.now.request.now.name c.args.run.now.request.now.change in
     let shift = c.args.shift.now in
     let t = c.args.value in
     let w = value_at c.args.ray.now in
@@ -99,8 +99,8 @@ returns-in_err-fall c =
 
 pub returns : goal.returns
 returns c =
-    let sheet = sheet_view c.args.sheet in
-    let changing = changing_of c.args.request.now.name c.args.request.now.change in
+    let sheet = sheet_view c.args.run.now.sheet in
+    let changing = changing_of c.args.run.now.request.now.name c.args.run.now.request.now.change in
     let shift = c.args.shift.now in
     let t = c.args.value in
     let w = value_at c.args.ray.now in

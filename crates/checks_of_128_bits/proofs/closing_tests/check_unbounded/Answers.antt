@@ -12,8 +12,8 @@ use Rattle.checks_of_128_bits.proofs.closing_tests.check_unbounded.Goals as goal
 
 pub returns-in-Row : goal.returns-in-Row
 returns-in-Row c =
-    let sheet = sheet_view c.args.sheet in
-    let request = c.args.request.now in
+    let sheet = sheet_view c.args.run.now.sheet in
+    let request = c.args.run.now.request.now in
     let pair = c.args.pair.now in
     let result = c.check_past_unbounded.result in
     let serves = rw c.in-Row.is at c.requires.serves in

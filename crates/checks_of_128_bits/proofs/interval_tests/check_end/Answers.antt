@@ -19,24 +19,24 @@ use Rattle.checks_of_128_bits.proofs.interval_tests.check_end.Goals as goal
 
 pub check_optimal-requires-clause-point_places : goal.check_optimal-requires-clause-point_places
 check_optimal-requires-clause-point_places c =
-    let sheet = sheet_view c.args.sheet in
-    let changing = changing_of c.args.request.now.name c.args.request.now.change in
+    let sheet = sheet_view c.args.run.now.sheet in
+    let changing = changing_of c.args.run.now.request.now.name c.args.run.now.request.now.change in
     ap length c.deref-5.ensures.value
     ∙ along_counted sheet.lp (along c.args.theta c.deref.result.now c.deref-2.result.now) c.in_ok-point.point.items c.in_ok-point.ensures.1
     ∙ sym (ap size (ap (λ (p : LinearProgram). p.matrix) c.in_ok-program.ensures.1 ∙ family_matrix sheet changing c.args.theta))
 
 pub check_optimal-requires-clause-price_places : goal.check_optimal-requires-clause-price_places
 check_optimal-requires-clause-price_places c =
-    let sheet = sheet_view c.args.sheet in
-    let changing = changing_of c.args.request.now.name c.args.request.now.change in
+    let sheet = sheet_view c.args.run.now.sheet in
+    let changing = changing_of c.args.run.now.request.now.name c.args.run.now.request.now.change in
     ap length c.deref-6.ensures.value
     ∙ along_counted sheet.lp (along c.args.theta c.deref-3.result.now c.deref-4.result.now) c.in_ok-prices.prices.items c.in_ok-prices.ensures.1
     ∙ sym (ap size (ap (λ (p : LinearProgram). p.matrix) c.in_ok-program.ensures.1 ∙ family_matrix sheet changing c.args.theta))
 
 pub returns-in_err-judge : goal.returns-in_err-judge
 returns-in_err-judge c =
-    let sheet = sheet_view c.args.sheet in
-    let changing = changing_of c.args.request.now.name c.args.request.now.change in
+    let sheet = sheet_view c.args.run.now.sheet in
+    let changing = changing_of c.args.run.now.request.now.name c.args.run.now.request.now.change in
     let theta = c.args.theta in
     let columns = c.args.columns.now in
     let making = verdict_of (making_steps sheet changing theta) in
@@ -66,8 +66,8 @@ returns-in_err-judge c =
 
 pub returns : goal.returns
 returns c =
-    let sheet = sheet_view c.args.sheet in
-    let changing = changing_of c.args.request.now.name c.args.request.now.change in
+    let sheet = sheet_view c.args.run.now.sheet in
+    let changing = changing_of c.args.run.now.request.now.name c.args.run.now.request.now.change in
     let theta = c.args.theta in
     let columns = c.args.columns.now in
     let making = verdict_of (making_steps sheet changing theta) in

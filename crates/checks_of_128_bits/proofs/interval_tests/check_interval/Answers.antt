@@ -13,19 +13,19 @@ use Rattle.checks_of_128_bits.proofs.interval_tests.check_interval.Goals as goal
 
 pub check_kept-requires : goal.check_kept-requires
 check_kept-requires c =
-    let sheet = sheet_view c.args.sheet in
-    let changing = changing_of c.args.request.now.name c.args.request.now.change in
+    let sheet = sheet_view c.args.run.now.sheet in
+    let changing = changing_of c.args.run.now.request.now.name c.args.run.now.request.now.change in
     are_ends sheet changing c.args.interval.now.from c.args.interval.now.to c.args.interval.now.columns c.requires.counted c.in_ok-start.start c.in_ok-end.end
     c.in_ok-start.ensures.1 c.in_ok-end.ensures.1
 
 pub returns : goal.returns
 returns c =
-    let sheet = sheet_view c.args.sheet in
-    let changing = changing_of c.args.request.now.name c.args.request.now.change in
+    let sheet = sheet_view c.args.run.now.sheet in
+    let changing = changing_of c.args.run.now.request.now.name c.args.run.now.request.now.change in
     let from = c.args.interval.now.from in
     let to = c.args.interval.now.to in
     let columns = c.args.interval.now.columns in
-    let max = c.args.request.now.to in
+    let max = c.args.run.now.request.now.to in
     let goes = asked (lt_ℚ from to || (c.args.is_first && eq_ℚ from to)) in
     let within = asked (le_ℚ to max) in
     let first = end_verdict sheet changing from columns in
