@@ -5,7 +5,7 @@ use crate::claim_tests::{opening_holds, own_claim_holds};
 use crate::closing_tests::closing_holds;
 use crate::long_words::is_longer;
 use frac128::Frac;
-use listing_claims::{AskedRun, Checks, Claim, Closing, Part, Printed, Stop};
+use listing_claims::{AskedRun, Checks, Claim, Closing, Part, PlacedPart, Printed, SheetRun, Stop};
 use listing_definitions::Mark;
 use listing_tables::Sheet;
 use listing_words::{Allowance, Number};
@@ -68,7 +68,8 @@ impl Checks for OfAnyLength {
         claim: &Claim<'_>,
         allowance: &mut Allowance,
     ) -> Result<(), Stop> {
-        let holds = opening_holds(alloc, sheet, request, claim, allowance)?;
+        let run = SheetRun { sheet, request };
+        let holds = opening_holds(alloc, &run, claim, allowance)?;
         judged(holds)
     }
 
@@ -92,7 +93,13 @@ impl Checks for OfAnyLength {
         part: &Part<'_>,
         allowance: &mut Allowance,
     ) -> Result<(), Stop> {
-        let holds = interval_holds(alloc, sheet, request, is_first, from, part, allowance)?;
+        let run = SheetRun { sheet, request };
+        let placed = PlacedPart {
+            is_first,
+            from,
+            part,
+        };
+        let holds = interval_holds(alloc, &run, &placed, allowance)?;
         judged(holds)
     }
 
@@ -104,7 +111,8 @@ impl Checks for OfAnyLength {
         closing: &Closing<'_>,
         allowance: &mut Allowance,
     ) -> Result<(), Stop> {
-        let holds = closing_holds(alloc, sheet, request, last, closing, allowance)?;
+        let run = SheetRun { sheet, request };
+        let holds = closing_holds(alloc, &run, last, closing, allowance)?;
         judged(holds)
     }
 }

@@ -2,10 +2,8 @@
 ghost use Rattle.std.specs.Prelude.{◌≡◌, IfOk};
 ghost use Rattle.exact_values.specs.Rational.{ℚ};
 ghost use Rattle.lp_definitions.specs.LinearProgram.{IsLinearProgram};
-ghost use Rattle.parametric_request.specs.Asking.{changing_of};
 ghost use Rattle.walk_definitions.specs.Checkers.{checker_of_any_length};
-ghost use Rattle.listing_words.specs.Read.{sheet_view};
-ghost use Rattle.listing_claims.specs.Asked.{IsAskedOf};
+ghost use Rattle.listing_claims.specs.Asked.{IsAskedOf, sheet_of, changing_in};
 ghost use Rattle.listing_claims.specs.Claims.{Fits, claim_test, opening_test};
 ghost use Rattle.long_vectors.specs.Vectors.{IsValue};
 ghost use Rattle.long_programs.specs.Programs.{program_of, IsPlain};
@@ -14,8 +12,7 @@ ghost use Rattle.long_solutions.specs.Lines.{IsNumber};
 
 use crate::directions::pair_holds;
 use crate::rays::ray_holds;
-use listing_claims::{AskedRun, Claim};
-use listing_tables::Sheet;
+use listing_claims::{Claim, SheetRun};
 use listing_words::Allowance;
 use long_programs::{AtTheta, ProgramAt, as_it_is, change_at, own_theta};
 use long_rays::limits_cross;
@@ -79,24 +76,22 @@ pub fn own_claim_holds(
 /// Whether a claim of the linear program at the first value of a parametric run passes.
 pub fn opening_holds(
     alloc: Global,
-    sheet: Sheet<'_>,
-    request: &AskedRun<'_>,
+    run: &SheetRun<'_, '_>,
     claim: &Claim<'_>,
     allowance: &mut Allowance,
 ) -> Result<bool, AllocError>
-    requires asked { IsAskedOf sheet request.now }
-    requires fits { Fits sheet.lp.now claim.now }
+    requires asked { IsAskedOf run.now.sheet run.now.request.now }
+    requires fits { Fits run.now.sheet.lp.now claim.now }
     ensures { IfOk result
         (λ holds. Answers holds
-        (opening_test checker_of_any_length (sheet_view sheet.entry)
-        (changing_of request.now.name request.now.change)
-        request.now.from claim.now)) }
+        (opening_test checker_of_any_length (sheet_of run.now) (changing_in run.now)
+        run.now.request.now.from claim.now)) }
 {
     let program = ProgramAt {
-        lp: sheet.lp,
-        change: change_at(&request.change),
+        lp: run.sheet.lp,
+        change: change_at(&run.request.change),
     };
-    let theta = value_of(alloc, &request.from)?;
+    let theta = value_of(alloc, &run.request.from)?;
     let at = AtTheta {
         program,
         theta: &theta,

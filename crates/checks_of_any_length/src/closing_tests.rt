@@ -5,10 +5,10 @@ ghost use Rattle.exact_values.specs.Tests.{eq_ℚ, lt_ℚ};
 ghost use Rattle.lp_definitions.specs.LinearProgram.{size};
 ghost use Rattle.check_definitions.specs.Steps.{in_turn};
 ghost use Rattle.listing_claims.specs.Claims.{IsPairOf};
-ghost use Rattle.parametric_request.specs.Asking.{ServesChange, changing_of};
+ghost use Rattle.parametric_request.specs.Asking.{ServesChange};
 ghost use Rattle.walk_definitions.specs.Checkers.{checker_of_any_length};
 ghost use Rattle.walk_definitions.specs.Tests.{asked};
-ghost use Rattle.listing_words.specs.Read.{sheet_view};
+ghost use Rattle.listing_claims.specs.Asked.{sheet_of, changing_in};
 ghost use Rattle.listing_claims.specs.Closings.{ClosingFits, unbounded_test, infeasible_test, closing_test};
 ghost use Rattle.long_vectors.specs.Vectors.{IsValue};
 ghost use Rattle.long_solutions.specs.Answers.{Answers};
@@ -16,8 +16,7 @@ ghost use Rattle.long_solutions.specs.Answers.{Answers};
 use crate::directions::past_pair_holds;
 use crate::rays::past_ray_holds;
 use frac128::Frac;
-use listing_claims::{AskedRun, Closing, Pair};
-use listing_tables::Sheet;
+use listing_claims::{Closing, Pair, SheetRun};
 use listing_words::{Allowance, Number};
 use long_points::both;
 use long_solutions::{compare_values, compare_with_fraction};
@@ -70,25 +69,26 @@ fn end_holds(
 // Whether a run of the objective closes so that past a value there is no best point.
 fn unbounded_holds(
     alloc: Global,
-    sheet: Sheet<'_>,
-    request: &AskedRun<'_>,
+    run: &SheetRun<'_, '_>,
     last: &Value,
     value: &Number<'_>,
     pair: &Pair<'_>,
     allowance: &mut Allowance,
 ) -> Result<bool, AllocError>
-    requires serves { ServesChange sheet.problem.now sheet.lp.now request.now.name request.now.change }
-    requires pair { IsPairOf sheet.lp.now pair.now }
+    requires serves { ServesChange run.now.sheet.problem.now run.now.sheet.lp.now
+        run.now.request.now.name run.now.request.now.change }
+    requires pair { IsPairOf run.now.sheet.lp.now pair.now }
     ensures { IfOk result
         (λ holds. (l : ℚ) → IsValue l last.now →
-        Answers holds (unbounded_test checker_of_any_length (sheet_view sheet.entry)
-        (changing_of request.now.name request.now.change) request.now.to l value.now pair.now.point.items pair.now.direction.items)) }
+        Answers holds
+        (unbounded_test checker_of_any_length (sheet_of run.now) (changing_in run.now)
+        run.now.request.now.to l value.now pair.now.point.items pair.now.direction.items)) }
 {
-    match &request.change {
+    match &run.request.change {
         Change::Row(row) => {
             let theta = value_of(alloc, value)?;
-            let past = goes_past(alloc, &theta, last, request.to)?;
-            let shown = past_pair_holds(alloc, sheet.lp, *row, &theta, pair, allowance)?;
+            let past = goes_past(alloc, &theta, last, run.request.to)?;
+            let shown = past_pair_holds(alloc, run.sheet.lp, *row, &theta, pair, allowance)?;
             Ok(both(past, shown))
         }
         Change::Set(_) => Ok(false),
@@ -98,26 +98,27 @@ fn unbounded_holds(
 // Whether a run of the right-hand side closes so that past a value no point is feasible.
 fn infeasible_holds(
     alloc: Global,
-    sheet: Sheet<'_>,
-    request: &AskedRun<'_>,
+    run: &SheetRun<'_, '_>,
     last: &Value,
     value: &Number<'_>,
     ray: &[Number<'_>],
     allowance: &mut Allowance,
 ) -> Result<bool, AllocError>
-    requires serves { ServesChange sheet.problem.now sheet.lp.now request.now.name request.now.change }
-    requires places { length ray.now ≡ size sheet.lp.now.matrix }
+    requires serves { ServesChange run.now.sheet.problem.now run.now.sheet.lp.now
+        run.now.request.now.name run.now.request.now.change }
+    requires places { length ray.now ≡ size run.now.sheet.lp.now.matrix }
     ensures { IfOk result
         (λ holds. (l : ℚ) → IsValue l last.now →
-        Answers holds (infeasible_test checker_of_any_length (sheet_view sheet.entry)
-        (changing_of request.now.name request.now.change) request.now.to l value.now ray.now)) }
+        Answers holds
+        (infeasible_test checker_of_any_length (sheet_of run.now) (changing_in run.now)
+        run.now.request.now.to l value.now ray.now)) }
 {
-    match &request.change {
+    match &run.request.change {
         Change::Row(_) => Ok(false),
         Change::Set(shift) => {
             let theta = value_of(alloc, value)?;
-            let past = goes_past(alloc, &theta, last, request.to)?;
-            let shown = past_ray_holds(alloc, sheet.lp, shift, &theta, ray, allowance)?;
+            let past = goes_past(alloc, &theta, last, run.request.to)?;
+            let shown = past_ray_holds(alloc, run.sheet.lp, shift, &theta, ray, allowance)?;
             Ok(both(past, shown))
         }
     }
@@ -126,32 +127,31 @@ fn infeasible_holds(
 /// Whether a run closes so whose last interval ends at a value.
 pub fn closing_holds(
     alloc: Global,
-    sheet: Sheet<'_>,
-    request: &AskedRun<'_>,
+    run: &SheetRun<'_, '_>,
     last: &Number<'_>,
     closing: &Closing<'_>,
     allowance: &mut Allowance,
 ) -> Result<bool, AllocError>
-    requires serves { ServesChange sheet.problem.now sheet.lp.now request.now.name request.now.change }
-    requires fits { ClosingFits sheet.lp.now closing.now }
+    requires serves { ServesChange run.now.sheet.problem.now run.now.sheet.lp.now
+        run.now.request.now.name run.now.request.now.change }
+    requires fits { ClosingFits run.now.sheet.lp.now closing.now }
     ensures { IfOk result
         (λ holds. Answers holds
-        (closing_test checker_of_any_length (sheet_view sheet.entry)
-        (changing_of request.now.name request.now.change)
-        request.now.to last.now closing.now)) }
+        (closing_test checker_of_any_length (sheet_of run.now) (changing_in run.now)
+        run.now.request.now.to last.now closing.now)) }
 {
     let end = value_of(alloc, last)?;
     match closing {
         Closing::At(value) => {
-            let ends = end_holds(alloc, value, &end, request.to)?;
+            let ends = end_holds(alloc, value, &end, run.request.to)?;
             Ok(ends)
         }
         Closing::Unbounded(value, pair) => {
-            let goes_on = unbounded_holds(alloc, sheet, request, &end, value, pair, allowance)?;
+            let goes_on = unbounded_holds(alloc, run, &end, value, pair, allowance)?;
             Ok(goes_on)
         }
         Closing::Infeasible(value, ray) => {
-            let shown = infeasible_holds(alloc, sheet, request, &end, value, ray, allowance)?;
+            let shown = infeasible_holds(alloc, run, &end, value, ray, allowance)?;
             Ok(shown)
         }
     }

@@ -4,11 +4,9 @@ ghost use Rattle.exact_values.specs.Rational.{ℚ};
 ghost use Rattle.exact_values.specs.Tests.{is_less, is_equal};
 ghost use Rattle.lp_definitions.specs.LinearProgram.{LinearProgram};
 ghost use Rattle.question_definitions.specs.Answers.{Sheet as Views, Changing};
-ghost use Rattle.parametric_request.specs.Asking.{changing_of};
 ghost use Rattle.walk_definitions.specs.Checkers.{checker_of_any_length};
-ghost use Rattle.listing_words.specs.Read.{sheet_view};
 ghost use Rattle.listing_claims.specs.declared.claims.Columns.{Columns as ColumnsView};
-ghost use Rattle.listing_claims.specs.Asked.{IsAskedOf};
+ghost use Rattle.listing_claims.specs.Asked.{IsAskedOf, sheet_of, changing_in};
 ghost use Rattle.listing_claims.specs.Intervals.{AreCounted, part_verdict};
 ghost use Rattle.long_vectors.specs.Vectors.{IsValue, IsOver, list_along};
 ghost use Rattle.long_programs.specs.Programs.{IsChangeIn, IsPlain};
@@ -18,9 +16,8 @@ ghost use Rattle.long_solutions.specs.Answers.{Answers};
 ghost use Rattle.long_solutions.specs.Lines.{AreOver, AreLinesOf, IsNumber, IsFamily, points_at, ends_verdict};
 
 use crate::values::{compare_values, compare_with_fraction, is_at_most};
-use listing_claims::{AskedRun, Columns, Part};
-use listing_tables::Sheet;
-use listing_words::{Allowance, Number};
+use listing_claims::{Columns, PlacedPart, SheetRun};
+use listing_words::Allowance;
 use long_points::{End, Ends, all_prices_keep, both, check_sums, optimal, take_spread};
 use long_programs::{ProgramAt, Spread, change_at, spread_by};
 use long_vectors::{Column, Value, along, column_of, value_of};
@@ -201,34 +198,33 @@ fn goes_on(order: Ordering, is_first: bool) -> bool
     order.is_lt() || (is_first && order.is_eq())
 }
 
-/// Whether an interval of a parametric run passes that begins at a value.
+/// Whether an interval of a parametric run passes.
 pub fn interval_holds(
     alloc: Global,
-    sheet: Sheet<'_>,
-    request: &AskedRun<'_>,
-    is_first: bool,
-    from: &Number<'_>,
-    part: &Part<'_>,
+    run: &SheetRun<'_, '_>,
+    placed: &PlacedPart<'_, '_>,
     allowance: &mut Allowance,
 ) -> Result<bool, AllocError>
-    requires asked { IsAskedOf sheet request.now }
-    requires counted { AreCounted sheet.lp.now part.now.columns }
+    requires asked { IsAskedOf run.now.sheet run.now.request.now }
+    requires counted { AreCounted run.now.sheet.lp.now placed.now.part.now.columns }
     ensures { IfOk result
         (λ holds. Answers holds
-        (part_verdict checker_of_any_length (sheet_view sheet.entry)
-        (changing_of request.now.name request.now.change)
-        from.now part.now.to part.now.columns is_first request.now.to)) }
+        (part_verdict checker_of_any_length (sheet_of run.now) (changing_in run.now)
+        placed.now.from.now placed.now.part.now.to placed.now.part.now.columns
+        placed.now.is_first run.now.request.now.to)) }
 {
+    let lp = run.sheet.lp;
     let at = ProgramAt {
-        lp: sheet.lp,
-        change: change_at(&request.change),
+        lp,
+        change: change_at(&run.request.change),
     };
-    let first = value_of(alloc, from)?;
+    let part = placed.part;
+    let first = value_of(alloc, placed.from)?;
     let last = value_of(alloc, &part.to)?;
-    let lines = lines_of(alloc, sheet.lp, &part.columns, allowance)?;
+    let lines = lines_of(alloc, lp, &part.columns, allowance)?;
     let order = compare_values(alloc, &first, &last)?;
-    let most = compare_with_fraction(alloc, &last, request.to)?;
-    let goes = goes_on(order, is_first);
+    let most = compare_with_fraction(alloc, &last, run.request.to)?;
+    let goes = goes_on(order, placed.is_first);
     let within = is_at_most(most);
     let ends = ends_hold(alloc, &at, &first, &last, lines, allowance)?;
     let rest = both(within, ends);

@@ -5,16 +5,16 @@ use Rattle.checks_of_any_length.proofs.Claiming.{opening_shown}
 use Rattle.checks_of_any_length.proofs.claim_tests.opening_holds.Goals as goal
 
 pub invariant_of-at-clause-change : goal.invariant_of-at-clause-change
-invariant_of-at-clause-change c = c.change_at.ensures.change c.args.sheet.problem.now c.args.sheet.lp.now c.args.request.now.name c.requires.asked.serves
+invariant_of-at-clause-change c = c.change_at.ensures.change c.args.run.now.sheet.problem.now c.args.run.now.sheet.lp.now c.args.run.now.request.now.name c.requires.asked.serves
 
 pub claim_holds-requires-clause-number : goal.claim_holds-requires-clause-number
-claim_holds-requires-clause-number c = record { number = c.args.request.now.from; is = c.in_ok-theta.ensures }
+claim_holds-requires-clause-number c = record { number = c.args.run.now.request.now.from; is = c.in_ok-theta.ensures }
 
 pub returns : goal.returns
 returns c =
-    let sheet = sheet_view c.args.sheet in
-    let request = c.args.request.now in
+    let sheet = sheet_view c.args.run.now.sheet in
+    let request = c.args.run.now.request.now in
     let from = request.from in
     opening_shown sheet (changing_of request.name request.change) from
-    (program_of c.args.sheet.lp.now c.change_at.result from) c.args.claim.now c.in_ok-holds.holds
-    (c.change_at.ensures.family sheet c.args.request.now.name c.requires.asked.serves from) (c.in_ok-holds.ensures from c.in_ok-theta.ensures)
+    (program_of c.args.run.now.sheet.lp.now c.change_at.result from) c.args.claim.now c.in_ok-holds.holds
+    (c.change_at.ensures.family sheet c.args.run.now.request.now.name c.requires.asked.serves from) (c.in_ok-holds.ensures from c.in_ok-theta.ensures)

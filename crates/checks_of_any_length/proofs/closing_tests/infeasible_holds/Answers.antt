@@ -18,8 +18,8 @@ past_ray_holds-requires-clause-shifts c = let serves = rw c.in-Set.is at c.requi
 
 pub returns-in_ok-shown-in-Set : goal.returns-in_ok-shown-in-Set
 returns-in_ok-shown-in-Set c = λ l is.
-    let sheet = sheet_view c.args.sheet in
-    let request = c.args.request.now in
+    let sheet = sheet_view c.args.run.now.sheet in
+    let request = c.args.run.now.request.now in
     let ray = c.args.ray.now in
     let t = c.args.value.now in
     let result = c.both.result in
@@ -35,7 +35,7 @@ returns-in_ok-shown-in-Set c = λ l is.
 
 pub returns-in-Row : goal.returns-in-Row
 returns-in-Row c = λ l is.
-    let request = c.args.request.now in
+    let request = c.args.run.now.request.now in
     subst (λ (change : Change). Answers false
-    (infeasible_test checker_of_any_length (sheet_view c.args.sheet) (changing_of request.name change) request.to l c.args.value.now c.args.ray.now))
+    (infeasible_test checker_of_any_length (sheet_view c.args.run.now.sheet) (changing_of request.name change) request.to l c.args.value.now c.args.ray.now))
     (sym c.in-Row.is) tt

@@ -19,8 +19,8 @@ past_pair_holds-requires-clause-number c = record { number = c.args.value.now; i
 
 pub returns-in_ok-shown-in-Row : goal.returns-in_ok-shown-in-Row
 returns-in_ok-shown-in-Row c = λ l is.
-    let sheet = sheet_view c.args.sheet in
-    let request = c.args.request.now in
+    let sheet = sheet_view c.args.run.now.sheet in
+    let request = c.args.run.now.request.now in
     let pair = c.args.pair.now in
     let t = c.args.value.now in
     let result = c.both.result in
@@ -35,8 +35,8 @@ returns-in_ok-shown-in-Row c = λ l is.
 
 pub returns-in-Set : goal.returns-in-Set
 returns-in-Set c = λ l is.
-    let request = c.args.request.now in
+    let request = c.args.run.now.request.now in
     let pair = c.args.pair.now in
     subst (λ (change : Change). Answers false
-    (unbounded_test checker_of_any_length (sheet_view c.args.sheet)
+    (unbounded_test checker_of_any_length (sheet_view c.args.run.now.sheet)
     (changing_of request.name change) request.to l c.args.value.now pair.point.items pair.direction.items)) (sym c.in-Set.is) tt
