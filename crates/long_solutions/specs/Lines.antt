@@ -24,10 +24,10 @@ use Rattle.long_points.specs.Ends.{Points}
 use Rattle.long_solutions.specs.declared.intervals.Lines.{Lines}
 
 pub record AreOver (columns : Columns) (lines : Lines) : Type 0 where
-  pub value : IsOver columns.value.items lines.value
-  pub value_rate : IsOver columns.value_rate.items lines.value_rate
-  pub price : IsOver columns.price.items lines.price
-  pub price_rate : IsOver columns.price_rate.items lines.price_rate
+  pub value : IsOver columns.value.items lines.values.value
+  pub value_rate : IsOver columns.value_rate.items lines.values.rate
+  pub price : IsOver columns.price.items lines.prices.value
+  pub price_rate : IsOver columns.price_rate.items lines.prices.rate
 
 pub record AreLinesOf (p : LinearProgram) (lines : Lines) : Type 0 where
   pub columns : Columns

@@ -25,13 +25,18 @@ use lp_model::Lp;
 use std::alloc::{AllocError, Global};
 use std::cmp::Ordering;
 
-/// The lines of an interval, each over one denominator.
+/// Numbers and their rates, each over one denominator.
+#[derive(Drop)]
+pub struct Line {
+    pub value: Column,
+    pub rate: Column,
+}
+
+/// The lines of an interval: the values and the prices of the variables.
 #[derive(Drop)]
 pub struct Lines {
-    pub value: Column,
-    pub value_rate: Column,
-    pub price: Column,
-    pub price_rate: Column,
+    pub values: Line,
+    pub prices: Line,
 }
 
 // The lines of an interval over denominators. Where the sums of the first would be too much work, the others aren't made.
@@ -45,31 +50,31 @@ fn lines_of(
 {
     let value = column_of(alloc, &columns.value, allowance)?;
     check_sums(allowance, lp, &value)?;
-    let value_rate = column_of(alloc, &columns.value_rate, allowance)?;
+    let rate = column_of(alloc, &columns.value_rate, allowance)?;
+    let values = Line { value, rate };
     let price = column_of(alloc, &columns.price, allowance)?;
     let price_rate = column_of(alloc, &columns.price_rate, allowance)?;
-    Ok(Lines {
-        value,
-        value_rate,
-        price,
-        price_rate,
-    })
+    let prices = Line {
+        value: price,
+        rate: price_rate,
+    };
+    Ok(Lines { values, prices })
 }
 
-// The numbers of two lines at theta.
+// The numbers of a line at theta.
 fn numbers_at(
     alloc: Global,
     theta: &Value,
-    value: &Column,
-    rate: &Column,
+    line: &Line,
     allowance: &mut Allowance,
 ) -> Result<Spread, AllocError>
-    requires { length value.now.tops.items ≡ length rate.now.tops.items }
+    requires { length line.now.value.tops.items ≡ length line.now.rate.tops.items }
     ensures { IfOk result
-        (λ made. (x : ℚ) (values rates : List ℚ) → IsValue x theta.now → IsOver values value.now →
-        IsOver rates rate.now → IsSpread (list_along x values rates) x made) }
+        (λ made. (x : ℚ) (values rates : List ℚ) → IsValue x theta.now →
+        IsOver values line.now.value → IsOver rates line.now.rate →
+        IsSpread (list_along x values rates) x made) }
 {
-    let column = along(alloc, theta, value, rate, allowance)?;
+    let column = along(alloc, theta, &line.value, &line.rate, allowance)?;
     let made = spread_by(alloc, theta, &column, allowance)?;
     Ok(made)
 }
@@ -86,42 +91,40 @@ fn end_at(
         (λ end. (x : ℚ) (columns : ColumnsView) → IsValue x theta.now → AreOver columns lines.now →
         IsEnd (points_at x columns) x end) }
 {
-    let point = numbers_at(alloc, theta, &lines.value, &lines.value_rate, allowance)?;
-    let prices = numbers_at(alloc, theta, &lines.price, &lines.price_rate, allowance)?;
+    let point = numbers_at(alloc, theta, &lines.values, allowance)?;
+    let prices = numbers_at(alloc, theta, &lines.prices, allowance)?;
     Ok(End { point, prices })
 }
 
-// Two lines at theta, which are let go.
+// A line at theta, which is let go.
 fn joined(
     alloc: Global,
     theta: &Value,
-    value: Column,
-    rate: Column,
+    line: Line,
     allowance: &mut Allowance,
 ) -> Result<Column, AllocError>
-    requires { length value.tops.items ≡ length rate.tops.items }
+    requires { length line.value.tops.items ≡ length line.rate.tops.items }
     ensures { IfOk result
-        (λ made. (x : ℚ) (values rates : List ℚ) → IsValue x theta.now → IsOver values value →
-        IsOver rates rate → IsOver (list_along x values rates) made) }
+        (λ made. (x : ℚ) (values rates : List ℚ) → IsValue x theta.now → IsOver values line.value →
+        IsOver rates line.rate → IsOver (list_along x values rates) made) }
 {
-    let made = along(alloc, theta, &value, &rate, allowance)?;
+    let made = along(alloc, theta, &line.value, &line.rate, allowance)?;
     Ok(made)
 }
 
-// The numbers of two lines at theta, where the lines are let go before the numbers are spread, so that less stands at once.
+// The numbers of a line at theta, where the line is let go before the numbers are spread, so that less stands at once.
 fn last_numbers(
     alloc: Global,
     theta: &Value,
-    value: Column,
-    rate: Column,
+    line: Line,
     allowance: &mut Allowance,
 ) -> Result<Spread, AllocError>
-    requires { length value.tops.items ≡ length rate.tops.items }
+    requires { length line.value.tops.items ≡ length line.rate.tops.items }
     ensures { IfOk result
-        (λ made. (x : ℚ) (values rates : List ℚ) → IsValue x theta.now → IsOver values value →
-        IsOver rates rate → IsSpread (list_along x values rates) x made) }
+        (λ made. (x : ℚ) (values rates : List ℚ) → IsValue x theta.now → IsOver values line.value →
+        IsOver rates line.rate → IsSpread (list_along x values rates) x made) }
 {
-    let column = joined(alloc, theta, value, rate, allowance)?;
+    let column = joined(alloc, theta, line, allowance)?;
     let made = spread_by(alloc, theta, &column, allowance)?;
     Ok(made)
 }
@@ -138,14 +141,8 @@ fn last_end(
         (λ end. (x : ℚ) (columns : ColumnsView) → IsValue x theta.now → AreOver columns lines →
         IsEnd (points_at x columns) x end) }
 {
-    let Lines {
-        value,
-        value_rate,
-        price,
-        price_rate,
-    } = lines;
-    let point = last_numbers(alloc, theta, value, value_rate, allowance)?;
-    let prices = last_numbers(alloc, theta, price, price_rate, allowance)?;
+    let point = last_numbers(alloc, theta, lines.values, allowance)?;
+    let prices = last_numbers(alloc, theta, lines.prices, allowance)?;
     Ok(End { point, prices })
 }
 
