@@ -6,9 +6,9 @@ ghost use Rattle.walk_definitions.specs.Checkers.{checker_of_any_length};
 ghost use Rattle.listing_claims.specs.Asked.{IsAskedOf, sheet_of, changing_in};
 ghost use Rattle.listing_claims.specs.Claims.{Fits, claim_test, opening_test};
 ghost use Rattle.long_vectors.specs.Vectors.{IsValue};
-ghost use Rattle.long_programs.specs.Programs.{program_of};
+ghost use Rattle.long_programs.specs.Programs.{program_of, IsPlain};
 ghost use Rattle.long_solutions.specs.Answers.{Answers};
-ghost use Rattle.checks_of_any_length.specs.Meant.{IsMeant};
+ghost use Rattle.long_solutions.specs.Lines.{IsNumber};
 
 use crate::directions::pair_holds;
 use crate::rays::ray_holds;
@@ -27,7 +27,8 @@ fn claim_holds(
     claim: &Claim<'_>,
     allowance: &mut Allowance,
 ) -> Result<bool, AllocError>
-    requires meant { IsMeant at.now }
+    requires plain { IsPlain at.now.program.lp.now at.now.program.change }
+    requires number { IsNumber at.now.theta.now }
     requires fits { Fits at.now.program.lp.now claim.now }
     ensures { IfOk result
         (λ holds. (x : ℚ) → IsValue x at.now.theta.now →

@@ -13,7 +13,6 @@ ghost use Rattle.long_vectors.specs.Vectors.{IsOver, IsValue};
 ghost use Rattle.long_programs.specs.Programs.{program_of, IsPlain};
 ghost use Rattle.long_solutions.specs.Answers.{Answers};
 ghost use Rattle.long_solutions.specs.Lines.{IsNumber};
-ghost use Rattle.checks_of_any_length.specs.Meant.{IsMeant};
 ghost use Rattle.checks_of_any_length.specs.Orders.{improves_past};
 
 use listing_claims::Pair;
@@ -80,7 +79,8 @@ pub fn pair_holds(
     pair: &Pair<'_>,
     allowance: &mut Allowance,
 ) -> Result<bool, AllocError>
-    requires meant { IsMeant at.now }
+    requires plain { IsPlain at.now.program.lp.now at.now.program.change }
+    requires number { IsNumber at.now.theta.now }
     requires pair { IsPairOf at.now.program.lp.now pair.now }
     ensures { IfOk result (λ holds. (x : ℚ) → IsValue x at.now.theta.now →
         Answers holds

@@ -4,6 +4,5 @@ use Rattle.std.specs.Prelude.{◌≡◌, length}
 use Rattle.lp_definitions.specs.LinearProgram.{LinearProgram, size}
 use Rattle.long_points.specs.declared.ends.End.{End}
 
-pub record HasPlaces (p : LinearProgram) (end : End) : Type 0 where
-  pub point : length end.point.column.tops.items ≡ size p.matrix
-  pub prices : length end.prices.column.tops.items ≡ size p.matrix
+abbrev pub HasPlaces : LinearProgram → End → Type 0
+HasPlaces p end = (length end.point.column.tops.items ≡ size p.matrix) × (length end.prices.column.tops.items ≡ size p.matrix)

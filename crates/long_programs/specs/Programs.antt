@@ -6,7 +6,9 @@
 --     shift_at p change k          what is added to the limits of variable k for each unit of theta
 --     rate_at p change j           what is added to the cost of column j for each unit of theta
 --     order_to limit x             how a number compares to a limit, if it is there
-use Rattle.std.specs.Prelude.{◌≡◌, length, Option, Some, None, option_map}
+use Rattle.std.specs.Prelude.{◌≡◌, length, Option, Some, None, option_map, refl}
+use Rattle.std.specs.Coded.{Coded-set, coded_ℕ, ×_prop}
+use Rattle.std.proofs.Math.Bridge.{le_prop}
 use Rattle.std.specs.declared.cmp.Ordering.{Ordering}
 use Rattle.exact_values.specs.Rational.{ℚ, zero_ℚ, compare_ℚ}
 use Rattle.lp_definitions.specs.LinearProgram.{LinearProgram, Vector, IsRow, entry}
@@ -25,6 +27,12 @@ abbrev pub IsChangeIn : LinearProgram → ChangeAt → Type 0
 IsChangeIn p Unchanged = Unit {0}
 IsChangeIn p (Row h) = IsRow p.matrix h
 IsChangeIn p (Set shift) = length shift.now ≡ p.rows
+
+-- this has at most one proof
+pub IsChangeIn-prop : (p : LinearProgram) (change : ChangeAt) → IsProp (IsChangeIn p change)
+IsChangeIn-prop p Unchanged = λ x y. refl
+IsChangeIn-prop p (Row h) = ×_prop le_prop le_prop
+IsChangeIn-prop p (Set shift) = Coded-set coded_ℕ (length shift.now) p.rows
 
 abbrev pub IsPlain : LinearProgram → ChangeAt → Type 0
 IsPlain p Unchanged = p.change ≡ None

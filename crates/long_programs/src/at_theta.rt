@@ -1,5 +1,5 @@
 // A linear program of a run.
-ghost use Rattle.long_programs.specs.Programs.{IsChangeIn};
+ghost use Rattle.long_programs.specs.Programs.{IsChangeIn, IsChangeIn-prop};
 
 use crate::programs::ProgramAt;
 use long_vectors::Value;
@@ -9,5 +9,5 @@ use long_vectors::Value;
 pub struct AtTheta<'a> {
     pub program: ProgramAt<'a>,
     pub theta: &'a Value,
-    pub ghost change: { IsChangeIn program.lp.now program.change },
+    pub ghost change: { IsChangeIn program.lp.now program.change } by { IsChangeIn-prop program.lp.now program.change },
 }

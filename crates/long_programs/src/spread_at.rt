@@ -1,7 +1,7 @@
 // A vector beside the linear programs of a run.
 ghost use Rattle.std.specs.Prelude.{◌≡◌, length};
 ghost use Rattle.lp_definitions.specs.LinearProgram.{size};
-ghost use Rattle.long_programs.specs.Programs.{IsChangeIn};
+ghost use Rattle.long_programs.specs.Programs.{IsChangeIn, IsChangeIn-prop};
 
 use crate::programs::ProgramAt;
 use crate::spreads::Spread;
@@ -11,6 +11,6 @@ use crate::spreads::Spread;
 pub struct SpreadAt<'a> {
     pub program: ProgramAt<'a>,
     pub spread: &'a Spread,
-    pub ghost change: { IsChangeIn program.lp.now program.change },
+    pub ghost change: { IsChangeIn program.lp.now program.change } by { IsChangeIn-prop program.lp.now program.change },
     pub ghost places: { length spread.now.column.tops.items ≡ size program.lp.now.matrix },
 }

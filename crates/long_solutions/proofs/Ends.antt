@@ -49,12 +49,12 @@ length-list_along x (v ∷ vs) (r ∷ rs) e = ap suc (length-list_along x vs rs 
 
 pub end_places : (theta : ℚ) (columns : Columns) (p : LinearProgram) → AreCounted p columns → (end : End) → IsEnd (points_at theta columns) theta end →
     HasPlaces p end
-end_places theta columns p counted end is = record {
-  point = is.point.is_over.counted ∙ length-list_along theta columns.value.items columns.value_rate.items (counted.value ∙ sym counted.value_rate)
-      ∙ counted.value;
-  prices = is.prices.is_over.counted ∙ length-list_along theta columns.price.items columns.price_rate.items (counted.price ∙ sym counted.price_rate)
-      ∙ counted.price;
-}
+end_places theta columns p counted end is = (
+  is.point.is_over.counted ∙ length-list_along theta columns.value.items columns.value_rate.items (counted.value ∙ sym counted.value_rate)
+      ∙ counted.value,
+  is.prices.is_over.counted ∙ length-list_along theta columns.price.items columns.price_rate.items (counted.price ∙ sym counted.price_rate)
+      ∙ counted.price,
+)
 
 -- ---- steps that are operations alone
 

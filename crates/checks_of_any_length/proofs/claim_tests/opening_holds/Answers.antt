@@ -1,4 +1,3 @@
-use Rattle.std.proofs.Common.{rules}
 use Rattle.parametric_request.specs.Asking.{changing_of}
 use Rattle.listing_words.specs.Read.{sheet_view}
 use Rattle.long_programs.specs.Programs.{program_of}
@@ -10,8 +9,8 @@ invariant_of-at-clause-change c =
     let run = c.args.run.now in
     c.change_at.ensures.change run.sheet.problem.now run.sheet.lp.now run.request.now.name c.requires.asked.serves
 
-pub claim_holds-requires-clause-meant : goal.claim_holds-requires-clause-meant
-claim_holds-requires-clause-meant c = record { plain = search rules; number = record { number = c.args.run.now.request.now.from; is = c.in_ok-theta.ensures } }
+pub claim_holds-requires-clause-number : goal.claim_holds-requires-clause-number
+claim_holds-requires-clause-number c = record { number = c.args.run.now.request.now.from; is = c.in_ok-theta.ensures }
 
 pub returns : goal.returns
 returns c =

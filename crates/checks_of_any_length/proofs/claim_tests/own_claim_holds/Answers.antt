@@ -1,4 +1,4 @@
-use Rattle.std.proofs.Common.{subst, ◌∙◌, rules}
+use Rattle.std.proofs.Common.{subst, ◌∙◌}
 use Rattle.lp_definitions.specs.LinearProgram.{LinearProgram}
 use Rattle.walk_definitions.specs.Checkers.{checker_of_any_length}
 use Rattle.listing_claims.specs.Claims.{claim_test}
@@ -6,8 +6,8 @@ use Rattle.long_programs.specs.Programs.{program_of, own_theta}
 use Rattle.long_solutions.specs.Answers.{Answers}
 use Rattle.checks_of_any_length.proofs.claim_tests.own_claim_holds.Goals as goal
 
-pub claim_holds-requires-clause-meant : goal.claim_holds-requires-clause-meant
-claim_holds-requires-clause-meant c = record { plain = search rules; number = record { number = own_theta c.args.lp.now; is = c.in_ok-theta.ensures } }
+pub claim_holds-requires-clause-number : goal.claim_holds-requires-clause-number
+claim_holds-requires-clause-number c = record { number = own_theta c.args.lp.now; is = c.in_ok-theta.ensures }
 
 pub returns : goal.returns
 returns c =
