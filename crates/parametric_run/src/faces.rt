@@ -10,12 +10,13 @@ ghost use Rattle.parametric_run.specs.Faces.{FacesFound, FacesFollow};
 ghost use Rattle.parametric_run.specs.Standing.{AreSized, IsReady, IsWorkspaceOf};
 
 use crate::method::{AfterFaces, FaceStep, Parametric};
-use crate::workspace::{Workspace, take_step_in};
+use crate::workspace::{StoppedMove, Workspace, step_along};
 use bounded_primal::{BlockingVariable, PrimalStop};
 use frac128::Frac;
 use lp_model::{Basis, Rates, Stop};
 
-/// Makes the step `by` of `q`, whose direction the workspace has.
+/// Makes the step `by` of `q`, whose direction the workspace has: the basis, the rates and the point go over to the next basis. After a
+/// stop the basis is as before.
 fn take<M: Parametric, R: Rates>(
     method: &M,
     basis: &mut Basis,
@@ -40,7 +41,19 @@ fn take<M: Parametric, R: Rates>(
     ensures overflow { StepOverflow result (M.problem method.now).program basis.old q by.now
         (R.state rates.old) (R.state rates.new) }
 {
-    take_step_in(method.program(), basis, rates, workspace, q, by)
+    let Workspace {
+        point,
+        direction,
+        ..
+    } = workspace;
+    step_along(
+        method.program(),
+        basis,
+        rates,
+        point,
+        direction,
+        &StoppedMove { q, by },
+    )
 }
 
 /// Makes the face steps at a breakpoint until none is left or the run ends, with so many steps left to the run. The basis, the rates and

@@ -9,7 +9,7 @@ ghost use Rattle.basis_values.specs.Calls.{IsAtBasis, StaysAt, MovesTo};
 ghost use Rattle.basis_values.specs.Stops.{PointOverflow};
 ghost use Rattle.simplex_definitions.specs.Path.{after};
 ghost use Rattle.bounded_primal.specs.Moves.{IsStepBy, StepOverflow, move_by};
-ghost use Rattle.parametric_run.specs.Standing.{AreSized, IsReady};
+ghost use Rattle.parametric_run.specs.Standing.{AreSized};
 
 use bounded_primal::{BlockingVariable, Kept, Move, copied, step_over, zeroed};
 use frac128::Frac;
@@ -140,15 +140,15 @@ pub fn still_prices(alloc: Global, lp: &Lp) -> Result<Prices, NoMemory>
     Ok(Prices::new(values))
 }
 
-// A variable that moves, and what stops it.
+/// A variable that moves, and what stops it.
 #[derive(Clone, Copy)]
-struct StoppedMove<'a> {
-    q: u32,
-    by: &'a BlockingVariable,
+pub struct StoppedMove<'a> {
+    pub q: u32,
+    pub by: &'a BlockingVariable,
 }
 
-// Makes the step along this direction: the basis, the rates and the point go over to the next basis.
-fn step_along<R: Rates>(
+/// Makes the step along this direction: the basis, the rates and the point go over to the next basis. After a stop the basis is as before.
+pub fn step_along<R: Rates>(
     lp: &Lp,
     basis: &mut Basis,
     rates: &mut R,
@@ -181,35 +181,4 @@ fn step_along<R: Rates>(
         Ok(_) => Ok(()),
         Err(stop) => Err(stop),
     }
-}
-
-/// Makes the step `by` of `q`, whose direction the workspace has: the basis, the rates and the point go over to the next basis. After a
-/// stop the basis is as before.
-pub fn take_step_in<R: Rates>(
-    lp: &Lp,
-    basis: &mut Basis,
-    rates: &mut R,
-    workspace: &mut Workspace,
-    q: u32,
-    by: &BlockingVariable,
-) -> Result<(), Stop>
-    requires rates { IsAtBasis (R.state rates.old) lp.now basis.old }
-    requires sized { AreSized (size lp.now.matrix) workspace.old }
-    requires point { IsPointOf lp.now basis.old (value_at workspace.old.point.items) }
-    requires ready { IsReady lp.now basis.old workspace.old q by.now }
-    ensures basis { OnOk result (basis.new ≡ after basis.old (move_by q by.now)) }
-    ensures sized { AreSized (size lp.now.matrix) workspace.new }
-    ensures point { OnOk result (IsPointOf lp.now basis.new (value_at workspace.new.point.items)) }
-    ensures unchanged { OnErr result (basis.new ≡ basis.old) }
-    ensures rates { IsAtBasis (R.state rates.new) lp.now basis.new }
-    ensures waypoints { MovesTo (R.state rates.old) (R.state rates.new) lp.now basis.old basis.new }
-    ensures overflow { StepOverflow result lp.now basis.old q by.now (R.state rates.old)
-        (R.state rates.new) }
-{
-    let Workspace {
-        point,
-        direction,
-        ..
-    } = workspace;
-    step_along(lp, basis, rates, point, direction, &StoppedMove { q, by })
 }

@@ -1,9 +1,0 @@
-use Rattle.std.proofs.Common.{rules, ◌≡◌, length}
-use Rattle.std.proofs.lemmas.List.{with_items_is}
-use Rattle.parametric_run.proofs.workspace.take_step_in.Goals as goal
-
-pub step_along-requires-clause-point : goal.step_along-requires-clause-point
-step_along-requires-clause-point g c = rw c.deref_mut.ensures.value c.requires.point
-
-pub step_along-requires-clause-step : goal.step_along-requires-clause-step
-step_along-requires-clause-step g c = rw c.deref_mut.ensures.value c.requires.ready.step
