@@ -7,30 +7,13 @@ use bounded_primal::PrimalStop;
 use frac128::Frac;
 use lp_model::Evidence;
 
-/// The evidence, with this value of the parameter.
-fn with_theta(evidence: &Evidence, theta: Frac) -> Evidence
-    ensures { result ≡ record evidence.now { theta = theta } }
-{
-    Evidence {
-        formula: evidence.formula,
-        way: evidence.way,
-        p: evidence.p,
-        q: evidence.q,
-        i: evidence.i,
-        j: evidence.j,
-        term: evidence.term,
-        theta,
-        refused: evidence.refused,
-    }
-}
-
 /// The stop of the path at this value of the parameter, as that of a run.
 pub fn reported_at(theta: Frac, stop: PrimalStop) -> PrimalStop
     ensures { result ≡ reported_at theta stop }
 {
     match stop {
         PrimalStop::Limit => PrimalStop::Limit,
-        PrimalStop::Overflow(evidence) => PrimalStop::Overflow(with_theta(&evidence, theta)),
+        PrimalStop::Overflow(evidence) => PrimalStop::Overflow(Evidence { theta, ..evidence }),
         PrimalStop::NoMemory => PrimalStop::NoMemory,
     }
 }

@@ -62,25 +62,16 @@ pub fn slope_program(alloc: Global, lp: &Lp, shift: &[Frac]) -> Result<Lp, NoMem
 }
 
 /// Evidence of a sum of the slope, where a sum of that program's point is refused.
-fn slope_evidence(evidence: &Evidence) -> Evidence
-    ensures { result ≡ slope_evidence evidence.now }
+fn slope_evidence(evidence: Evidence) -> Evidence
+    ensures { result ≡ slope_evidence evidence }
 {
-    let formula = if evidence.formula == 10 {
-        18
-    } else {
-        evidence.formula
-    };
-    Evidence {
-        formula,
-        way: evidence.way,
-        p: evidence.p,
-        q: evidence.q,
-        i: evidence.i,
-        j: evidence.j,
-        term: evidence.term,
-        theta: evidence.theta,
-        refused: evidence.refused,
+    if evidence.formula == 10 {
+        return Evidence {
+            formula: 18,
+            ..evidence
+        };
     }
+    evidence
 }
 
 impl RightHandSide<'_> {
@@ -105,7 +96,7 @@ impl RightHandSide<'_> {
     {
         match point_of(alloc, self.moving, basis, rates, out) {
             Ok(()) => Ok(()),
-            Err(Stop::Overflow(evidence)) => Err(Stop::Overflow(slope_evidence(&evidence))),
+            Err(Stop::Overflow(evidence)) => Err(Stop::Overflow(slope_evidence(evidence))),
             Err(Stop::NoMemory) => Err(Stop::NoMemory),
         }
     }
