@@ -21,7 +21,7 @@ use Rattle.run_machine.specs.declared.taking.Described.{Described}
 use Rattle.run_machine.specs.declared.taking.Described.TheVariants.{Filed, Ends}
 use Rattle.run_machine.specs.declared.end.End.TheVariants as ends
 use Rattle.run_machine.specs.declared.machine.Machine.{Machine}
-use Rattle.run_machine.specs.Standing.{Represents}
+use Rattle.run_machine.specs.Standing.{FromEach}
 use Rattle.run_machine.specs.Statements.{LeadsTo}
 
 -- the verb of a statement that takes a deck
@@ -52,9 +52,9 @@ module _ {K : Type 0} (Shows : Problems → K → Present → Type 0) (verb : De
   -- From each state that the machine shows, the statement files and prints this problem; the decks that are left are those from the
   -- next card on.
   pub record IsDescribed (problem : Problem ℕ) (from_card : ℕ) : Type 0 where
-    pub files : (position executed : ℕ) (state : State) → Represents Shows cards machine position executed state →
+    pub files : FromEach Shows cards machine (λ position executed state.
         DecidesAlone card (verb_move (verb_of verb) card state)
-        (next (Prints (report_of verb (size_of problem))) (with_problem problem (decks_from from_card cards) state))
+        (next (Prints (report_of verb (size_of problem))) (with_problem problem (decks_from from_card cards) state)))
     pub first : 1 ≤ from_card
     pub last : from_card ≤ length cards + 1
 
@@ -62,6 +62,6 @@ module _ {K : Type 0} (Shows : Problems → K → Present → Type 0) (verb : De
   abbrev pub Describes : Result Described Halt → Type 0
   Describes (Ok (Filed problem from_card)) = IsDescribed problem from_card
   Describes (Ok (Ends end)) =
-      (position executed : ℕ) (state : State) → Represents Shows cards machine position executed state →
-      LeadsTo Shows DecidesAlone (verb_of verb) card cards position executed state machine Nothing (act.Ends end)
+      FromEach Shows cards machine (λ position executed state.
+      LeadsTo Shows DecidesAlone (verb_of verb) card cards position executed state machine Nothing (act.Ends end))
   Describes (Err stop) = stop ≡ halt.NoMemory

@@ -15,7 +15,7 @@ use Rattle.run_machine.specs.declared.act.Act.{Act}
 use Rattle.run_machine.specs.declared.act.Halt.{Halt}
 use Rattle.run_machine.specs.declared.act.Halt.TheVariants as halt
 use Rattle.run_machine.specs.declared.machine.Machine.{Machine}
-use Rattle.run_machine.specs.Standing.{Represents}
+use Rattle.run_machine.specs.Standing.{FromEach}
 use Rattle.run_machine.specs.Statements.{LeadsTo}
 
 -- the text of the cards that a gain punches
@@ -50,10 +50,7 @@ module _ {K : Type 0} (Shows : Filed → K → Present → Type 0) (Given : ℕ 
   -- What a statement does from each state that the machine showed. Where it finds no memory, nothing is printed and nothing is
   -- punched.
   abbrev pub Performs : List (List ℕ) → Machine K → Machine K → Result Act Halt → Type 0
-  Performs cards old new (Ok act) =
-      (position executed : ℕ) (state : State) → Represents Shows cards old position executed state → ActsWith cards position executed state new act
-  Performs cards old new (Err (halt.Print stop)) =
-      (position executed : ℕ) (state : State) → Represents Shows cards old position executed state → IsPrintCut state stop
-  Performs cards old new (Err (halt.Punch stop)) =
-      (position executed : ℕ) (state : State) → Represents Shows cards old position executed state → IsPunchCut state stop
+  Performs cards old new (Ok act) = FromEach Shows cards old (λ position executed state. ActsWith cards position executed state new act)
+  Performs cards old new (Err (halt.Print stop)) = FromEach Shows cards old (λ position executed state. IsPrintCut state stop)
+  Performs cards old new (Err (halt.Punch stop)) = FromEach Shows cards old (λ position executed state. IsPunchCut state stop)
   Performs cards old new (Err halt.NoMemory) = (print_new ≡ print_old) × (punch_new ≡ punch_old)

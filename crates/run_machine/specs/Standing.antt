@@ -6,6 +6,7 @@
 --     named, filed wanted file     the name that is wanted and its problem on file, or those put last
 --     ShowsSetup file kept viewed  the state's setup is the one that the machine's shows
 --     Represents cards machine ..  the machine shows this state of a run over these cards
+--     FromEach cards machine ..    this holds of each such state
 use Rattle.std.specs.Prelude.{◌≡◌, ℕ, ◌+◌, ◌-◌, ◌≤◌, List, Option, Some, None, IfSome, length, drop, option_and_then}
 use Rattle.card_definitions.specs.Cards.{numbered_cards}
 use Rattle.deck_definitions.specs.Decks.{decks_of}
@@ -60,3 +61,7 @@ module _ {K : Type 0} (Shows : Filed → K → Present → Type 0) where
     pub decks : state.decks ≡ decks_of (drop (machine.decks_from - 1) (numbered_cards cards))
     pub setup : ShowsSetup machine.file machine.setup state.setup
     pub mark : state.mark ≡ machine.mark
+
+  -- of each state that the machine shows, at its position and with its count of statements
+  abbrev pub FromEach : List (List ℕ) → Machine K → (ℕ → ℕ → State → Type 0) → Type 0
+  FromEach cards machine Fact = (position executed : ℕ) (state : State) → Represents cards machine position executed state → Fact position executed state

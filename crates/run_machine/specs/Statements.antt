@@ -19,7 +19,7 @@ use Rattle.run_machine.specs.declared.act.Halt.{Halt}
 use Rattle.run_machine.specs.declared.act.Halt.TheVariants as halt
 use Rattle.run_machine.specs.declared.machine.Machine.{Machine}
 use Rattle.run_machine.specs.Ends.{end_view}
-use Rattle.run_machine.specs.Standing.{Represents}
+use Rattle.run_machine.specs.Standing.{Represents, FromEach}
 
 -- positions count from 1, and a verb may be allowed MAX_STEPS steps
 abbrev pub IsSoundVerb : Verb ℕ → Type 0
@@ -44,8 +44,7 @@ module _ {K : Type 0} (Shows : Filed → K → Present → Type 0) (Given : ℕ 
     -- from each state that the machine showed, the statement comes to this act, and prints nothing
     abbrev pub Decides : Machine K → Machine K → Act → Type 0
     Decides old new act =
-        (cards : List (List ℕ)) (position executed : ℕ) (state : State) → Represents Shows cards old position executed state →
-        LeadsTo cards position executed state new Nothing act
+        (cards : List (List ℕ)) → FromEach Shows cards old (λ position executed state. LeadsTo cards position executed state new Nothing act)
 
     module _ (print_old print_new : SinkState) where
       -- with some gain, which is printed, the statement comes to this act
@@ -65,9 +64,7 @@ module _ {K : Type 0} (Shows : Filed → K → Present → Type 0) (Given : ℕ 
       -- What a statement that punches nothing does from each state that the machine showed. Where it finds no memory, nothing is
       -- printed.
       abbrev pub Executes : List (List ℕ) → Machine K → Machine K → Result Act Halt → Type 0
-      Executes cards old new (Ok act) =
-          (position executed : ℕ) (state : State) → Represents Shows cards old position executed state → Acts cards position executed state new act
-      Executes cards old new (Err (halt.Print stop)) =
-          (position executed : ℕ) (state : State) → Represents Shows cards old position executed state → IsCutOff state stop
+      Executes cards old new (Ok act) = FromEach Shows cards old (λ position executed state. Acts cards position executed state new act)
+      Executes cards old new (Err (halt.Print stop)) = FromEach Shows cards old (λ position executed state. IsCutOff state stop)
       Executes cards old new (Err (halt.Punch stop)) = ⊥
       Executes cards old new (Err halt.NoMemory) = print_new ≡ print_old
