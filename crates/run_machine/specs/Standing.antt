@@ -3,6 +3,7 @@
 -- stands, with these names in XOBJ and XRHS.
 --     AreDemands cells             the demands that are set are numbers of statements
 --     IsSound cards machine        its numbers are those of cards and of statements, and its setup is ready
+--     StaysSound old new           it stays sound, whatever the cards are
 --     named, filed wanted file     the name that is wanted and its problem on file, or those put last
 --     ShowsSetup file kept viewed  the state's setup is the one that the machine's shows
 --     Represents cards machine ..  the machine shows this state of a run over these cards
@@ -34,6 +35,10 @@ pub record IsSound {K : Type 0} (Ready : Filed → K → Type 0) (Solved : Mark 
   pub ready : IfSome machine.setup (Ready machine.file)
   pub solved : IfSome machine.mark
       (λ mark. IfSome machine.setup (Solved mark machine.cells.xobj machine.cells.xrhs machine.file))
+
+-- a machine that was sound over some cards is so again
+abbrev pub StaysSound : {K : Type 0} → (Filed → K → Type 0) → (Mark → Option Name → Option Name → Filed → K → Type 0) → Machine K → Machine K → Type 0
+StaysSound Ready Solved old new = (cards : List (List ℕ)) → IsSound Ready Solved cards old → IsSound Ready Solved cards new
 
 -- ---- the state that a machine shows
 

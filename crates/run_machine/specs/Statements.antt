@@ -2,6 +2,7 @@
 --     Follows move gain act        the move comes to this act with this gain
 --     LeadsTo state gain act         from this state the statement comes to this act with this gain
 --     Decides old new act          the statement prints nothing, and comes to this act
+--     DecidesOnAny old new act     it does so without an answer of linear programming, whatever its card is
 --     Executes result              the statement punches nothing, and comes to this act, with its report printed; or it is cut off
 use Rattle.std.specs.Prelude.{◌≡◌, ℕ, ◌≤◌, List, [], Result, Ok, Err, IfSome}
 use Rattle.job_devices.specs.States.{SinkState}
@@ -11,7 +12,7 @@ use Rattle.control_definitions.specs.Program.{Verb, MoveLimit, Mvadr, Goto}
 use Rattle.control_definitions.specs.declared.TheConstants.{MAX_STEPS}
 use Rattle.problem_file.specs.Filed.{Filed}
 use Rattle.run_definitions.specs.State.{Present, State}
-use Rattle.run_definitions.specs.Moves.{Gain, Nothing, punched_by, gain_text, StatementOutcome, Ends, gain_of, next, jump, StatementMove}
+use Rattle.run_definitions.specs.Moves.{Gain, Nothing, punched_by, gain_text, StatementOutcome, Ends, gain_of, next, jump, StatementMove, DecidesAlone}
 use Rattle.run_definitions.specs.Verbs.{verb_move}
 use Rattle.run_machine.specs.declared.act.Act.{Act}
 use Rattle.run_machine.specs.declared.act.Act.TheVariants as act
@@ -68,3 +69,7 @@ module _ {K : Type 0} (Shows : Filed → K → Present → Type 0) (Given : ℕ 
       Executes cards old new (Err (halt.Print stop)) = FromEach Shows cards old (λ position executed state. IsCutOff state stop)
       Executes cards old new (Err (halt.Punch stop)) = ⊥
       Executes cards old new (Err halt.NoMemory) = print_new ≡ print_old
+
+-- the statement asks nothing of linear programming, and does so whatever its card is
+abbrev pub DecidesOnAny : {K : Type 0} → (Filed → K → Present → Type 0) → Verb ℕ → Machine K → Machine K → Act → Type 0
+DecidesOnAny Shows verb old new act = (card : ℕ) → Decides Shows DecidesAlone verb card old new act

@@ -1,11 +1,10 @@
 // The statements that set cells and demands, and those that choose the next statement.
-ghost use Rattle.std.specs.Prelude.{◌≡◌, ◌≤◌, ℕ, List, IfSome};
+ghost use Rattle.std.specs.Prelude.{◌≡◌, ◌≤◌, IfSome};
 ghost use Rattle.control_definitions.specs.Program as program;
 ghost use Rattle.control_definitions.specs.declared.TheConstants.{MAX_STEPS};
 ghost use Rattle.run_definitions.specs.Verbs.{mark_after};
-ghost use Rattle.run_definitions.specs.Moves.{DecidesAlone};
-ghost use Rattle.run_machine.specs.Standing.{IsSound};
-ghost use Rattle.run_machine.specs.Statements.{Decides};
+ghost use Rattle.run_machine.specs.Standing.{StaysSound};
+ghost use Rattle.run_machine.specs.Statements.{DecidesOnAny};
 
 use crate::act::Act;
 use crate::end::End;
@@ -34,10 +33,8 @@ fn mark_after(cell: NameCell, mark: Option<Mark>) -> Option<Mark>
 impl<S: Kept> Machine<S> {
     /// INITIALZ: the cells and demands become what they were at the start of the run, and the mark is cleared.
     pub fn initialize(&mut self) -> Act
-        ensures acts { (card : ℕ) → Decides S.shows DecidesAlone program.Initialz card self.old
-            self.new result }
-        ensures sound { (cards : List (List ℕ)) → IsSound S.ready S.solved cards self.old →
-            IsSound S.ready S.solved cards self.new }
+        ensures acts { DecidesOnAny S.shows program.Initialz self.old self.new result }
+        ensures sound { StaysSound S.ready S.solved self.old self.new }
     {
         self.cells = Cells::new();
         self.mark = None;
@@ -46,10 +43,8 @@ impl<S: Kept> Machine<S> {
 
     /// MOVE of a name. Another objective or right-hand side clears the mark.
     pub fn move_name(&mut self, cell: NameCell, name: Name) -> Act
-        ensures acts { (card : ℕ) → Decides S.shows DecidesAlone (program.MoveName cell name) card
-            self.old self.new result }
-        ensures sound { (cards : List (List ℕ)) → IsSound S.ready S.solved cards self.old →
-            IsSound S.ready S.solved cards self.new }
+        ensures acts { DecidesOnAny S.shows (program.MoveName cell name) self.old self.new result }
+        ensures sound { StaysSound S.ready S.solved self.old self.new }
     {
         self.cells.move_name(cell, name);
         self.mark = mark_after(cell, self.mark);
@@ -58,11 +53,8 @@ impl<S: Kept> Machine<S> {
 
     /// MOVE of a number.
     pub fn move_number(&mut self, cell: NumberCell, value: Frac) -> Act
-        ensures acts { (card : ℕ) →
-            Decides S.shows DecidesAlone (program.MoveNumber cell value) card
-            self.old self.new result }
-        ensures sound { (cards : List (List ℕ)) → IsSound S.ready S.solved cards self.old →
-            IsSound S.ready S.solved cards self.new }
+        ensures acts { DecidesOnAny S.shows (program.MoveNumber cell value) self.old self.new result }
+        ensures sound { StaysSound S.ready S.solved self.old self.new }
     {
         self.cells.move_number(cell, value);
         Act::Next
@@ -71,10 +63,8 @@ impl<S: Kept> Machine<S> {
     /// MOVE of the number of steps that a verb may take, or of no limit on them.
     pub fn move_limit(&mut self, limit: Option<u32>) -> Act
         requires { IfSome limit (λ steps. steps ≤ MAX_STEPS) }
-        ensures acts { (card : ℕ) → Decides S.shows DecidesAlone (program.MoveLimit limit) card
-            self.old self.new result }
-        ensures sound { (cards : List (List ℕ)) → IsSound S.ready S.solved cards self.old →
-            IsSound S.ready S.solved cards self.new }
+        ensures acts { DecidesOnAny S.shows (program.MoveLimit limit) self.old self.new result }
+        ensures sound { StaysSound S.ready S.solved self.old self.new }
     {
         self.cells.move_limit(limit);
         Act::Next
@@ -83,11 +73,8 @@ impl<S: Kept> Machine<S> {
     /// MVADR: sets a demand to a position.
     pub fn set_demand(&mut self, demand: Demand, position: u32) -> Act
         requires { 1 ≤ position }
-        ensures acts { (card : ℕ) →
-            Decides S.shows DecidesAlone (program.Mvadr demand position) card
-            self.old self.new result }
-        ensures sound { (cards : List (List ℕ)) → IsSound S.ready S.solved cards self.old →
-            IsSound S.ready S.solved cards self.new }
+        ensures acts { DecidesOnAny S.shows (program.Mvadr demand position) self.old self.new result }
+        ensures sound { StaysSound S.ready S.solved self.old self.new }
     {
         self.cells.set_demand(demand, position);
         Act::Next
@@ -96,16 +83,14 @@ impl<S: Kept> Machine<S> {
     /// GOTO: the statement at a position follows.
     pub fn jump(&self, position: u32) -> Act
         requires { 1 ≤ position }
-        ensures { (card : ℕ) → Decides S.shows DecidesAlone (program.Goto position) card self.now
-            self.now result }
+        ensures { DecidesOnAny S.shows (program.Goto position) self.now self.now result }
     {
         Act::Jump(position)
     }
 
     /// EXIT: the run ends.
     pub fn exit(&self) -> Act
-        ensures { (card : ℕ) → Decides S.shows DecidesAlone program.Exit card self.now self.now
-            result }
+        ensures { DecidesOnAny S.shows program.Exit self.now self.now result }
     {
         Act::Ends(End::Done)
     }
