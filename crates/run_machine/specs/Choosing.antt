@@ -1,8 +1,9 @@
 -- What is selected of a problem, and why nothing is.
---     refused_act card refusal     what a statement comes to that does nothing
+--     refused_end, refused_act card refusal     how a run ends at a statement that does nothing, and what that comes to
 --     IsUnselected problem choice  why nothing is selected
 --     IsSelected file name ..      a choice selects this linear program of a problem on file
 use Rattle.std.specs.Prelude.{◌≡◌, ℕ, Some, None, Result, Ok, Err}
+use Rattle.std.specs.Result.{result_map_both}
 use Rattle.problem_definitions.specs.Names.{Name}
 use Rattle.problem_definitions.specs.Problem.{Problem}
 use Rattle.lp_definitions.specs.LinearProgram.{LinearProgram}
@@ -20,15 +21,19 @@ use Rattle.run_machine.specs.declared.act.Act.{Act}
 use Rattle.run_machine.specs.declared.act.Act.TheVariants as act
 use Rattle.run_machine.specs.declared.act.Halt.{Halt}
 use Rattle.run_machine.specs.declared.act.Halt.TheVariants as halt
+use Rattle.run_machine.specs.declared.end.End.{End}
 use Rattle.run_machine.specs.declared.end.End.TheVariants as ends
 use Rattle.run_machine.specs.declared.selecting.Refusal.{Refusal}
 use Rattle.run_machine.specs.declared.selecting.Refusal.TheVariants.{Fault, Overflow, NoMemory}
 
 -- a refused statement ends the run
+abbrev pub refused_end : ℕ → Refusal → Result End Halt
+refused_end card (Fault fault) = Ok (ends.Verb fault card)
+refused_end card (Overflow e) = Ok (ends.Overflow e None card)
+refused_end card NoMemory = Err halt.NoMemory
+
 abbrev pub refused_act : ℕ → Refusal → Result Act Halt
-refused_act card (Fault fault) = Ok (act.Ends (ends.Verb fault card))
-refused_act card (Overflow e) = Ok (act.Ends (ends.Overflow e None card))
-refused_act card NoMemory = Err halt.NoMemory
+refused_act card refusal = result_map_both act.Ends (λ h. h) (refused_end card refusal)
 
 -- ---- selections
 

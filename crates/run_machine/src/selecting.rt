@@ -36,21 +36,28 @@ pub enum Refusal {
 
 impl Refusal {
     ghost use Rattle.std.specs.Prelude.{◌≡◌};
-    ghost use Rattle.run_machine.specs.Choosing.{refused_act};
+    ghost use Rattle.run_machine.specs.Choosing.{refused_end, refused_act};
+
+    /// The end of the run at the statement of this card.
+    pub fn end_at(self, card: u32) -> Result<End, Halt>
+        ensures { result ≡ refused_end card self }
+    {
+        match self {
+            Refusal::Fault(fault) => Ok(End::Verb { fault, card }),
+            Refusal::Overflow(evidence) => Ok(End::Overflow {
+                evidence,
+                place: None,
+                card,
+            }),
+            Refusal::NoMemory => Err(Halt::NoMemory),
+        }
+    }
 
     /// What the statement of this card comes to.
     pub fn act(self, card: u32) -> Result<Act, Halt>
         ensures { result ≡ refused_act card self }
     {
-        match self {
-            Refusal::Fault(fault) => Ok(Act::Ends(End::Verb { fault, card })),
-            Refusal::Overflow(evidence) => Ok(Act::Ends(End::Overflow {
-                evidence,
-                place: None,
-                card,
-            })),
-            Refusal::NoMemory => Err(Halt::NoMemory),
-        }
+        self.end_at(card).map(Act::Ends)
     }
 }
 

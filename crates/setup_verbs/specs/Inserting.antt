@@ -5,6 +5,7 @@
 --     IsInserted, IsSingularAt     INSERT comes to a new setup; or it ends the run at a singular basis
 --     IsFound .. result            what INSERT finds with the setup of a machine
 use Rattle.std.specs.Prelude.{◌≡◌, ◌⊎◌, ℕ, ◌+◌, ◌≤◌, List, All, Option, None, Some, Result, Ok, Err, drop, length}
+use Rattle.std.specs.Result.{result_map_both}
 use Rattle.exact_values.specs.Rational.{ℚ}
 use Rattle.card_definitions.specs.Cards.{Card, live, numbered_cards, cards_between}
 use Rattle.problem_definitions.specs.Names.{Name}
@@ -37,7 +38,7 @@ use Rattle.run_machine.specs.declared.act.Halt.TheVariants as halt
 use Rattle.run_machine.specs.declared.end.End.{End}
 use Rattle.run_machine.specs.declared.end.End.TheVariants as ends
 use Rattle.run_machine.specs.declared.selecting.Refusal.{Refusal}
-use Rattle.run_machine.specs.declared.selecting.Refusal.TheVariants as refusals
+use Rattle.run_machine.specs.Choosing.{refused_end}
 use Rattle.run_machine.specs.Ends.{end_view}
 use Rattle.selection_definitions.specs.Choice.{Choice}
 use Rattle.setup_verbs.specs.Kept.{Setup, chosen}
@@ -129,9 +130,7 @@ module _ (card : ℕ) (setup : Setup) (choice : Choice) (lp : LinearProgram) (s 
 
 -- a refused statement ends the run
 abbrev pub refused_found : ℕ → Refusal → Result Found Halt
-refused_found card (refusals.Fault fault) = Ok (found.Ends (ends.Verb fault card))
-refused_found card (refusals.Overflow e) = Ok (found.Ends (ends.Overflow e None card))
-refused_found card refusals.NoMemory = Err halt.NoMemory
+refused_found card refusal = result_map_both found.Ends (λ h. h) (refused_end card refusal)
 
 module _ (card : ℕ) (cards : List (List ℕ)) (machine : Machine) where
   -- from each state that the machine shows, the statement prints this line and goes on with this setup

@@ -172,15 +172,7 @@ fn singular_end(file: ProblemFile, name: Name, lp: Lp, dependency: Direction, ca
 fn ended<E: Engine>(refusal: Refusal, card: u32) -> Result<Found<Setup<E>>, Halt>
     ensures { result ≡ refused_found card refusal }
 {
-    match refusal {
-        Refusal::Fault(fault) => Ok(Found::Ends(End::Verb { fault, card })),
-        Refusal::Overflow(evidence) => Ok(Found::Ends(End::Overflow {
-            evidence,
-            place: None,
-            card,
-        })),
-        Refusal::NoMemory => Err(Halt::NoMemory),
-    }
+    Ok(Found::Ends(refusal.end_at(card)?))
 }
 
 // What was selected of a problem, and by which choice.
