@@ -5,9 +5,9 @@ ghost use Rattle.run_definitions.specs.Moves.{DecidesAlone};
 ghost use Rattle.run_machine.specs.Punching.{Performs};
 
 use crate::act::{Act, Halt};
-use crate::end::End;
 use crate::kept::Kept;
 use crate::machine::Machine;
+use crate::selecting::Refusal;
 use bcd_out::deck_of;
 use control_definitions::NameCell;
 use job_devices::Sink;
@@ -29,10 +29,7 @@ impl<S: Kept> Machine<S> {
             (U.taken punch.old) (U.taken punch.new) cards self.now self.now result }
     {
         let Some(problem) = self.problem_in(NameCell::Xpbname) else {
-            return Ok(Act::Ends(End::Verb {
-                fault: VerbFault::NoProblem,
-                card,
-            }));
+            return Refusal::Fault(VerbFault::NoProblem).act(card);
         };
         let count = match deck_of(problem, punch) {
             Ok(count) => count,

@@ -1,10 +1,12 @@
 // CONVERT and REVISE: the problem that a deck gives.
-ghost use Rattle.std.specs.Prelude.{◌≡◌, ◌≤◌, length};
+ghost use Rattle.std.specs.Prelude.{◌≡◌, ◌≤◌, Ok, length};
 ghost use Rattle.run_definitions.specs.Moves.{DecidesAlone};
 ghost use Rattle.run_machine.specs.Standing.{IsSound};
 ghost use Rattle.run_machine.specs.Statements.{Executes};
 ghost use Rattle.run_machine.specs.Describing.{verb_of, Describes};
+ghost use Rattle.run_machine.specs.declared.end.End.TheVariants as ends;
 ghost use Rattle.run_machine.specs.declared.taking.DeckVerb.TheVariants as deck_verb;
+ghost use Rattle.run_machine.specs.declared.taking.Described.TheVariants as descriptions;
 
 use crate::act::{Act, Halt};
 use crate::end::End;
@@ -20,6 +22,13 @@ use mps_convert::convert;
 use revise_deck::revise;
 use std::alloc::Global;
 
+// The statement of this card is refused.
+fn refused(fault: VerbFault, card: u32) -> Result<Described, Halt>
+    ensures { result ≡ Ok (descriptions.Ends (ends.Verb fault card)) }
+{
+    Ok(Described::Ends(End::Verb { fault, card }))
+}
+
 impl<S: Kept> Machine<S> {
     // CONVERT takes a deck, and converts it.
     fn converted(&self, alloc: Global, cards: &Cards, card: u32) -> Result<Described, Halt>
@@ -28,10 +37,7 @@ impl<S: Kept> Machine<S> {
     {
         let wanted = self.cells.name(NameCell::Xdata);
         let Some(deck) = take_deck(cards, self.decks_from, wanted) else {
-            return Ok(Described::Ends(End::Verb {
-                fault: VerbFault::DeckNotFound,
-                card,
-            }));
+            return refused(VerbFault::DeckNotFound, card);
         };
         let named = self.cells.name(NameCell::Xpbname);
         let given = convert(alloc, cards, deck.first, deck.last, named);
@@ -44,17 +50,11 @@ impl<S: Kept> Machine<S> {
         ensures { Describes S.shows deck_verb.Revise card cards.now self.now result }
     {
         let Some(old) = self.problem_in(NameCell::Xoldname) else {
-            return Ok(Described::Ends(End::Verb {
-                fault: VerbFault::NoProblem,
-                card,
-            }));
+            return refused(VerbFault::NoProblem, card);
         };
         let wanted = self.cells.name(NameCell::Xdata);
         let Some(deck) = take_deck(cards, self.decks_from, wanted) else {
-            return Ok(Described::Ends(End::Verb {
-                fault: VerbFault::DeckNotFound,
-                card,
-            }));
+            return refused(VerbFault::DeckNotFound, card);
         };
         let name = self.cells.name(NameCell::Xpbname);
         let given = revise(alloc, old, cards, deck.first, deck.last, name);

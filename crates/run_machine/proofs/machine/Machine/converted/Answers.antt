@@ -4,7 +4,8 @@ use Rattle.run_machine.proofs.machine.Machine.converted.Goals as goal
 
 pub returns-in_default : goal.returns-in_default
 returns-in_default g c =
-    finds_no_deck g.S.Kept.shows c.args.card c.args.cards.now c.args.self.now c.name-wanted.result c.name-wanted.ensures c.in_default.ensures.taken
+    rw c.refused.ensures
+    (finds_no_deck g.S.Kept.shows c.args.card c.args.cards.now c.args.self.now c.name-wanted.result c.name-wanted.ensures c.in_default.ensures.taken)
 
 pub returns : goal.returns
 returns g c =

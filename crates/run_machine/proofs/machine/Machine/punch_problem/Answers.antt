@@ -6,8 +6,9 @@ use Rattle.run_machine.proofs.machine.Machine.punch_problem.Goals as goal
 
 pub returns-in_default : goal.returns-in_default
 returns-in_default g c = λ cards.
-    no_problem_punched g.S.Kept.shows c.args.card cards c.args.self.now (g.P.Sink.taken c.args.print.now) (g.U.Sink.taken c.args.punch.now)
-    (sym c.in_default.ensures)
+    rw c.act.ensures
+    (no_problem_punched g.S.Kept.shows c.args.card cards c.args.self.now (g.P.Sink.taken c.args.print.now) (g.U.Sink.taken c.args.punch.now)
+    (sym c.in_default.ensures))
 
 pub returns-in-Err : goal.returns-in-Err
 returns-in-Err g c = λ cards.
