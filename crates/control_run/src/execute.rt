@@ -15,7 +15,7 @@ use lp_model::Engine;
 use parametric_request::ParametricVerb;
 use run_machine::{Act, AfterStatement, DeckVerb, Halt, Machine, SolvingVerb};
 use setup_verbs::{Setup, insert_basis, punch_present, set_up};
-use showing_verbs::{show_ranges, show_solution};
+use showing_verbs::{ShowingVerb, show_present};
 use solving_verbs::{show_parametric_run, solve};
 use std::alloc::Global;
 
@@ -49,9 +49,9 @@ fn execute<E: Engine, P: Sink, U: Sink>(
         Verb::Setup(options) => set_up(alloc, machine, print, card, options),
         Verb::Primal => solve(alloc, machine, print, card, SolvingVerb::Primal),
         Verb::Dual => solve(alloc, machine, print, card, SolvingVerb::Dual),
-        Verb::Solution => show_solution(alloc, machine, print, card),
+        Verb::Solution => show_present(alloc, machine, print, card, ShowingVerb::Solution),
         Verb::Revise => machine.make_problem(alloc, DeckVerb::Revise, cards, print, card),
-        Verb::Ranging => show_ranges(alloc, machine, print, card),
+        Verb::Ranging => show_present(alloc, machine, print, card, ShowingVerb::Ranging),
         Verb::Paraobj => show_parametric_run(alloc, machine, print, card, ParametricVerb::Paraobj),
         Verb::Pararhs => show_parametric_run(alloc, machine, print, card, ParametricVerb::Pararhs),
         Verb::Bcdout => machine.punch_problem(print, punch, card),

@@ -1,3 +1,4 @@
 mod Showing
 pub mod Ranging
 pub mod Staying
+mod Viewing

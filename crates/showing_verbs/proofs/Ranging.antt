@@ -1,6 +1,5 @@
 -- What RANGE comes to.
 use Rattle.std.proofs.Common.{◌≡◌, ℕ, List, [], ◌∷◌, ◌++◌, Option, None, Some, Result, Ok, Err, option_map, refl, sym, ap, subst, inl, inr, ◌∙◌}
-use Rattle.std.proofs.lemmas.Option.{same_Some}
 use Rattle.job_devices.specs.States.{SinkState}
 use Rattle.job_devices.specs.declared.device.WriteStop.{WriteStop}
 use Rattle.job_devices.specs.Text.{Writes}
@@ -12,7 +11,7 @@ use Rattle.lp_definitions.specs.Waypoints.{waypoint}
 use Rattle.lp_definitions.specs.declared.Evidence.{Evidence}
 use Rattle.simplex_definitions.specs.Statements.{Range as RangeStatement}
 use Rattle.problem_definitions.specs.Problem.{Problem}
-use Rattle.problem_file.specs.Filed.{Filed, filed_under}
+use Rattle.problem_file.specs.Filed.{filed_under}
 use Rattle.listing_tables.specs.Lines.{range_lines}
 use Rattle.listing_definitions.specs.Text.{report_text}
 use Rattle.control_definitions.specs.Program.{Ranging}
@@ -23,7 +22,7 @@ use Rattle.listing_definitions.specs.declared.VerbFault.{VerbFault}
 use Rattle.listing_definitions.specs.declared.VerbFault.TheVariants as verb_fault
 use Rattle.listing_definitions.specs.Report.{RangeLines, Ranges}
 use Rattle.listing_definitions.specs.Ending as endings
-use Rattle.question_definitions.specs.Answers.{Basis, Sheet, OfRanges}
+use Rattle.question_definitions.specs.Answers.{Basis, OfRanges}
 use Rattle.control_definitions.specs.Cells.{Cells}
 use Rattle.answer_definitions.specs.Sections.{IsRanged}
 use Rattle.answer_definitions.specs.Evidence.{IsEvidence}
@@ -31,11 +30,9 @@ use Rattle.listing_tables.specs.declared.sheet.Sheet.{Sheet as OwnSheet}
 use Rattle.verb_answers.specs.Answers.{sheet_view}
 use Rattle.verb_answers.specs.Stops.{RangesRefused}
 use Rattle.run_definitions.specs.State.{Present, State, choice_of, present_basis, path_of}
-use Rattle.run_definitions.specs.Moves.{Gain, Nothing, Prints, punched_by, StatementOutcome, next, stops, InAnswer, StatementMove, MayStop, Asks, Gives}
+use Rattle.run_definitions.specs.Moves.{Gain, Nothing, Prints, StatementOutcome, next, stops, InAnswer, StatementMove, MayStop, Asks, Gives}
 use Rattle.run_definitions.specs.Moves.{or_fault}
 use Rattle.run_definitions.specs.Verbs.{if_optimal, or_selection_fault, verb_move}
-use Rattle.run_machine.specs.declared.act.Act.{Act}
-use Rattle.run_machine.specs.declared.act.Halt.{Halt}
 use Rattle.run_machine.specs.declared.act.Halt.TheVariants as halt
 use Rattle.run_machine.specs.declared.end.Place.{Place as OwnPlace}
 use Rattle.run_machine.specs.declared.finding.Finding.{Finding}
@@ -50,13 +47,15 @@ use Rattle.setup_verbs.specs.Standing.{IsPresent, ShowsSetup, Represents}
 use Rattle.setup_verbs.specs.Statements.{LeadsTo, Executes}
 use Rattle.run_machine.specs.Choosing.{refused_act}
 use Rattle.run_machine.specs.Findings.{ReportsFinding, act_of}
-use Rattle.showing_verbs.specs.Shown.{RangesFound, ranged, stopped, ShowsRanges, range_fault, IsSameSetup}
+use Rattle.showing_verbs.specs.Shown.{RangesFound, ranged, stopped, Shows, view_of, IsSameSetup}
+use Rattle.showing_verbs.specs.declared.present.ShowingVerb.TheVariants as verbs
+use Rattle.showing_verbs.specs.declared.present.View.{View}
+use Rattle.showing_verbs.specs.declared.present.View.TheVariants.{Intervals}
 use Rattle.setup_verbs.proofs.Selected.{same_matrix}
 use Rattle.run_machine.proofs.Giving.{quietly}
 use Rattle.setup_verbs.proofs.Giving.{gives_fault, gives_found, gives_selected}
-use Rattle.setup_verbs.proofs.Reporting.{reported_executes, cut_executes}
-use Rattle.showing_verbs.proofs.Showing.{still_stands}
-use Rattle.setup_verbs.proofs.Present.{IsPresentOf, lie_up_to, one_problem, present_at, present_with}
+use Rattle.showing_verbs.proofs.Showing.{sheet_of, still_stands}
+use Rattle.setup_verbs.proofs.Present.{IsPresentOf, lie_up_to, present_at, present_with}
 
 -- ---- the intervals of a basis
 
@@ -88,30 +87,10 @@ ranges_overflow sheet s before after e o place is fit =
     stopped (λ earlier lie. subst (λ (p : endings.Place). IsEvidence (RangeStatement sheet.lp.now) None 0 (earlier ++ s ∷ []) [] e (Some p)) (sym is)
     (o.shows earlier lie)) fit
 
--- the setup that code has opened, which is the one that is spoken of
-module _ (file : Filed) {setup old : Setup} (is_old : setup ≡ old) (there : Problem ℕ) (is_there : filed_under setup.name file ≡ Some there) where
-  pub ranges_at : (print_old print_new : SinkState) (result : Result Finding Halt) → ReportsFinding (ShowsRanges there setup) print_old print_new result →
-      (problem : Problem ℕ) → filed_under old.name file ≡ Some problem → ReportsFinding (ShowsRanges problem old) print_old print_new result
-  ranges_at print_old print_new result t problem on_file =
-      subst (λ (s : Setup). ReportsFinding (ShowsRanges problem s) print_old print_new result) is_old
-      (subst (λ (q : Problem ℕ). ReportsFinding (ShowsRanges q setup) print_old print_new result)
-      (one_problem file setup there problem is_there (ap (λ (s : Setup). filed_under s.name file) is_old ∙ on_file)) t)
-
--- without a fault the mark is OPTIMAL
-pub without_fault : (mark : Option Mark) → range_fault mark ≡ None → mark ≡ Some Optimal
-without_fault None e = absurd (cc e)
-without_fault (Some Optimal) e = refl
-without_fault (Some Infeasible) e = absurd (cc e)
-without_fault (Some Unbounded) e = absurd (cc e)
-
 -- ---- the statement
 
-no_cards_by : (problem : Problem ℕ) (setup : Setup) (gain : Gain) (finding : Finding) → ShowsRanges problem setup gain finding → punched_by gain ≡ []
-no_cards_by problem setup _ _ (ranged h) = refl
-no_cards_by problem setup _ _ (stopped h fit) = refl
-
-abbrev sheet_of : Present → LinearProgram → Sheet
-sheet_of present lp = record { problem = present.problem; lp = lp }
+pub same_fault : (found : Result View VerbFault) (one other : VerbFault) → found ≡ Err one → found ≡ Err other → one ≡ other
+same_fault found one other is also = cc
 
 module _ (card : ℕ) (state : State) where
   abbrev printed : RangeLines → StatementOutcome
@@ -144,22 +123,22 @@ module _ (card : ℕ) (state : State) where
   gives_set_up present outcome e given = range_gives outcome (gives_found card verb_fault.NoSetup state.setup go_set_up present outcome e given)
 
   -- the mark is refused
-  gives_refused : (present : Present) (mark : Option Mark) (fault : VerbFault) → state.mark ≡ mark → range_fault mark ≡ Some fault →
+  gives_refused : (present : Present) (mark : Option Mark) (fault : VerbFault) → state.mark ≡ mark → view_of verbs.Ranging mark ≡ Err fault →
       Gives linear_programming_of_128_bits card (go_set_up present) (stops (endings.VerbStop (record { fault = fault; card = card })))
   gives_refused present None fault is e =
       subst (λ (f : VerbFault). Gives linear_programming_of_128_bits card (go_set_up present) (stops (endings.VerbStop (record { fault = f; card = card }))))
-      (same_Some verb_fault.NotSolved fault e)
+      (same_fault (view_of verbs.Ranging None) verb_fault.NotSolved fault refl e)
       (gives_fault card verb_fault.NotSolved state.mark (go_marked present) is)
   gives_refused present (Some Optimal) fault is e = absurd (cc e)
   gives_refused present (Some Infeasible) fault is e =
       subst (λ (f : VerbFault). Gives linear_programming_of_128_bits card (go_set_up present) (stops (endings.VerbStop (record { fault = f; card = card }))))
-      (same_Some verb_fault.NotOptimal fault e)
+      (same_fault (view_of verbs.Ranging (Some Infeasible)) verb_fault.NotOptimal fault refl e)
       (gives_found card verb_fault.NotSolved state.mark (go_marked present) Infeasible
       (stops (endings.VerbStop (record { fault = verb_fault.NotOptimal; card = card }))) is
       (gives_fault card verb_fault.NotOptimal (if_optimal Infeasible) (go_optimal present) refl))
   gives_refused present (Some Unbounded) fault is e =
       subst (λ (f : VerbFault). Gives linear_programming_of_128_bits card (go_set_up present) (stops (endings.VerbStop (record { fault = f; card = card }))))
-      (same_Some verb_fault.NotOptimal fault e)
+      (same_fault (view_of verbs.Ranging (Some Unbounded)) verb_fault.NotOptimal fault refl e)
       (gives_found card verb_fault.NotSolved state.mark (go_marked present) Unbounded
       (stops (endings.VerbStop (record { fault = verb_fault.NotOptimal; card = card }))) is
       (gives_fault card verb_fault.NotOptimal (if_optimal Unbounded) (go_optimal present) refl))
@@ -179,7 +158,7 @@ module _ (card : ℕ) (cards : List (List ℕ)) (old : Machine) (setup : Setup) 
     abbrev present : Present
     present = present_with problem setup.options p.opening p.steps
 
-    not_optimal : (fault : VerbFault) → range_fault old.mark ≡ Some fault →
+    not_optimal : (fault : VerbFault) → view_of verbs.Ranging old.mark ≡ Err fault →
         Gives linear_programming_of_128_bits card (verb_move Ranging card state) (stops (endings.VerbStop (record { fault = fault; card = card })))
     not_optimal fault is =
         gives_set_up card state present (stops (endings.VerbStop (record { fault = fault; card = card }))) p.is_viewed
@@ -196,7 +175,7 @@ module _ (card : ℕ) (cards : List (List ℕ)) (old : Machine) (setup : Setup) 
           (gives_selected card (selected problem (choice_of state.cells setup.options)) (go_view card state present) setup.lp outcome
           (ap (λ (c : Cells). selected problem (choice_of c setup.options)) s.cells ∙ ok) g)))
 
-      pub ranged_comes : (gain : Gain) (finding : Finding) → ShowsRanges problem setup gain finding →
+      pub ranged_comes : (gain : Gain) (finding : Finding) → Shows Intervals problem setup gain finding →
           LeadsTo linear_programming_of_128_bits Ranging card cards position executed state (record old { setup = Some new }) gain
           (act_of old.cells card finding)
       unfolding linear_programming_of_128_bits
@@ -221,27 +200,8 @@ module _ (card : ℕ) (cards : List (List ℕ)) (old : Machine) (setup : Setup) 
           ))
 
   module _ where
-    pub ranges_refused : (print : SinkState) (any : Machine) (fault : VerbFault) → range_fault old.mark ≡ Some fault →
+    pub ranges_refused : (print : SinkState) (any : Machine) (fault : VerbFault) → view_of verbs.Ranging old.mark ≡ Err fault →
         Executes linear_programming_of_128_bits Ranging card print print cards old any (refused_act card (Fault fault))
     ranges_refused print any fault is =
         quietly IsPresent (Gives linear_programming_of_128_bits) Ranging card cards old print {new = any}
         (λ position executed state s. not_optimal position executed state s fault is)
-
-    module _ (print_old print_new : SinkState) (new : Setup) (is_mark : old.mark ≡ Some Optimal)
-        (ok : selected problem (choice_of old.cells setup.options) ≡ Ok setup.lp) (k : IsSameSetup setup new) where
-      pub ranges_found : (finding : Finding) (then : Act) → then ≡ act_of old.cells card finding →
-          ReportsFinding (ShowsRanges problem setup) print_old print_new (Ok finding) →
-          Executes linear_programming_of_128_bits Ranging card print_old print_new cards old (record old { setup = Some new }) (Ok then)
-      ranges_found finding then e t =
-          subst (λ (a : Act). Executes linear_programming_of_128_bits Ranging card print_old print_new cards old (record old { setup = Some new }) (Ok a))
-          (sym e)
-          (reported_executes Ranging card cards old (ShowsRanges problem setup) (λ found. record old { setup = Some new }) (act_of old.cells card)
-          (no_cards_by problem setup)
-          (λ gain found h position executed state s. ranged_comes position executed state s new is_mark ok k gain found h) print_old print_new finding t)
-
-      pub ranges_broken : (any : Machine) (h : Halt) → ReportsFinding (ShowsRanges problem setup) print_old print_new (Err h) →
-          Executes linear_programming_of_128_bits Ranging card print_old print_new cards old any (Err h)
-      ranges_broken any h t =
-          cut_executes Ranging card cards old (ShowsRanges problem setup) (λ found. record old { setup = Some new }) (act_of old.cells card)
-          (no_cards_by problem setup)
-          (λ gain found h position executed state s. ranged_comes position executed state s new is_mark ok k gain found h) print_old print_new any h t

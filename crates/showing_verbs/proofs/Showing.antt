@@ -29,10 +29,9 @@ use Rattle.listing_tables.specs.declared.sheet.Sheet.{Sheet as OwnSheet}
 use Rattle.verb_answers.specs.Answers.{sheet_view}
 use Rattle.verb_answers.specs.Stops.{SolutionRefused}
 use Rattle.run_definitions.specs.State.{Present, State, choice_of, present_basis, path_of}
-use Rattle.run_definitions.specs.Moves.{Gain, Nothing, Prints, punched_by, StatementOutcome, next, stops, InAnswer, StatementMove, MayStop, Asks, Gives}
+use Rattle.run_definitions.specs.Moves.{Gain, Nothing, Prints, StatementOutcome, next, stops, InAnswer, StatementMove, MayStop, Asks, Gives}
 use Rattle.run_definitions.specs.Moves.{or_fault}
 use Rattle.run_definitions.specs.Verbs.{or_selection_fault, verb_move}
-use Rattle.run_machine.specs.declared.act.Act.{Act}
 use Rattle.run_machine.specs.declared.act.Halt.{Halt}
 use Rattle.run_machine.specs.declared.act.Halt.TheVariants as halt
 use Rattle.run_machine.specs.declared.end.Place.{Place as OwnPlace}
@@ -49,10 +48,11 @@ use Rattle.setup_verbs.specs.Statements.{LeadsTo, Executes}
 use Rattle.run_machine.specs.Choosing.{refused_act, IsSelected}
 use Rattle.run_machine.specs.Findings.{ReportsFinding, act_of}
 use Rattle.showing_verbs.specs.Shown.{LinesFound, viewed, overflows, Shows, IsSameSetup}
+use Rattle.showing_verbs.specs.declared.present.View.{View}
+use Rattle.showing_verbs.specs.declared.present.View.TheVariants.{Lines}
 use Rattle.setup_verbs.proofs.Selected.{same_matrix}
 use Rattle.run_machine.proofs.Giving.{quietly}
 use Rattle.setup_verbs.proofs.Giving.{gives_fault, gives_found, gives_selected}
-use Rattle.setup_verbs.proofs.Reporting.{reported_executes, cut_executes}
 use Rattle.bounded_primal.proofs.Within.{lie_same}
 use Rattle.setup_verbs.proofs.Present.{IsPresentOf, lie_up_to, one_problem, present_at, present_with}
 
@@ -119,22 +119,17 @@ same_setup {setup = setup} is_old engine keeps =
     (record { name = refl; options = refl; lp = refl; basis = refl; keeps = keeps })
 
 -- the setup that code has opened, which is the one that is spoken of
-module _ (file : Filed) {setup old : Setup} (is_old : setup ≡ old) (mark : Mark) (there : Problem ℕ) (is_there : filed_under setup.name file ≡ Some there) where
-  pub lines_at : (print_old print_new : SinkState) (result : Result Finding Halt) → ReportsFinding (Shows there setup mark) print_old print_new result →
-      (problem : Problem ℕ) → filed_under old.name file ≡ Some problem → ReportsFinding (Shows problem old mark) print_old print_new result
-  lines_at print_old print_new result t problem on_file =
-      subst (λ (s : Setup). ReportsFinding (Shows problem s mark) print_old print_new result) is_old
-      (subst (λ (q : Problem ℕ). ReportsFinding (Shows q setup mark) print_old print_new result)
+module _ (file : Filed) {setup old : Setup} (is_old : setup ≡ old) (view : View) (there : Problem ℕ) (is_there : filed_under setup.name file ≡ Some there) where
+  pub shown_at : (print_old print_new : SinkState) (result : Result Finding Halt) → ReportsFinding (Shows view there setup) print_old print_new result →
+      (problem : Problem ℕ) → filed_under old.name file ≡ Some problem → ReportsFinding (Shows view problem old) print_old print_new result
+  shown_at print_old print_new result t problem on_file =
+      subst (λ (s : Setup). ReportsFinding (Shows view problem s) print_old print_new result) is_old
+      (subst (λ (q : Problem ℕ). ReportsFinding (Shows view q setup) print_old print_new result)
       (one_problem file setup there problem is_there (ap (λ (s : Setup). filed_under s.name file) is_old ∙ on_file)) t)
 
 -- ---- the statement
 
-no_cards_by : (problem : Problem ℕ) (setup : Setup) (mark : Mark) (gain : Gain) (finding : Finding) → Shows problem setup mark gain finding →
-    punched_by gain ≡ []
-no_cards_by problem setup mark _ _ (viewed h fit) = refl
-no_cards_by problem setup mark _ _ (overflows h fit) = refl
-
-abbrev sheet_of : Present → LinearProgram → Sheet
+abbrev pub sheet_of : Present → LinearProgram → Sheet
 sheet_of present lp = record { problem = present.problem; lp = lp }
 
 module _ (card : ℕ) (state : State) where
@@ -228,7 +223,7 @@ module _ (card : ℕ) (cards : List (List ℕ)) (old : Machine) (setup : Setup) 
             mark = s.mark;
           }
 
-      pub reported_comes : (gain : Gain) (finding : Finding) → Shows problem setup mark gain finding →
+      pub reported_comes : (gain : Gain) (finding : Finding) → Shows (Lines mark) problem setup gain finding →
           LeadsTo linear_programming_of_128_bits SolutionVerb card cards position executed state (record old { setup = Some new }) gain
           (act_of old.cells card finding)
       unfolding linear_programming_of_128_bits
@@ -262,22 +257,3 @@ module _ (card : ℕ) (cards : List (List ℕ)) (old : Machine) (setup : Setup) 
     solution_not_solved print any none =
         quietly IsPresent (Gives linear_programming_of_128_bits) SolutionVerb card cards old print {new = any}
         (λ position executed state s. not_solved position executed state s none)
-
-    module _ (print_old print_new : SinkState) (new : Setup) (mark : Mark) (is_mark : old.mark ≡ Some mark)
-        (ok : selected problem (choice_of old.cells setup.options) ≡ Ok setup.lp) (k : IsSameSetup setup new) where
-      pub solution_found : (finding : Finding) (then : Act) → then ≡ act_of old.cells card finding →
-          ReportsFinding (Shows problem setup mark) print_old print_new (Ok finding) →
-          Executes linear_programming_of_128_bits SolutionVerb card print_old print_new cards old (record old { setup = Some new }) (Ok then)
-      solution_found finding then e t =
-          subst (λ (a : Act). Executes linear_programming_of_128_bits SolutionVerb card print_old print_new cards old (record old { setup = Some new }) (Ok a))
-          (sym e)
-          (reported_executes SolutionVerb card cards old (Shows problem setup mark) (λ found. record old { setup = Some new }) (act_of old.cells card)
-          (no_cards_by problem setup mark)
-          (λ gain found h position executed state s. reported_comes position executed state s new mark is_mark ok k gain found h) print_old print_new finding t)
-
-      pub solution_cut : (any : Machine) (h : Halt) → ReportsFinding (Shows problem setup mark) print_old print_new (Err h) →
-          Executes linear_programming_of_128_bits SolutionVerb card print_old print_new cards old any (Err h)
-      solution_cut any h t =
-          cut_executes SolutionVerb card cards old (Shows problem setup mark) (λ found. record old { setup = Some new }) (act_of old.cells card)
-          (no_cards_by problem setup mark)
-          (λ gain found h position executed state s. reported_comes position executed state s new mark is_mark ok k gain found h) print_old print_new any h t

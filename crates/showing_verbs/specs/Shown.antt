@@ -2,16 +2,17 @@
 --     IsSameSetup setup new        what a statement leaves of the setup that it shows
 --     StopsAfter e place           a statement may stop with this evidence, whatever bases came before
 --     LinesFound gain finding      the lines of a basis are made, or their making is stopped so
---     Shows gain finding           SOLUTION finds this with a setup, and has this to print
 --     RangesFound gain finding     the intervals of a basis are made, or their making is stopped so
---     ShowsRanges gain finding     RANGE finds this with a setup, and has this to print
---     range_fault mark             why RANGE is refused with this mark
-use Rattle.std.specs.Prelude.{◌≡◌, ℕ, List, [], ◌∷◌, ◌++◌, Option, Some, None, option_map}
+--     ViewFound view gain finding  the one or the other
+--     Shows view gain finding      SOLUTION or RANGE finds this with a setup, and has this to print
+--     verb_of, view_of verb mark   the verb of a program, and what it shows with this mark, or why it is refused
+use Rattle.std.specs.Prelude.{◌≡◌, ℕ, List, [], ◌∷◌, ◌++◌, Option, Some, None, Result, Ok, Err, option_map}
 use Rattle.lp_definitions.specs.Basis.{Basics, basics_of}
 use Rattle.lp_definitions.specs.Waypoints.{KeepsWaypoints}
 use Rattle.lp_definitions.specs.declared.Evidence.{Evidence}
 use Rattle.simplex_definitions.specs.Statements.{SolvingStatement, Solution as SolutionStatement, Range as RangeStatement}
 use Rattle.problem_definitions.specs.Problem.{Problem}
+use Rattle.control_definitions.specs.Program as program
 use Rattle.listing_definitions.specs.declared.Mark.{Mark}
 use Rattle.listing_definitions.specs.declared.Mark.TheVariants.{Optimal, Infeasible, Unbounded}
 use Rattle.listing_definitions.specs.declared.VerbFault.{VerbFault}
@@ -28,6 +29,10 @@ use Rattle.run_machine.specs.declared.end.Place.{Place as OwnPlace}
 use Rattle.run_machine.specs.declared.finding.Finding.{Finding}
 use Rattle.run_machine.specs.declared.finding.Finding.TheVariants.{Overflow, Printed}
 use Rattle.setup_verbs.specs.Kept.{Setup}
+use Rattle.showing_verbs.specs.declared.present.ShowingVerb.{ShowingVerb}
+use Rattle.showing_verbs.specs.declared.present.ShowingVerb.TheVariants as verbs
+use Rattle.showing_verbs.specs.declared.present.View.{View}
+use Rattle.showing_verbs.specs.declared.present.View.TheVariants.{Lines, Intervals}
 use Rattle.run_machine.specs.Ends.{place_view}
 
 -- ---- what stays of a setup
@@ -56,11 +61,6 @@ module _ (sheet : Sheet) (s : Basis) (before : List Basics) where
         StopsAfter (SolutionStatement sheet.lp) sheet s before e (option_map place_view place) → EvidenceFits e →
         LinesFound mark Nothing (Overflow e place)
 
--- those of a setup's present basis, in the linear program that it keeps
-abbrev pub Shows : Problem ℕ → Setup → Mark → Gain → Finding → Type 0
-Shows problem setup mark = LinesFound (record { problem = problem; lp = setup.lp }) setup.basis
-    setup.engine.waypoints mark
-
 -- ---- the intervals of a basis
 
 module _ (sheet : Sheet) (s : Basis) (before : List Basics) where
@@ -71,13 +71,27 @@ module _ (sheet : Sheet) (s : Basis) (before : List Basics) where
         StopsAfter (RangeStatement sheet.lp) sheet s before e (option_map place_view place) → EvidenceFits e →
         RangesFound Nothing (Overflow e place)
 
--- those of a setup's present basis, in the linear program that it keeps
-abbrev pub ShowsRanges : Problem ℕ → Setup → Gain → Finding → Type 0
-ShowsRanges problem setup = RangesFound (record { problem = problem; lp = setup.lp }) setup.basis setup.engine.waypoints
+-- ---- what is shown
 
--- it needs a mark, and no other than OPTIMAL
-abbrev pub range_fault : Option Mark → Option VerbFault
-range_fault None = Some NotSolved
-range_fault (Some Optimal) = None
-range_fault (Some Infeasible) = Some NotOptimal
-range_fault (Some Unbounded) = Some NotOptimal
+abbrev pub ViewFound : View → Sheet → Basis → List Basics → Gain → Finding → Type 0
+ViewFound (Lines mark) sheet s before = LinesFound sheet s before mark
+ViewFound Intervals sheet s before = RangesFound sheet s before
+
+-- of a setup's present basis, in the linear program that it keeps
+abbrev pub Shows : View → Problem ℕ → Setup → Gain → Finding → Type 0
+Shows view problem setup = ViewFound view (record { problem = problem; lp = setup.lp }) setup.basis setup.engine.waypoints
+
+-- ---- the verbs
+
+abbrev pub verb_of : ShowingVerb → program.Verb ℕ
+verb_of verbs.Solution = program.Solution
+verb_of verbs.Ranging = program.Ranging
+
+-- each needs a mark, and RANGE no other than OPTIMAL
+abbrev pub view_of : ShowingVerb → Option Mark → Result View VerbFault
+view_of verbs.Solution None = Err NotSolved
+view_of verbs.Solution (Some mark) = Ok (Lines mark)
+view_of verbs.Ranging None = Err NotSolved
+view_of verbs.Ranging (Some Optimal) = Ok Intervals
+view_of verbs.Ranging (Some Infeasible) = Err NotOptimal
+view_of verbs.Ranging (Some Unbounded) = Err NotOptimal

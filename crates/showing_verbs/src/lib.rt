@@ -1,8 +1,6 @@
 //! The statements that show the present basis, over any engine: SOLUTION and RANGE.
 #![tactic(auto)]
 
-mod ranges;
-mod solution;
+mod present;
 
-pub use ranges::show_ranges;
-pub use solution::show_solution;
+pub use present::{ShowingVerb, show_present};

@@ -108,16 +108,17 @@ returns-in-Solution-clause-acts g c =
     rw c.in-Solution.is
     (punches_nothing (g.U.Sink.taken c.args.punch.now) IsPresent (Gives linear_programming_of_128_bits) program.Solution c.args.statement.now.card
     (g.P.Sink.taken c.args.print.now)
-    (g.P.Sink.taken c.show_solution.new.print) c.args.cards.now c.args.machine.now c.show_solution.new.machine c.show_solution.result
-    (c.show_solution.ensures.acts c.args.cards.now))
+    (g.P.Sink.taken c.show_present.new.print) c.args.cards.now c.args.machine.now c.show_present.new.machine c.show_present.result
+    (c.show_present.ensures.acts c.args.cards.now))
 
 pub returns-in-Ranging-clause-acts : goal.returns-in-Ranging-clause-acts
 returns-in-Ranging-clause-acts g c =
     rw c.in-Ranging.is
     (punches_nothing (g.U.Sink.taken c.args.punch.now) IsPresent (Gives linear_programming_of_128_bits) program.Ranging c.args.statement.now.card
     (g.P.Sink.taken c.args.print.now)
-    (g.P.Sink.taken c.show_ranges.new.print) c.args.cards.now c.args.machine.now c.show_ranges.new.machine c.show_ranges.result
-    (c.show_ranges.ensures.acts c.args.cards.now))
+    (g.P.Sink.taken c.show_present-in-Ranging.new.print) c.args.cards.now c.args.machine.now c.show_present-in-Ranging.new.machine
+    c.show_present-in-Ranging.result
+    (c.show_present-in-Ranging.ensures.acts c.args.cards.now))
 
 pub returns-in-Paraobj-clause-acts : goal.returns-in-Paraobj-clause-acts
 returns-in-Paraobj-clause-acts g c =

@@ -4,7 +4,7 @@ use Rattle.exact_values.specs.Rational.{ℚ}
 use Rattle.listing_tables.specs.Lines.{solution_lines}
 use Rattle.fitting_answers.specs.Fitting.{SolutionFits}
 use Rattle.showing_verbs.proofs.Showing.{lines_reported, lines_cut}
-use Rattle.showing_verbs.proofs.solution.print_lines.Goals as goal
+use Rattle.showing_verbs.proofs.present.print_lines.Goals as goal
 
 pub text_of-requires : goal.text_of-requires
 text_of-requires g c = record {

@@ -1,6 +1,6 @@
 use Rattle.std.proofs.lemmas.Result.{err_from_is_err_and}
 use Rattle.showing_verbs.proofs.Ranging.{ranges_reported, ranges_cut}
-use Rattle.showing_verbs.proofs.ranges.print_ranges.Goals as goal
+use Rattle.showing_verbs.proofs.present.print_ranges.Goals as goal
 
 pub text_of-requires : goal.text_of-requires
 text_of-requires g c = record {
