@@ -6,5 +6,5 @@ mod finish;
 mod run;
 mod status;
 
-pub use run::{RunEngine, run_on, run_program};
+pub use run::{RunEngine, run_on};
 pub use status::RunStatus;

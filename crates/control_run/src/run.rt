@@ -18,7 +18,7 @@ use run_machine::{AfterStatement, End, Halt, MAX_EXECUTED, Machine};
 use setup_verbs::Setup;
 use std::alloc::Global;
 
-/// What keeps the rates of a run.
+/// What keeps the rates of a run of the program.
 pub type RunEngine = ProductForm;
 
 // Executes the statements of a program, from the first one until the run ends.
@@ -90,19 +90,4 @@ pub fn run_on<E: Engine, P: Sink, U: Sink>(
         Ok(end) => finish(print, &end),
         Err(halt) => finish_halted(print, halt),
     }
-}
-
-/// Runs a compiled program over the cards of its job as `run_on` does, with the rates of the product form.
-pub fn run_program<P: Sink, U: Sink>(
-    alloc: Global,
-    program: &Program,
-    cards: &Cards,
-    print: &mut P,
-    punch: &mut U,
-) -> RunStatus
-    ensures { IsEndOfRun linear_programming_of_128_bits program.now cards.now
-        (P.taken print.old) (P.taken print.new) (U.taken punch.old) (U.taken punch.new)
-        result }
-{
-    run_on::<RunEngine, P, U>(alloc, program, cards, print, punch)
 }

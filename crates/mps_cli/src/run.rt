@@ -21,7 +21,7 @@ ghost use Rattle.mps_cli.specs.Devices.{devices, failures, PrintGains, PunchGain
 
 use crate::end::end_job;
 use command_line::{Request, request_of};
-use control_run::{RunStatus, run_program};
+use control_run::{RunEngine, RunStatus, run_on};
 use generated_job::make_job;
 use job_devices::{NoMemory, Sink, Source, SureSource};
 use job_program::{EarlyStop, prepare};
@@ -48,7 +48,9 @@ fn run_source<S: Source, P: Sink, U: Sink>(
         (ReadsJob (S.given job.old).left (S.given job.new).left) (punch.new ≡ punch.old) result }
 {
     match prepare(alloc, job) {
-        Ok(prepared) => run_program(alloc, &prepared.program, &prepared.cards, print, punch),
+        Ok(prepared) => {
+            run_on::<RunEngine, P, U>(alloc, &prepared.program, &prepared.cards, print, punch)
+        }
         Err(stop) => end_job(print, stop),
     }
 }

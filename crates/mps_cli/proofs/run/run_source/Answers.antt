@@ -13,15 +13,15 @@ pub returns-in-Ok-clause-answer : goal.returns-in-Ok-clause-answer
 returns-in-Ok-clause-answer g c given bytes is =
     let are = prepared_of bytes c.in-Ok.prepared is.is_reported c.in-Ok.ensures.prepared in
     answered_too linear_programming_of_128_bits given _ _ (λ e. absurd e) (λ e. e) (λ e. e) (λ e. e) _ _ _
-    (c.run_program.ensures.answer given bytes is.has_bytes are.1 are.0)
+    (c.run_on.ensures.answer given bytes is.has_bytes are.1 are.0)
 
 pub returns-in-Ok-clause-accounted : goal.returns-in-Ok-clause-accounted
 returns-in-Ok-clause-accounted g c = record {
   cause =
-      run_cause (Some Read) _ _ _ _ _ c.run_program.result c.in-Ok.ensures.read c.run_program.ensures.own c.run_program.ensures.print_fault
-      c.run_program.ensures.punch_fault;
-  reported = reported_unread _ _ _ _ _ (c.in-Ok.ensures.quiet (λ e. absurd (cc e))) c.run_program.ensures.reported;
-  still = c.run_program.ensures.still;
+      run_cause (Some Read) _ _ _ _ _ c.run_on.result c.in-Ok.ensures.read c.run_on.ensures.own c.run_on.ensures.print_fault
+      c.run_on.ensures.punch_fault;
+  reported = reported_unread _ _ _ _ _ (c.in-Ok.ensures.quiet (λ e. absurd (cc e))) c.run_on.ensures.reported;
+  still = c.run_on.ensures.still;
   no_further = c.in-Ok.ensures.no_further;
 }
 
@@ -41,7 +41,7 @@ returns-in-Err-clause-accounted g c =
 pub returns-in-Ok-clause-punch : goal.returns-in-Ok-clause-punch
 returns-in-Ok-clause-punch g c =
     in_run c.in-Ok.prepared.program c.in-Ok.ensures.read
-    (program_of (g.S.Source.given c.args.job.now).left c.in-Ok.prepared c.in-Ok.ensures.prepared) c.run_program.ensures.own
+    (program_of (g.S.Source.given c.args.job.now).left c.in-Ok.prepared c.in-Ok.ensures.prepared) c.run_on.ensures.own
 
 pub returns-in-Err-clause-punch : goal.returns-in-Err-clause-punch
 returns-in-Err-clause-punch g c = nothing refl
