@@ -15,7 +15,7 @@ ghost use Rattle.command_line.specs.Sizes.{max_size};
 ghost use Rattle.command_line.specs.Requests.{HasSize};
 ghost use Rattle.command_line.specs.Requests as requests;
 ghost use Rattle.control_run.specs.Statuses.{code_of};
-ghost use Rattle.mps_cli.specs.Asked.{IsAsked, IsGiven};
+ghost use Rattle.mps_cli.specs.Asked.{IsGiven, OfAsked};
 ghost use Rattle.mps_cli.specs.Causes.{IsPunched};
 ghost use Rattle.mps_cli.specs.Devices.{devices, failures, PrintGains, PunchGains, IsAccounted};
 
@@ -95,11 +95,9 @@ fn run_request<S: Source, P: Sink, U: Sink>(
     punch: &mut U,
 ) -> RunStatus
     requires { HasSize request }
-    ensures sizes { (asked : Job) → IsAsked (Some request) (S.given job.old).left asked →
-        let before = devices (S.given job.old) (P.taken print.old) (U.taken punch.old) in
-        let after = devices (S.given job.new) (P.taken print.new) (U.taken punch.new) in
-        IsAnswered linear_programming_of_128_bits asked (failures before after) (code_of result)
-        (PrintGains before after) (PunchGains before after) }
+    ensures sizes { OfAsked (IsAnswered linear_programming_of_128_bits) (Some request)
+        (devices (S.given job.old) (P.taken print.old) (U.taken punch.old))
+        (devices (S.given job.new) (P.taken print.new) (U.taken punch.new)) result }
     ensures accounted { IsAccounted (Some request)
         (devices (S.given job.old) (P.taken print.old) (U.taken punch.old))
         (devices (S.given job.new) (P.taken print.new) (U.taken punch.new)) result }
@@ -145,45 +143,38 @@ pub fn run_job<S: Source, P: Sink, U: Sink>(
     // the run; the cards of PUNCH are the deck of the present basis, and INSERT makes the basis of its deck the present one. An
     // end that reports a singular deck or a wrong price shows the dependency, or the variable. So it is wherever the words, or the
     // source, tell the job.
-    ensures headline { (asked : Job) →
-        IsAsked (requests.asked (map string_bytes words.now)) (S.given job.old).left asked →
-        let before = devices (S.given job.old) (P.taken print.old) (U.taken punch.old) in
-        let after = devices (S.given job.new) (P.taken print.new) (U.taken punch.new) in
-        IsTrueAnswer linear_programming asked (failures before after) (code_of result)
-        (PrintGains before after) (PunchGains before after) }
+    ensures headline { OfAsked (IsTrueAnswer linear_programming)
+        (requests.asked (map string_bytes words.now))
+        (devices (S.given job.old) (P.taken print.old) (U.taken punch.old))
+        (devices (S.given job.new) (P.taken print.new) (U.taken punch.new)) result }
 
     // The job's own run. The job has exactly one run that doesn't stop with an overflow. The status is that of its end, the print gains
     // its whole listing and the punch all its cards; or the status is 20, and what stands is a run that stops with an overflow where
     // the own run goes on, and at some moment of a run of the job evidence of an overflow holds; or a read has failed and the status
     // is 24, or the print and it is 25, or the punch and it is 26, or it is 28.
-    ensures one_run { (asked : Job) →
-        IsAsked (requests.asked (map string_bytes words.now)) (S.given job.old).left asked →
-        let before = devices (S.given job.old) (P.taken print.old) (U.taken punch.old) in
-        let after = devices (S.given job.new) (P.taken print.new) (U.taken punch.new) in
-        IsAnsweredOnce linear_programming asked (failures before after) (code_of result)
-        (PrintGains before after) (PunchGains before after) }
+    ensures one_run { OfAsked (IsAnsweredOnce linear_programming)
+        (requests.asked (map string_bytes words.now))
+        (devices (S.given job.old) (P.taken print.old) (U.taken punch.old))
+        (devices (S.given job.new) (P.taken print.new) (U.taken punch.new)) result }
 
     // The sizes of numbers. So the job is answered by a run whose answers fit: each fraction that comes of a verdict, of SOLUTION, of a
     // parametric run or of the evidence of an overflow of linear programming has 128 bits, and each count of such evidence that is
     // printed has 32. By the law `never_wrong` of own_listing_laws mps360check never finds the whole listing of such a run wrong.
-    ensures sizes { (asked : Job) →
-        IsAsked (requests.asked (map string_bytes words.now)) (S.given job.old).left asked →
-        let before = devices (S.given job.old) (P.taken print.old) (U.taken punch.old) in
-        let after = devices (S.given job.new) (P.taken print.new) (U.taken punch.new) in
-        IsAnswered linear_programming_of_128_bits asked (failures before after) (code_of result)
-        (PrintGains before after) (PunchGains before after) }
+    ensures sizes { OfAsked (IsAnswered linear_programming_of_128_bits)
+        (requests.asked (map string_bytes words.now))
+        (devices (S.given job.old) (P.taken print.old) (U.taken punch.old))
+        (devices (S.given job.new) (P.taken print.new) (U.taken punch.new)) result }
 
     // What stands, by the status. With 0, 1, 2, 8, 10, 12, 13, 16, 17 and 20 the run of the job has this end; the whole
     // listing of the run stands, and all cards that it has punched; 8 and 13 leave their line alone, and so do 4 and 24. After
     // 26 and 28 the reports so far stand with this line, and all cards of these reports, then a prefix of the deck in hand, and no
     // more; and after 25, and where the print ran out of memory, the print has stopped in a report or in the lines of an end: all
     // that comes before stands with a prefix of this text, and the cards that are punched by then.
-    ensures stands { (asked : Job) →
-        IsAsked (requests.asked (map string_bytes words.now)) (S.given job.old).left asked →
-        let before = devices (S.given job.old) (P.taken print.old) (U.taken punch.old) in
-        let after = devices (S.given job.new) (P.taken print.new) (U.taken punch.new) in
-        StandsAfter linear_programming asked (failures before after)
-        (PrintGains before after) (PunchGains before after) (code_of result) }
+    ensures stands { OfAsked (λ asked failed status prints punches.
+        StandsAfter linear_programming asked failed prints punches status)
+        (requests.asked (map string_bytes words.now))
+        (devices (S.given job.old) (P.taken print.old) (U.taken punch.old))
+        (devices (S.given job.new) (P.taken print.new) (U.taken punch.new)) result }
 
     // What the devices have come to. Why the job ended so, also where they don't tell their bytes. What the status reports: a fault of
     // the print by 25, and that it ran out of memory by 28; a fault of a read by 24 and one of the punch by 26, and that it ran out of
