@@ -2,7 +2,8 @@
 --     IsReady file setup           the setup's basis and rates are those of a selection of its problem
 --     IsSolved mark .. setup       these names select the setup's linear program, and with the mark OPTIMAL its basis is optimal in it
 --     IsPresent file setup present the setup is at the last of these bases
---     IsSound, ShowsSetup, Represents    what holds of a machine, and which state it shows, with such a setup
+--     IsSound, StaysSound          what holds of a machine with such a setup
+--     ShowsSetup, Represents       which state it shows
 use Rattle.std.specs.Prelude.{◌≡◌, ℕ, List, ◌∷◌, Option, Some, Ok}
 use Rattle.lp_definitions.specs.Basis.{IsOptimalBasis}
 use Rattle.problem_definitions.specs.Names.{Name}
@@ -43,6 +44,9 @@ pub record IsPresent (file : Filed) (setup : Setup) (present : Present) : Type 0
 
 abbrev pub IsSound : List (List ℕ) → Machine → Type 0
 IsSound = machines.IsSound IsReady IsSolved
+
+abbrev pub StaysSound : Machine → Machine → Type 0
+StaysSound = machines.StaysSound IsReady IsSolved
 
 abbrev pub ShowsSetup : Filed → Option Setup → Option Present → Type 0
 ShowsSetup = machines.ShowsSetup IsPresent

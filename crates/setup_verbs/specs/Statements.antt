@@ -26,6 +26,10 @@ module _ (S : Solving) (verb : Verb ℕ) (card : ℕ) where
     abbrev pub Executes : List (List ℕ) → Machine → Machine → Result Act Halt → Type 0
     Executes = statements.Executes IsPresent (Gives S) verb card print_old print_new
 
+    -- so it does, whatever the cards of the job are
+    abbrev pub ExecutesOnAny : Machine → Machine → Result Act Halt → Type 0
+    ExecutesOnAny old new result = (cards : List (List ℕ)) → Executes cards old new result
+
     module _ (punch_old punch_new : SinkState) where
       -- it comes to this act, with its report printed and its deck punched; or it is cut off
       abbrev pub Performs : List (List ℕ) → Machine → Machine → Result Act Halt → Type 0

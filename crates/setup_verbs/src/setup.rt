@@ -1,9 +1,9 @@
 // SETUP.
-ghost use Rattle.std.specs.Prelude.{◌≡◌, ℕ, List, IfOk, IfErr};
+ghost use Rattle.std.specs.Prelude.{◌≡◌, IfOk, IfErr};
 ghost use Rattle.control_definitions.specs.Program as program;
 ghost use Rattle.fitting_answers.specs.Real.{linear_programming_of_128_bits};
-ghost use Rattle.setup_verbs.specs.Standing.{IsSound};
-ghost use Rattle.setup_verbs.specs.Statements.{Executes};
+ghost use Rattle.setup_verbs.specs.Standing.{StaysSound};
+ghost use Rattle.setup_verbs.specs.Statements.{ExecutesOnAny};
 ghost use Rattle.setup_verbs.specs.Opening.{IsOpened, IsNotOpened};
 
 use crate::kept::Setup;
@@ -73,11 +73,9 @@ pub fn set_up<E: Engine, P: Sink>(
     card: u32,
     options: &SetupOptions,
 ) -> Result<Act, Halt>
-    ensures acts { (cards : List (List ℕ)) →
-        Executes linear_programming_of_128_bits (program.Setup options.now) card
-        (P.taken print.old) (P.taken print.new) cards machine.old machine.new result }
-    ensures sound { (cards : List (List ℕ)) → IsSound cards machine.old →
-        IsSound cards machine.new }
+    ensures acts { ExecutesOnAny linear_programming_of_128_bits (program.Setup options.now) card
+        (P.taken print.old) (P.taken print.new) machine.old machine.new result }
+    ensures sound { StaysSound machine.old machine.new }
 {
     let opened = match open(alloc, &machine.cells, &machine.file, *options) {
         Ok(opened) => opened,

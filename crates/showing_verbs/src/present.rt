@@ -9,8 +9,8 @@ ghost use Rattle.basis_values.specs.Calls.{IsAtBasis, StaysAt};
 ghost use Rattle.answer_definitions.specs.Sections.{IsSolutionOf, IsRanged};
 ghost use Rattle.verb_answers.specs.Answers.{sheet_view, AreSolutionValues, AreRanged};
 ghost use Rattle.fitting_answers.specs.Real.{linear_programming_of_128_bits};
-ghost use Rattle.setup_verbs.specs.Standing.{IsReady, IsSolved, IsSound};
-ghost use Rattle.setup_verbs.specs.Statements.{Executes};
+ghost use Rattle.setup_verbs.specs.Standing.{IsReady, IsSolved, StaysSound};
+ghost use Rattle.setup_verbs.specs.Statements.{ExecutesOnAny};
 ghost use Rattle.run_machine.specs.Findings.{ReportsFinding};
 ghost use Rattle.showing_verbs.specs.Shown.{IsSameSetup, LinesFound, RangesFound, ViewFound, Shows, verb_of, view_of};
 ghost use Rattle.showing_verbs.specs.declared.present.View.TheVariants as views;
@@ -181,11 +181,9 @@ pub fn show_present<E: Engine, P: Sink>(
     requires solved { IfSome machine.old.mark
         (λ mark. IfSome machine.old.setup
         (IsSolved mark machine.old.cells.xobj machine.old.cells.xrhs machine.old.file)) }
-    ensures acts { (cards : List (List ℕ)) →
-        Executes linear_programming_of_128_bits (verb_of verb) card (P.taken print.old)
-        (P.taken print.new) cards machine.old machine.new result }
-    ensures sound { (cards : List (List ℕ)) → IsSound cards machine.old →
-        IsSound cards machine.new }
+    ensures acts { ExecutesOnAny linear_programming_of_128_bits (verb_of verb) card
+        (P.taken print.old) (P.taken print.new) machine.old machine.new result }
+    ensures sound { StaysSound machine.old machine.new }
 {
     let Some(setup) = &mut machine.setup else {
         return Refusal::Fault(VerbFault::NoSetup).act(card);

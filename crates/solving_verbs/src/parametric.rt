@@ -1,5 +1,5 @@
 // PARAOBJ and PARARHS.
-ghost use Rattle.std.specs.Prelude.{◌≡◌, ℕ, List, Option, IfSome, IfOk, IfErr};
+ghost use Rattle.std.specs.Prelude.{◌≡◌, ℕ, Option, IfSome, IfOk, IfErr};
 ghost use Rattle.problem_definitions.specs.Problem.{Problem};
 ghost use Rattle.problem_file.specs.Filed.{filed_under};
 ghost use Rattle.frac128.specs.declared.Refused.{Refused as RefusedOperation};
@@ -11,8 +11,8 @@ ghost use Rattle.fitting_answers.specs.Real.{linear_programming_of_128_bits};
 ghost use Rattle.verb_answers.specs.Reports.{sheet_view};
 ghost use Rattle.verb_answers.specs.RunReports.{IsAnswered, IsPrintable};
 ghost use Rattle.run_machine.specs.Standing.{AreDemands};
-ghost use Rattle.setup_verbs.specs.Standing.{IsReady, IsSound};
-ghost use Rattle.setup_verbs.specs.Statements.{Executes};
+ghost use Rattle.setup_verbs.specs.Standing.{IsReady, StaysSound};
+ghost use Rattle.setup_verbs.specs.Statements.{ExecutesOnAny};
 ghost use Rattle.run_machine.specs.Findings.{ReportsFinding};
 ghost use Rattle.parametric_request.specs.Asking.{verb_of};
 ghost use Rattle.solving_verbs.specs.ParametricVerbs.{refusal_of, parametric_run_view, BeginsRun, StopsParametricRun, ParametricRunFinds, ReportsAnswer};
@@ -246,12 +246,9 @@ pub fn show_parametric_run<E: Engine, P: Sink>(
 ) -> Result<Act, Halt>
     requires demands { AreDemands machine.old.cells }
     requires ready { IfSome machine.old.setup (IsReady machine.old.file) }
-    ensures acts { (cards : List (List ℕ)) →
-        Executes linear_programming_of_128_bits (verb_of verb) card (P.taken print.old)
-        (P.taken print.new)
-        cards machine.old machine.new result }
-    ensures sound { (cards : List (List ℕ)) → IsSound cards machine.old →
-        IsSound cards machine.new }
+    ensures acts { ExecutesOnAny linear_programming_of_128_bits (verb_of verb) card
+        (P.taken print.old) (P.taken print.new) machine.old machine.new result }
+    ensures sound { StaysSound machine.old machine.new }
 {
     let Some(setup) = &mut machine.setup else {
         return Refusal::Fault(VerbFault::NoSetup).act(card);

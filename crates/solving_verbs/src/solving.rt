@@ -12,8 +12,8 @@ ghost use Rattle.verb_answers.specs.Reports.{sheet_view};
 ghost use Rattle.run_definitions.specs.Verbs.{mark_of};
 ghost use Rattle.fitting_answers.specs.Real.{linear_programming_of_128_bits};
 ghost use Rattle.run_machine.specs.Standing.{AreDemands};
-ghost use Rattle.setup_verbs.specs.Standing.{IsReady, IsSolved, IsSound};
-ghost use Rattle.setup_verbs.specs.Statements.{Executes};
+ghost use Rattle.setup_verbs.specs.Standing.{IsReady, IsSolved, StaysSound};
+ghost use Rattle.setup_verbs.specs.Statements.{ExecutesOnAny};
 ghost use Rattle.run_machine.specs.Findings.{ReportsFinding, IfEnded};
 ghost use Rattle.run_machine.specs.SolvingVerbs.{verb_of, solver_of, limit_of};
 ghost use Rattle.solving_verbs.specs.Beginning.{BeginsAt};
@@ -208,12 +208,9 @@ pub fn solve<E: Engine, P: Sink>(
 ) -> Result<Act, Halt>
     requires demands { AreDemands machine.old.cells }
     requires ready { IfSome machine.old.setup (IsReady machine.old.file) }
-    ensures acts { (cards : List (List ℕ)) →
-        Executes linear_programming_of_128_bits (verb_of verb) card (P.taken print.old)
-        (P.taken print.new)
-        cards machine.old machine.new result }
-    ensures sound { (cards : List (List ℕ)) → IsSound cards machine.old →
-        IsSound cards machine.new }
+    ensures acts { ExecutesOnAny linear_programming_of_128_bits (verb_of verb) card
+        (P.taken print.old) (P.taken print.new) machine.old machine.new result }
+    ensures sound { StaysSound machine.old machine.new }
 {
     let Some(setup) = &mut machine.setup else {
         return Refusal::Fault(VerbFault::NoSetup).act(card);
