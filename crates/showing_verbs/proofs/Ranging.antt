@@ -11,7 +11,7 @@ use Rattle.lp_definitions.specs.Waypoints.{waypoint}
 use Rattle.lp_definitions.specs.declared.Evidence.{Evidence}
 use Rattle.simplex_definitions.specs.Statements.{Range as RangeStatement}
 use Rattle.problem_definitions.specs.Problem.{Problem}
-use Rattle.problem_file.specs.Filed.{Filed, filed_under}
+use Rattle.problem_file.specs.Filed.{filed_under}
 use Rattle.listing_tables.specs.Lines.{range_lines}
 use Rattle.listing_definitions.specs.Text.{report_text}
 use Rattle.control_definitions.specs.Program.{Ranging}
@@ -22,7 +22,7 @@ use Rattle.listing_definitions.specs.declared.VerbFault.{VerbFault}
 use Rattle.listing_definitions.specs.declared.VerbFault.TheVariants as verb_fault
 use Rattle.listing_definitions.specs.Report.{RangeLines, Ranges}
 use Rattle.listing_definitions.specs.Ending as endings
-use Rattle.question_definitions.specs.Answers.{Basis, Sheet, OfRanges}
+use Rattle.question_definitions.specs.Answers.{Basis, OfRanges}
 use Rattle.control_definitions.specs.Cells.{Cells}
 use Rattle.answer_definitions.specs.Sections.{IsRanged}
 use Rattle.answer_definitions.specs.Evidence.{IsEvidence}
@@ -30,11 +30,9 @@ use Rattle.listing_tables.specs.declared.sheet.Sheet.{Sheet as OwnSheet}
 use Rattle.verb_answers.specs.Answers.{sheet_view}
 use Rattle.verb_answers.specs.Stops.{RangesRefused}
 use Rattle.run_definitions.specs.State.{Present, State, choice_of, present_basis, path_of}
-use Rattle.run_definitions.specs.Moves.{Gain, Nothing, Prints, punched_by, StatementOutcome, next, stops, InAnswer, StatementMove, MayStop, Asks, Gives}
+use Rattle.run_definitions.specs.Moves.{Gain, Nothing, Prints, StatementOutcome, next, stops, InAnswer, StatementMove, MayStop, Asks, Gives}
 use Rattle.run_definitions.specs.Moves.{or_fault}
 use Rattle.run_definitions.specs.Verbs.{if_optimal, or_selection_fault, verb_move}
-use Rattle.run_machine.specs.declared.act.Act.{Act}
-use Rattle.run_machine.specs.declared.act.Halt.{Halt}
 use Rattle.run_machine.specs.declared.act.Halt.TheVariants as halt
 use Rattle.run_machine.specs.declared.end.Place.{Place as OwnPlace}
 use Rattle.run_machine.specs.declared.finding.Finding.{Finding}
@@ -56,9 +54,8 @@ use Rattle.showing_verbs.specs.declared.present.View.TheVariants.{Intervals}
 use Rattle.setup_verbs.proofs.Selected.{same_matrix}
 use Rattle.run_machine.proofs.Giving.{quietly}
 use Rattle.setup_verbs.proofs.Giving.{gives_fault, gives_found, gives_selected}
-use Rattle.setup_verbs.proofs.Reporting.{reported_executes, cut_executes}
 use Rattle.showing_verbs.proofs.Showing.{sheet_of, still_stands}
-use Rattle.setup_verbs.proofs.Present.{IsPresentOf, lie_up_to, one_problem, present_at, present_with}
+use Rattle.setup_verbs.proofs.Present.{IsPresentOf, lie_up_to, present_at, present_with}
 
 -- ---- the intervals of a basis
 

@@ -46,15 +46,14 @@ viewed_by verbs.Ranging (Some Optimal) Intervals e = intervals refl
 viewed_by verbs.Ranging (Some Infeasible) view e = absurd (cc e)
 viewed_by verbs.Ranging (Some Unbounded) view e = absurd (cc e)
 
-module _ {mark : Option Mark} {verb : ShowingVerb} {view : View} where
-  pub own_mark : IsViewed mark verb view → (own : Mark) × (mark ≡ Some own)
-  own_mark (lines {own = own} is) = (own, is)
-  own_mark (intervals is) = (Optimal, is)
+pub own_mark : {mark : Option Mark} {verb : ShowingVerb} {view : View} → IsViewed mark verb view → (own : Mark) × (mark ≡ Some own)
+own_mark (lines {own = own} is) = (own, is)
+own_mark (intervals is) = (Optimal, is)
 
-  -- intervals are those of an optimal basis
-  pub is_optimal : IsViewed mark verb view → view ≡ Intervals → mark ≡ Some Optimal
-  is_optimal (lines is) e = absurd (cc e)
-  is_optimal (intervals is) e = is
+-- intervals are those of an optimal basis
+pub is_optimal : {mark : Option Mark} {verb : ShowingVerb} {view : View} → IsViewed mark verb view → view ≡ Intervals → mark ≡ Some Optimal
+is_optimal (lines is) e = absurd (cc e)
+is_optimal (intervals is) e = is
 
 no_cards_by : (view : View) (problem : Problem ℕ) (setup : Setup) (gain : Gain) (finding : Finding) → Shows view problem setup gain finding →
     punched_by gain ≡ []

@@ -1,5 +1,3 @@
-use Rattle.std.proofs.Common.{rules, ◌≡◌, length}
-use Rattle.std.proofs.lemmas.List.{with_items_is}
 use Rattle.parametric_run.proofs.faces.take.Goals as goal
 
 pub step_along-requires-clause-point : goal.step_along-requires-clause-point
