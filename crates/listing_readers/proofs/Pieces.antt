@@ -23,7 +23,8 @@ left_by_both (piece ∷ pieces) second rest = by (left_by_piece piece rest) (lef
 
 -- the words of a form, and the text at its end
 module _ (words : List (Bor (List ℕ) × Kind)) (end old : List ℕ) where
-  whole : left_by (flat_map labelled words ++ (forms.Text end ∷ [])) old ≡ option_and_then (left_by (forms.Text end ∷ [])) (left_by (flat_map labelled words) old)
+  whole : left_by (flat_map labelled words ++ (forms.Text end ∷ [])) old
+      ≡ option_and_then (left_by (forms.Text end ∷ [])) (left_by (flat_map labelled words) old)
   whole = left_by_both (flat_map labelled words) (forms.Text end ∷ []) old
 
   pub form_taken : (mid : List ℕ) → left_by (flat_map labelled words) old ≡ Some mid → (b : Bool) (new : List ℕ) → left_after end mid ≡ taken b new →

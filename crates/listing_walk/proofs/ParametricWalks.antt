@@ -148,12 +148,14 @@ module _ (C : Checker) (verb : ParametricVerb) (card : ℕ) (cards : List (List 
 
   module _ (chosen : Chosen) (is_setup : machine.setup ≡ Some chosen) (problem : Problem ℕ)
       (on_file : filed_under chosen.name machine.file ≡ Some problem) where
-    pub parametric_refused : (found : Found) → IsUnchecked old found → (refusal : Unselected) → IsNotMade problem (choice_of machine.cells chosen.options) refusal →
+    pub parametric_refused : (found : Found) → IsUnchecked old found → (refusal : Unselected) →
+        IsNotMade problem (choice_of machine.cells chosen.options) refusal →
         (result : Result WalkStep NoMemory) → IfOk result (Refuses machine old new card refusal found) →
         IfOk result (Walks C (verb_of verb) card cards machine machine old new)
     parametric_refused found u =
         refusal_walks C (verb_of verb) card (tested_move verb card) (parametric_move verb card) cards machine old new chosen is_setup problem on_file found
-        (λ refused. refused_walks C (verb_of verb) card (tested_move verb card) (parametric_move verb card) cards machine old new chosen is_setup problem on_file
+        (λ refused.
+        refused_walks C (verb_of verb) card (tested_move verb card) (parametric_move verb card) cards machine old new chosen is_setup problem on_file
         (λ state present w lp. opens_tested verb card state present w lp) refused found u)
 
     module _ (lp : LinearProgram) (made : IsMade problem (choice_of machine.cells chosen.options) lp) where

@@ -63,7 +63,8 @@ module _ (C : Checker) (verb : SolvingVerb) (card : ℕ) (cards : List (List ℕ
 
   module _ (chosen : Chosen) (is_setup : machine.setup ≡ Some chosen) (problem : Problem ℕ)
       (on_file : filed_under chosen.name machine.file ≡ Some problem) where
-    pub solving_refused : (found : Found) → IsUnchecked old found → (refusal : Unselected) → IsNotMade problem (choice_of machine.cells chosen.options) refusal →
+    pub solving_refused : (found : Found) → IsUnchecked old found → (refusal : Unselected) →
+        IsNotMade problem (choice_of machine.cells chosen.options) refusal →
         (result : Result WalkStep NoMemory) → IfOk result (Refuses machine old new card refusal found) →
         IfOk result (Walks C (verb_of verb) card cards machine machine old new)
     solving_refused found u =
