@@ -13,7 +13,7 @@ ghost use Rattle.revise_definitions.specs.Revision.{may_come_after};
 use card_reader::Card;
 use deck_definitions::Style;
 use deck_fields::{
-    first_word, free_words, has_blank, is_blank, is_word, name_in, rank_of, word_text,
+    first_word, free_words, has_blank, is_blank, name_in, rank_of, word_text,
 };
 use name_table::Name;
 use named_problem::{DeckFaultKind, NamedProblem, Section};
@@ -55,16 +55,12 @@ pub fn is_action(card: Card<'_>, style: Style) -> bool
 fn action_named(word: &[u8]) -> Option<Action>
     ensures { result ≡ named action_words word.now }
 {
-    if is_word(b"MODIFY", word) {
-        Some(Action::Modify)
-    } else if is_word(b"DELETE", word) {
-        Some(Action::Delete)
-    } else if is_word(b"BEFORE", word) {
-        Some(Action::Before)
-    } else if is_word(b"AFTER", word) {
-        Some(Action::After)
-    } else {
-        None
+    match word {
+        b"MODIFY" => Some(Action::Modify),
+        b"DELETE" => Some(Action::Delete),
+        b"BEFORE" => Some(Action::Before),
+        b"AFTER" => Some(Action::After),
+        _ => None,
     }
 }
 
