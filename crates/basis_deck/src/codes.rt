@@ -6,23 +6,19 @@ ghost use Rattle.basis_deck_definitions.specs.Placings.{code_words};
 ghost use Rattle.basis_deck_definitions.specs.Reading.{has_limit_of};
 
 use basis_deck_definitions::Code;
-use deck_fields::{DataCard, is_blank, is_word};
+use deck_fields::{DataCard, is_blank};
 use lp_model::{Lp, Status};
 
 /// The code that a word names.
 pub fn code_named(word: &[u8]) -> Option<Code>
     ensures { result ≡ named code_words word.now }
 {
-    if is_word(b"XU", word) {
-        Some(Code::Exchanges(Status::Ul))
-    } else if is_word(b"XL", word) {
-        Some(Code::Exchanges(Status::Ll))
-    } else if is_word(b"UL", word) {
-        Some(Code::Stands(Status::Ul))
-    } else if is_word(b"LL", word) {
-        Some(Code::Stands(Status::Ll))
-    } else {
-        None
+    match word {
+        b"XU" => Some(Code::Exchanges(Status::Ul)),
+        b"XL" => Some(Code::Exchanges(Status::Ll)),
+        b"UL" => Some(Code::Stands(Status::Ul)),
+        b"LL" => Some(Code::Stands(Status::Ll)),
+        _ => None,
     }
 }
 

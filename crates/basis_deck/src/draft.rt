@@ -186,44 +186,27 @@ impl<'a> BasisDraft<'a> {
         self.marks[place] = true;
     }
 
-    // Takes a card with a code for an exchange.
-    fn take_exchange(
-        &mut self,
-        card: &DataCard<'_>,
-        to: Status,
-    ) -> Result<(), CardStop<DeckFaultKind>>
-        ensures no_fault { OnOk result (code_test (state_view self.old) (viewed card.now)
-            (Exchanges to) ≡ None) }
+    // Takes a card with this code: for an exchange, or for a limit.
+    fn take_code(&mut self, card: &DataCard<'_>, code: Code) -> Result<(), CardStop<DeckFaultKind>>
+        ensures no_fault { OnOk result (code_test (state_view self.old) (viewed card.now) code
+            ≡ None) }
         ensures step { OnOk result (state_view self.new ≡ with_code (state_view self.old)
-            (viewed card.now) (Exchanges to)) }
+            (viewed card.now) code) }
         ensures stop { IfErr result (ReportsDeckFault (code_test (state_view self.old)
-            (viewed card.now) (Exchanges to))) }
+            (viewed card.now) code)) }
     {
-        match self.exchange_on(card, to) {
-            Ok(exchange) => {
+        match code {
+            Code::Exchanges(to) => {
+                let exchange = self.exchange_on(card, to).map_err(CardStop::Fault)?;
                 self.place(exchange.column, Status::Bs);
                 self.place(exchange.row, to);
                 Ok(())
             }
-            Err(kind) => Err(CardStop::Fault(kind)),
-        }
-    }
-
-    // Takes a card with a code for a limit.
-    fn take_limit(&mut self, card: &DataCard<'_>, at: Status) -> Result<(), CardStop<DeckFaultKind>>
-        ensures no_fault { OnOk result (code_test (state_view self.old) (viewed card.now)
-            (Stands at) ≡ None) }
-        ensures step { OnOk result (state_view self.new ≡ with_code (state_view self.old)
-            (viewed card.now) (Stands at)) }
-        ensures stop { IfErr result (ReportsDeckFault (code_test (state_view self.old)
-            (viewed card.now) (Stands at))) }
-    {
-        match self.column_on(card, at) {
-            Ok(column) => {
+            Code::Stands(at) => {
+                let column = self.column_on(card, at).map_err(CardStop::Fault)?;
                 self.place(column, at);
                 Ok(())
             }
-            Err(kind) => Err(CardStop::Fault(kind)),
         }
     }
 
@@ -237,8 +220,7 @@ impl<'a> BasisDraft<'a> {
             (viewed card.now) (named code_words card.now.kind.now))) }
     {
         match code_named(card.kind) {
-            Some(Code::Exchanges(to)) => self.take_exchange(card, to),
-            Some(Code::Stands(at)) => self.take_limit(card, at),
+            Some(code) => self.take_code(card, code),
             None => Err(CardStop::Fault(DeckFaultKind::BadBasisCode)),
         }
     }
