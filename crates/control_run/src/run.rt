@@ -18,7 +18,7 @@ use run_machine::{AfterStatement, End, Halt, MAX_EXECUTED, Machine};
 use setup_verbs::Setup;
 use std::alloc::Global;
 
-/// What keeps the rates of a run of the program.
+/// The engine of the program mps360: the product form of the inverse.
 pub type RunEngine = ProductForm;
 
 // Executes the statements of a program, from the first one until the run ends.

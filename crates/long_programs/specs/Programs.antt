@@ -1,6 +1,7 @@
 -- A linear program of a family at a value of the parameter.
 --     program_of p change theta    the linear program
 --     IsChangeIn p change          the row is a row, or each row has a shift
+--     IsChangeIn-prop              it is so in one way at most
 --     IsPlain p change             no other row is added to the objective than the one that changes
 --     own_theta p                  theta of the change row that a program has, or 0
 --     shift_at p change k          what is added to the limits of variable k for each unit of theta

@@ -12,9 +12,7 @@ ghost use Rattle.revise_definitions.specs.Revision.{may_come_after};
 
 use card_reader::Card;
 use deck_definitions::Style;
-use deck_fields::{
-    first_word, free_words, has_blank, is_blank, name_in, rank_of, word_text,
-};
+use deck_fields::{first_word, free_words, has_blank, is_blank, name_in, rank_of, word_text};
 use name_table::Name;
 use named_problem::{DeckFaultKind, NamedProblem, Section};
 use revise_definitions::Action;

@@ -32,6 +32,7 @@ refused_end card (Fault fault) = Ok (ends.Verb fault card)
 refused_end card (Overflow e) = Ok (ends.Overflow e None card)
 refused_end card NoMemory = Err halt.NoMemory
 
+-- and so does the statement's act
 abbrev pub refused_act : ℕ → Refusal → Result Act Halt
 refused_act card refusal = result_map_both act.Ends (λ h. h) (refused_end card refusal)
 

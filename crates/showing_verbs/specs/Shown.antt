@@ -73,6 +73,7 @@ module _ (sheet : Sheet) (s : Basis) (before : List Basics) where
 
 -- ---- what is shown
 
+-- what is shown is found: the lines of a basis with a mark, or its intervals
 abbrev pub ViewFound : View → Sheet → Basis → List Basics → Gain → Finding → Type 0
 ViewFound (Lines mark) sheet s before = LinesFound sheet s before mark
 ViewFound Intervals sheet s before = RangesFound sheet s before

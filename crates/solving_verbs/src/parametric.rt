@@ -159,7 +159,7 @@ fn follow<P: Sink, R: Rates>(
     match run_from(alloc, sheet, basis, rates, parametric_run) {
         Ok(answer) => print_run(sheet, parametric_run, &answer, print),
         Err(PrimalStop::Limit) => Ok(Finding::Limit),
-        // one of a limit at the first value has no place
+        // An overflow in a row's limit at the first value has no place.
         Err(PrimalStop::Overflow(evidence)) if evidence.formula == LIMIT_FORMULA => {
             Ok(Finding::Overflow {
                 evidence,
