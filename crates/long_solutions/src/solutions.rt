@@ -53,11 +53,11 @@ fn best_holds(
                 spread: point,
             };
             let within = limits_hold(alloc, &at)?;
-            let priced = PricedAt {
+            let at_prices = PricedAt {
                 point: at,
                 prices: &prices.column,
             };
-            let stand = prices_stand(alloc, &priced)?;
+            let stand = prices_stand(alloc, &at_prices)?;
             let feasible = both(keeps, within);
             let are_prices = both(priced, stand);
             Ok(both(feasible, are_prices))
