@@ -27,3 +27,6 @@ returns-in-Sets-clause-walks g c =
     (viewed c.args.statement.now.verb) c.args.statement.now.card c.args.cards.now c.args.machine.now c.execute.new.machine c.args.place.now
     c.execute.new.place c.args.last.now (sym c.use_of.ensures ∙ c.in-Sets.is)
     c.execute.result c.execute.ensures.walks
+
+pub execute-requires-in-Some-clause-no_run : goal.execute-requires-in-Some-clause-no_run
+execute-requires-in-Some-clause-no_run g c = subst IsNoRun (sym (sym c.use_of.ensures ∙ c.in-Neither.is)) tt
