@@ -1,13 +1,11 @@
 // The statements of a program.
-ghost use Rattle.std.specs.Prelude.{◌≡◌, ◌+◌, ◌≤◌, ◌<◌, Some, IfOk, length};
+ghost use Rattle.std.specs.Prelude.{◌+◌, ◌≤◌, ◌<◌, [], IfOk, length};
 ghost use Rattle.control_verbs.specs.Views.{viewed};
 ghost use Rattle.control_compiler.specs.Valid.{IsProgram};
 ghost use Rattle.run_machine.specs.Statements.{IsSoundVerb};
-ghost use Rattle.exact_values.specs.Rational.{ℚ};
-ghost use Rattle.listing_walk.specs.declared.parameter.ParameterUse.TheVariants.{Neither};
 ghost use Rattle.listing_walk.specs.Parameter.{use_of, IsNoRun};
 ghost use Rattle.listing_walk.specs.Standing.{IsSound, holding};
-ghost use Rattle.listing_walk.specs.Walking.{Walks, Steps};
+ghost use Rattle.listing_walk.specs.Walking.{Passes, Walks, Steps};
 ghost use Rattle.walk_definitions.specs.Words.{max_count};
 
 use crate::chosen::Chosen;
@@ -27,8 +25,22 @@ use control_compiler::{RunInput, Statement, Verb};
 use job_devices::NoMemory;
 use listing_claims::Checks;
 use listing_words::Number;
-use run_machine::{DeckVerb, Machine, SolvingVerb};
+use run_machine::{Act, DeckVerb, Machine, SolvingVerb};
 use std::alloc::Global;
+
+// Goes on as the act of a statement says that prints nothing.
+fn quietly<'a>(
+    alloc: Global,
+    act: Act,
+    machine: &Machine<Chosen>,
+    place: &mut ListingPlace<'a>,
+) -> Result<WalkStep<'a>, NoMemory>
+    requires { place.old.reports < max_count }
+    ensures passes { IfOk result (Passes machine.now place.old place.new act []) }
+    ensures few { place.new.reports ≤ place.old.reports + 1 }
+{
+    follow(alloc, machine, place, &act, &[])
+}
 
 // Follows a statement that begins no parametric run.
 fn execute<'a, T: Checks>(
@@ -50,39 +62,25 @@ fn execute<'a, T: Checks>(
 {
     let card = statement.card;
     match &statement.verb {
-        Verb::Initialz => {
-            let act = machine.initialize();
-            follow(alloc, machine, place, &act, &[])
-        }
+        Verb::Initialz => quietly(alloc, machine.initialize(), machine, place),
         Verb::Title(text) => title(alloc, machine, place, text),
         Verb::MoveName(cell, name) => {
-            let act = machine.move_name(*cell, *name);
-            follow(alloc, machine, place, &act, &[])
+            quietly(alloc, machine.move_name(*cell, *name), machine, place)
         }
         Verb::MoveNumber(cell, value) => {
-            let act = machine.move_number(*cell, *value);
-            follow(alloc, machine, place, &act, &[])
+            quietly(alloc, machine.move_number(*cell, *value), machine, place)
         }
-        Verb::MoveLimit(limit) => {
-            let act = machine.move_limit(*limit);
-            follow(alloc, machine, place, &act, &[])
-        }
+        Verb::MoveLimit(limit) => quietly(alloc, machine.move_limit(*limit), machine, place),
         Verb::Mvadr(demand, position) => {
             let act = machine.set_demand(*demand, *position);
-            follow(alloc, machine, place, &act, &[])
+            quietly(alloc, act, machine, place)
         }
-        Verb::Goto(position) => {
-            let act = machine.jump(*position);
-            follow(alloc, machine, place, &act, &[])
-        }
+        Verb::Goto(position) => quietly(alloc, machine.jump(*position), machine, place),
         Verb::Convert => make_problem(alloc, machine, DeckVerb::Convert, cards, place, card),
         Verb::Setup(options) => set_up(alloc, machine, place, card, options),
         Verb::Revise => make_problem(alloc, machine, DeckVerb::Revise, cards, place, card),
         Verb::Bcdout => punch_problem(alloc, machine, place, card),
-        Verb::Exit => {
-            let act = machine.exit();
-            follow(alloc, machine, place, &act, &[])
-        }
+        Verb::Exit => quietly(alloc, machine.exit(), machine, place),
         Verb::Primal => solve::<T>(alloc, machine, place, card, SolvingVerb::Primal),
         Verb::Dual => solve::<T>(alloc, machine, place, card, SolvingVerb::Dual),
         Verb::Solution => show_solution::<T>(alloc, machine, place, card),
@@ -90,32 +88,6 @@ fn execute<'a, T: Checks>(
         Verb::Punch => punch_basis(alloc, machine, place, card),
         Verb::Insert => insert(alloc, machine, cards, place, card),
         Verb::Paraobj | Verb::Pararhs => unreachable!(),
-    }
-}
-
-// Follows a statement that leaves XPARAM alone, where a run left a value there that no cell holds.
-fn execute_apart<'a, T: Checks>(
-    alloc: Global,
-    machine: &mut Machine<Chosen>,
-    cards: &Cards,
-    place: &mut ListingPlace<'a>,
-    statement: &Statement<u32>,
-) -> Result<WalkStep<'a>, NoMemory>
-    requires sound { IsSound cards.now machine.old }
-    requires verb { IsSoundVerb (viewed statement.now.verb) }
-    requires apart { use_of (viewed statement.now.verb) ≡ Neither }
-    requires few { place.old.reports < max_count }
-    ensures walks { (last : ℚ) →
-        IfOk result
-        (Walks T.checker (viewed statement.now.verb) statement.now.card
-        cards.now (holding (Some last) machine.old)
-        (holding (Some last) machine.new) place.old place.new) }
-    ensures sound { IsSound cards.now machine.new }
-    ensures few { place.new.reports ≤ place.old.reports + 1 }
-{
-    match execute::<T>(alloc, machine, cards, place, statement) {
-        Ok(next_step) => Ok(as_next(next_step)),
-        Err(refused) => Err(refused),
     }
 }
 
@@ -148,7 +120,7 @@ fn execute_with<'a, T: Checks>(
         }
         ParameterUse::Neither => match last {
             None => execute::<T>(alloc, machine, cards, place, statement),
-            Some(_) => execute_apart::<T>(alloc, machine, cards, place, statement),
+            Some(_) => Ok(as_next(execute::<T>(alloc, machine, cards, place, statement)?)),
         },
     }
 }

@@ -18,11 +18,11 @@ returns-then-not-is_optimal-clause-answered g c =
     (sheet_view c.args.sheet) c.args.place.now c.in_ok-rest.ensures.1 c.answer_to_solution.new.cursor c.in-Ok.objective _ refl refl refl c.args.mark
     (sym c.is_optimal.ensures ∙ c.if-not-is_optimal.true) c.in-Ok.ensures
 
-pub returns-in_default-settled-clause-answered : goal.returns-in_default-settled-clause-answered
-returns-in_default-settled-clause-answered g c =
+pub returns-in_default-clause-answered : goal.returns-in_default-clause-answered
+returns-in_default-clause-answered g c =
     optimal_by g.T.Checks.checker (sheet_view c.args.sheet) c.args.place.now c.in_ok-rest.ensures.1 c.answer_to_solution.new.cursor
     c.in-Ok.objective c.args.mark
-    (sym c.is_optimal.ensures ∙ c.if-not-is_optimal.false) c.in_default-settled.ensures _ refl refl refl c.in-Ok.ensures
+    (sym c.is_optimal.ensures ∙ c.if-not-is_optimal.false) c.in_default.ensures _ refl refl refl c.in-Ok.ensures
 
 pub returns-in-Err-clause-answered : goal.returns-in-Err-clause-answered
 returns-in-Err-clause-answered g c =
