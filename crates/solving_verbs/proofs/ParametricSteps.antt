@@ -1,6 +1,7 @@
 -- What PARAOBJ and PARARHS find.
 use Rattle.std.proofs.Common.{◌≡◌, ◌≢◌, ℕ, ◌≤◌, ◌⊎◌, inl, inr, List, [], ◌∷◌, ◌++◌, Option, None, Some, Result, Ok, Err, length, map, refl, sym, ap, subst, ◌∙◌}
 use Rattle.std.specs.Prelude.{MatchResult}
+use native.Mathlib.Decide.{ℕ_discrete}
 use Rattle.std.specs.List.{enumerate_from}
 use Rattle.std.proofs.lemmas.List.{length-map}
 use Rattle.std.proofs.lemmas.List.FromFn.{length-enumerate_from}
@@ -46,7 +47,6 @@ use Rattle.run_machine.specs.declared.end.Place.{Place as OwnPlace}
 use Rattle.run_machine.specs.declared.finding.Finding.{Finding}
 use Rattle.run_machine.specs.declared.finding.Finding.TheVariants.{Ended, Overflow, RanThrough}
 use Rattle.lp_model.specs.RatesState.{RatesState}
-use Rattle.setup_verbs.specs.Overflows.{IsOverflowAt}
 use Rattle.setup_verbs.specs.Kept.{Setup}
 use Rattle.solving_verbs.proofs.SelectedAgain.{name_kept, options_kept, basis_kept, engine_kept, now_is}
 use Rattle.run_machine.specs.declared.selecting.Refusal.{Refusal}
@@ -63,7 +63,7 @@ use Rattle.parametric_request.specs.declared.request.ParametricRequest.{Parametr
 use Rattle.parametric_request.specs.declared.request.RequestStop.{RequestStop}
 use Rattle.parametric_request.specs.declared.request.RequestStop.TheVariants as stops
 use Rattle.parametric_request.specs.Asking.{IsNotAsked, IsAsked, IsChangeOf, IsOf, ServesChange, Serves, parametric_run_of}
-use Rattle.solving_verbs.specs.ParametricVerbs.{refusal_of, parametric_run_view, value_left, ParametricRunFinds, opened, chained, overflows}
+use Rattle.solving_verbs.specs.ParametricVerbs.{refusal_of, parametric_run_view, value_left, IsRunOverflow, ParametricRunFinds, opened, chained, overflows}
 use Rattle.solving_verbs.specs.ParametricVerbs.{ParametricRuns, unselected, too_large, not_asked, run_through}
 use Rattle.setup_verbs.proofs.Reporting.{tells_more, tells_quietly, overflow_tells}
 use Rattle.solving_verbs.proofs.LimitFormula.{placed_apart, unplaced_limit}
@@ -184,13 +184,15 @@ module _ (sheet : OwnSheet) (parametric_run : ParametricRun) (s now : Basis) (be
           (there.overflows earlier lie)) fit
       by (inr limit) = absurd (other (unplaced_limit (sheet_view sheet) (s ∷ []) parametric_run e (limit.overflows [])))
 
-  -- formula 13 is that of a limit at the first value, which has no place
-  pub limit_tells : (print : SinkState) → e.formula ≡ 13 → EvidenceFits e → ReportsFinding Stops print print (Ok (Overflow e None))
-  limit_tells print is fit = tells_quietly Stops print (Ok (Overflow e None)) (at_limit_formula is fit)
-
-  pub place_tells : (print : SinkState) (result : Result Finding Halt) → e.formula ≢ 13 → IsOverflowAt now after e result →
+  pub run_overflow_tells : (print : SinkState) (result : Result Finding Halt) → IsRunOverflow now after e result → EvidenceFits e →
       ReportsFinding Stops print print result
-  place_tells print result other reported = overflow_tells Stops print now after e result reported (at_place other)
+  run_overflow_tells print result reported fit = by (ℕ_discrete e.formula 13)
+    where
+      by : Dec (e.formula ≡ 13) → ReportsFinding Stops print print result
+      by (yes is) =
+          subst (λ (r : Result Finding Halt). ReportsFinding Stops print print r) (sym (reported.0 is))
+          (tells_quietly Stops print (Ok (Overflow e None)) (at_limit_formula is fit))
+      by (no other) = overflow_tells Stops print now after e result (reported.1 other) (at_place other)
 
 -- ---- what is asked for can be run
 

@@ -3,11 +3,12 @@
 --     parametric_run_view parametric_run    the run as code holds it, in the words of runs
 --     Serves problem p parametric_run    the run can be made in the linear program p
 --     BeginsRun sheet state basis parametric_run    where a run begins
+--     IsRunOverflow result         what a refused operation of a run comes to
 --     ParametricRunFinds gain finding    the run from a basis ends so, or is stopped so
 --     ReportsAnswer result         what is printed of an answer is what the run finds
 --     ParametricRuns gain finding  the verb finds this with a setup, and has this to print
 --     cells_left finding cells     the cells after it
-use Rattle.std.specs.Prelude.{◌≡◌, ◌⊎◌, ℕ, List, [], ◌∷◌, ◌++◌, Option, None, Result, Ok, option_map}
+use Rattle.std.specs.Prelude.{◌≡◌, ◌≢◌, ◌⊎◌, ℕ, List, [], ◌∷◌, ◌++◌, Option, None, Result, Ok, option_map}
 use Rattle.exact_values.specs.Rational.{ℚ, ◌≤ℚ◌}
 use Rattle.lp_definitions.specs.LinearProgram.{LinearProgram}
 use Rattle.lp_definitions.specs.Basis.{Basics}
@@ -56,6 +57,7 @@ use Rattle.solving_verbs.specs.declared.requested_run.ParametricRun.TheVariants 
 use Rattle.run_machine.specs.Choosing.{HasSelectionFault, HasSelectionOverflow}
 use Rattle.run_machine.specs.Ends.{place_view}
 use Rattle.run_machine.specs.Findings.{ReportsFinding}
+use Rattle.setup_verbs.specs.Overflows.{IsOverflowAt}
 use Rattle.solving_verbs.specs.Reaching.{ReachesBy}
 
 -- ---- what a verb asks for
@@ -94,6 +96,11 @@ abbrev pub value_left : ℚ → ParaEnd → ℚ
 value_left to AtMax = to
 value_left to (Unbounded past point direction) = past
 value_left to (Infeasible past ray) = past
+
+-- an operation of a run is refused: formula 13 is that of a limit at the first value, which has no place
+abbrev pub IsRunOverflow : Basis → List Basics → Evidence → Result Finding Halt → Type 0
+IsRunOverflow s after e result =
+    (e.formula ≡ 13 → result ≡ Ok (Overflow e None)) × (e.formula ≢ 13 → IsOverflowAt s after e result)
 
 -- ---- what is found
 

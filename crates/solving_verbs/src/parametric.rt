@@ -1,5 +1,5 @@
 // PARAOBJ and PARARHS.
-ghost use Rattle.std.specs.Prelude.{◌≡◌, ℕ, Option, IfSome, IfOk, IfErr};
+ghost use Rattle.std.specs.Prelude.{◌≡◌, ◌≢◌, ◌≤◌, ℕ, Option, IfSome, IfOk, IfErr};
 ghost use Rattle.problem_definitions.specs.Problem.{Problem};
 ghost use Rattle.problem_file.specs.Filed.{filed_under};
 ghost use Rattle.frac128.specs.declared.Refused.{Refused as RefusedOperation};
@@ -8,6 +8,7 @@ ghost use Rattle.basis_values.specs.Calls.{IsAtBasis};
 ghost use Rattle.report_text.specs.Verdicts.{IsOutcome};
 ghost use Rattle.report_text.specs.Parametric.{IsParametric};
 ghost use Rattle.fitting_answers.specs.Real.{linear_programming_of_128_bits};
+ghost use Rattle.fitting_answers.specs.Fitting.{EvidenceFits};
 ghost use Rattle.verb_answers.specs.Reports.{sheet_view};
 ghost use Rattle.verb_answers.specs.RunReports.{IsAnswered, IsPrintable};
 ghost use Rattle.run_machine.specs.Standing.{AreDemands};
@@ -16,7 +17,7 @@ ghost use Rattle.setup_verbs.specs.Statements.{ExecutesOnAny};
 ghost use Rattle.run_machine.specs.Findings.{ReportsFinding};
 ghost use Rattle.parametric_request.specs.Asking.{verb_of};
 ghost use Rattle.solving_verbs.specs.ParametricVerbs.{refusal_of, parametric_run_view, BeginsRun, StopsParametricRun, ParametricRunFinds, ReportsAnswer};
-ghost use Rattle.solving_verbs.specs.ParametricVerbs.{ParametricRuns, value_left, cells_left};
+ghost use Rattle.solving_verbs.specs.ParametricVerbs.{ParametricRuns, IsRunOverflow, value_left, cells_left};
 
 use crate::requested_run::{ParametricRun, run_of};
 use crate::solving::mark_of;
@@ -25,7 +26,8 @@ use frac128::{Frac, Refused};
 use job_devices::Sink;
 use listing_definitions::VerbFault;
 use listing_tables::Sheet;
-use lp_model::{Basis, Engine, Outcome, ParaEnd, ParaReport, ParaRun, Rates};
+use lp_definitions::Evidence;
+use lp_model::{Basis, Engine, Lp, Outcome, ParaEnd, ParaReport, ParaRun, Rates};
 use parametric_request::{ParametricVerb, RequestStop, request_of};
 use problem_file::ProblemFile;
 use report_sizes::{recall_chain, recall_verdict};
@@ -141,6 +143,28 @@ fn print_run<P: Sink>(
     }
 }
 
+// An operation of a run is refused: at a basis, or in a limit of a row at the first value, which has no place.
+fn overflow_in<R: Rates>(
+    alloc: Global,
+    lp: &Lp,
+    basis: &Basis,
+    rates: &R,
+    evidence: Evidence,
+) -> Result<Finding, Halt>
+    requires rates { IsAtBasis (R.state rates.now) lp.now basis.now }
+    requires way { evidence.formula ≢ 13 → evidence.way ≤ length (R.state rates.now).waypoints }
+    ensures tells { IsRunOverflow basis.now (R.state rates.now).waypoints evidence result }
+    ensures fits { EvidenceFits evidence }
+{
+    if evidence.formula == LIMIT_FORMULA {
+        return Ok(Finding::Overflow {
+            evidence,
+            place: None,
+        });
+    }
+    overflow_at(alloc, lp, basis, rates, evidence)
+}
+
 // Makes the run from a basis, and prints what it has come to.
 fn follow<P: Sink, R: Rates>(
     alloc: Global,
@@ -159,15 +183,8 @@ fn follow<P: Sink, R: Rates>(
     match run_from(alloc, sheet, basis, rates, parametric_run) {
         Ok(answer) => print_run(sheet, parametric_run, &answer, print),
         Err(PrimalStop::Limit) => Ok(Finding::Limit),
-        // An overflow in a row's limit at the first value has no place.
-        Err(PrimalStop::Overflow(evidence)) if evidence.formula == LIMIT_FORMULA => {
-            Ok(Finding::Overflow {
-                evidence,
-                place: None,
-            })
-        }
         Err(PrimalStop::Overflow(evidence)) => {
-            overflow_at(alloc, sheet.lp, basis, rates, evidence)
+            overflow_in(alloc, sheet.lp, basis, rates, evidence)
         }
         Err(PrimalStop::NoMemory) => Err(Halt::NoMemory),
     }

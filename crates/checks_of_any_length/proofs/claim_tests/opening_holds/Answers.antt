@@ -4,8 +4,8 @@ use Rattle.long_programs.specs.Programs.{program_of}
 use Rattle.checks_of_any_length.proofs.Claiming.{opening_shown}
 use Rattle.checks_of_any_length.proofs.claim_tests.opening_holds.Goals as goal
 
-pub invariant_of-at-clause-change : goal.invariant_of-at-clause-change
-invariant_of-at-clause-change c =
+pub invariant_of-at : goal.invariant_of-at
+invariant_of-at c =
     let run = c.args.run.now in
     c.change_at.ensures.change run.sheet.problem.now run.sheet.lp.now run.request.now.name c.requires.asked.serves
 
