@@ -7,7 +7,7 @@ use Rattle.checks_of_any_length.proofs.claim_tests.opening_holds.Goals as goal
 pub invariant_of-at : goal.invariant_of-at
 invariant_of-at c =
     let run = c.args.run.now in
-    c.change_at.ensures.change run.sheet.problem.now run.sheet.lp.now run.request.now.name c.requires.asked.serves
+    record { change = c.change_at.ensures.change run.sheet.problem.now run.sheet.lp.now run.request.now.name c.requires.asked.serves }
 
 pub claim_holds-requires-clause-number : goal.claim_holds-requires-clause-number
 claim_holds-requires-clause-number c = record { number = c.args.run.now.request.now.from; is = c.in_ok-theta.ensures }
